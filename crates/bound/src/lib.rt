@@ -1,0 +1,33 @@
+// A bound: a load over a speed, compared exactly by cross products.
+ghost use Prim.Native.Nat.{_<_, _*_, _+_, _^_};
+ghost use mathlib.Core.Path.{_≡_};
+ghost use Rattle.bound.specs.Order.{le, middle};
+
+pub struct Bound {
+    pub load: u64,
+    pub speed: u64,
+}
+
+impl Bound {
+    // Nought, 0/1.
+    pub const ZERO: Bound = Bound { load: 0, speed: 1 };
+
+    // Whether a is at most b. Inner: the two products fit 64 bits.
+    pub fn at_most(a: Bound, b: Bound) -> bool
+        requires { ⌜ (a .load * b .speed < 2 ^ 64) × (b .load * a .speed < 2 ^ 64) ⌝ }
+        ensures { λ r. ⌜ r ≡ le a b ⌝ }
+    {
+        a.load * b.speed <= b.load * a.speed
+    }
+
+    // Half the sum of a and b. Inner: its load and its speed fit 64 bits.
+    pub fn midpoint(a: Bound, b: Bound) -> Bound
+        requires { ⌜ (a .load * b .speed + b .load * a .speed < 2 ^ 64) × (2 * (a .speed * b .speed) < 2 ^ 64) ⌝ }
+        ensures { λ r. ⌜ r ≡ middle a b ⌝ }
+    {
+        Bound {
+            load: a.load * b.speed + b.load * a.speed,
+            speed: 2 * (a.speed * b.speed),
+        }
+    }
+}

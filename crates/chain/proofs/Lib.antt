@@ -1,0 +1,4 @@
+pub mod Parts
+pub mod Indices
+pub mod Cover
+pub mod Marked

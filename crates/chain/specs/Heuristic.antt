@@ -1,0 +1,17 @@
+-- The heuristic of Miguet and Pierson. Document 01, "Quick plan".
+use Prim.Native.Nat.{ℕ, zero, suc, _*_}
+use mathlib.Core.List.{List, [], _∷_, _++_}
+use Rattle.chain.specs.Lists.{tabulate, sumTo, smallestLeast, distance}
+use Rattle.chain.specs.Job.{Job, tasks, last, speedOf, partWeight, totalWeight, totalSpeed}
+
+-- How far W(1,i) is from Wtot × (e1 + … + ep) / Etot, times Etot. "The comparison is exact."
+unfoldable pub miss : Job → ℕ → ℕ → ℕ
+miss job p i = distance (partWeight job 0 i * totalSpeed job) (totalWeight job * sumTo (speedOf job) p)
+
+-- "For p < P, sp is the smallest index whose W(1,sp) is nearest to Wtot × (e1 + … + ep) / Etot"
+unfoldable pub nearest : Job → ℕ → ℕ
+nearest job p = smallestLeast (miss job p) (tasks job)
+
+-- The quick plan's separators, s0 = 0 and sP = N among them.
+unfoldable pub heuristic : Job → List ℕ
+heuristic job = 0 ∷ (tabulate (λ p. nearest job (suc p)) (last job) ++ (tasks job ∷ []))

@@ -1,0 +1,116 @@
+-- The job, its parts and its partitions. Document 01, "The job". Processors are counted from 0 here: processor p is the
+-- document's machine p + 1, and a part from a to b is the document's tiles a + 1 to b.
+use Prim.Native.Nat.{ℕ, zero, suc, _+_, _-_, _*_, _/_, _≤_, _<_}
+use mathlib.Core.Path.{_≡_}
+use mathlib.Core.Bool.{Bool}
+use mathlib.Core.List.{List, [], _∷_}
+use lib.ListN.{length, getD, take, drop}
+use lib.Dec.{T}
+use Rattle.bound.specs.declared.Bound.{Bound}
+use Rattle.bound.specs.Order.{over, le, greater, _≼_}
+use Rattle.chain.specs.Limits.{maxTasks, maxWeight, maxProcessors, maxSpeed}
+use Rattle.chain.specs.Lists.{sum, greatestOf, leastOf, sumTo}
+
+-- A job: the weights of the tasks ("tiles") and the speeds of the processors ("machines"), in order.
+pub record Job : Type 0 where
+  pub weights : List ℕ
+  pub speeds : List ℕ
+
+-- "Where a job comes as lists"
+abbrev pub jobOf : List ℕ → List ℕ → Job
+jobOf ws es = record { weights = ws; speeds = es }
+
+-- "P is the length of the list of speeds and N that of the list of weights."
+abbrev pub tasks : Job → ℕ
+tasks job = length (job .weights)
+
+abbrev pub processors : Job → ℕ
+processors job = length (job .speeds)
+
+-- The number of the last processor.
+abbrev pub last : Job → ℕ
+last job = processors job - 1
+
+-- The speed of processor p. (Past the last it reads as 1.)
+unfoldable pub speedOf : Job → ℕ → ℕ
+speedOf job p = getD (job .speeds) p 1
+
+-- Every count, weight and speed is within its limit.
+pub record Valid (job : Job) : Type 0 where
+  pub some-processor : 1 ≤ processors job
+  pub processors-limit : processors job ≤ maxProcessors
+  pub tasks-limit : tasks job ≤ maxTasks
+  pub weights-limit : (i : ℕ) → getD (job .weights) i 0 ≤ maxWeight
+  pub speeds-positive : (p : ℕ) → 1 ≤ speedOf job p
+  pub speeds-limit : (p : ℕ) → speedOf job p ≤ maxSpeed
+
+-- "W(a,b) is the total weight of tiles a to b, 0 if a > b." Here the tasks of the part from a to b: W(a + 1, b).
+unfoldable pub partWeight : Job → ℕ → ℕ → ℕ
+partWeight job a b = sum (take (b - a) (drop a (job .weights)))
+
+-- The load of a part: its weight.
+unfoldable pub partLoad : Job → ℕ → ℕ → ℕ
+partLoad job a b = partWeight job a b
+
+-- "Wtot is all weight, Etot all speed."
+abbrev pub totalWeight : Job → ℕ
+totalWeight job = sum (job .weights)
+
+abbrev pub totalSpeed : Job → ℕ
+totalSpeed job = sum (job .speeds)
+
+-- "The heaviest of no tiles is 0."
+abbrev pub heaviest : Job → ℕ
+heaviest job = greatestOf (job .weights)
+
+abbrev pub fastest : Job → ℕ
+fastest job = greatestOf (job .speeds)
+
+-- The slowest speed. (Of no processors it reads as 1.)
+unfoldable pub slowestOf : List ℕ → ℕ
+slowestOf [] = 1
+slowestOf (e ∷ es) = leastOf e es
+
+abbrev pub slowest : Job → ℕ
+slowest job = slowestOf (job .speeds)
+
+-- "A share's bound is W of the share over the machine's speed." The part from a to b on processor p.
+unfoldable pub partBound : Job → ℕ → ℕ → ℕ → Bound
+partBound job p a b = over (partLoad job a b) (speedOf job p)
+
+-- The part from a to b on processor p is within the bound B.
+unfoldable pub within : Job → ℕ → ℕ → ℕ → Bound → Bool
+within job p a b B = le (partBound job p a b) B
+
+-- The separator at index p of a list.
+abbrev pub at : List ℕ → ℕ → ℕ
+at s p = getD s p 0
+
+-- "A division is a list of P + 1 separators s0 = 0 ≤ s1 ≤ … ≤ sP = N"
+pub record Partition (job : Job) (s : List ℕ) : Type 0 where
+  pub count : length s ≡ suc (processors job)
+  pub first : at s 0 ≡ 0
+  pub grows : (p : ℕ) → p < processors job → at s p ≤ at s (suc p)
+  pub end : at s (processors job) ≡ tasks job
+
+-- "machine p takes tiles s(p−1)+1 to sp, perhaps none": the bound of processor p's part ("share").
+unfoldable pub boundAt : Job → List ℕ → ℕ → Bound
+boundAt job s p = partBound job p (at s p) (at s (suc p))
+
+-- "The bottleneck is the greatest share's bound, given as the pair (not reduced) of the lowest-numbered machine that has it."
+-- Of the processors 0 to p:
+unfoldable pub bottleneckTo : Job → List ℕ → ℕ → Bound
+bottleneckTo job s zero = boundAt job s 0
+bottleneckTo job s (suc p) = greater (bottleneckTo job s p) (boundAt job s (suc p))
+
+-- "Measuring a division gives its bottleneck."
+unfoldable pub bottleneck : Job → List ℕ → Bound
+bottleneck job s = bottleneckTo job s (last job)
+
+-- "The ideal is Wtot/Etot."
+unfoldable pub ideal : Job → Bound
+ideal job = over (totalWeight job) (totalSpeed job)
+
+-- Every part of the partition is within the bound.
+pub record Within (job : Job) (s : List ℕ) (B : Bound) : Type 0 where
+  pub each : (p : ℕ) → p < processors job → boundAt job s p ≼ B

@@ -1,0 +1,10 @@
+pub mod Limits
+pub mod Lists
+pub mod Job
+pub mod Probe
+pub mod Heuristic
+pub mod Dynamic
+pub mod Search
+pub mod Plan
+pub mod Refusal
+pub mod Marked

@@ -1,0 +1,119 @@
+-- The marked jobs of document 01, "Jobs to hold it against", as one table, and what it means that a row holds.
+use Prim.Native.Nat.{ℕ, zero, suc, _+_, _-_}
+use mathlib.Core.Bool.{Bool, true, false, not, _&&_, _||_}
+use mathlib.Core.List.{List, [], _∷_}
+use lib.ListN.{length}
+use lib.Dec.{eqb}
+use Rattle.bound.specs.declared.Bound.{Bound}
+use Rattle.bound.specs.Order.{over}
+use Rattle.chain.specs.Lists.{isFirst}
+use Rattle.chain.specs.Job.{Job, jobOf, processors, last, tasks, bottleneck, ideal}
+use Rattle.chain.specs.Probe.{walk, fits, Outcome, fitting, failing, probe}
+use Rattle.chain.specs.Heuristic.{heuristic}
+use Rattle.chain.specs.Dynamic.{tableValue, moves}
+use Rattle.chain.specs.Search.{bidding, ends, meet}
+use Rattle.chain.specs.Plan.{planOf, table, biddings, bisection, allowance, imbalance}
+use Rattle.chain.specs.Refusal.{refusal}
+
+-- The same list; the same pair, load and speed.
+unfoldable pub sameList : List ℕ → List ℕ → Bool
+sameList [] [] = true
+sameList [] (y ∷ ys) = false
+sameList (x ∷ xs) [] = false
+sameList (x ∷ xs) (y ∷ ys) = eqb x y && sameList xs ys
+
+unfoldable pub samePair : Bound → Bound → Bool
+samePair B C = eqb (B .load) (C .load) && eqb (B .speed) (C .speed)
+
+-- The three methods' figures: a count and an allowance each, by table, bidding and bisection.
+pub record Three : Type 0 where
+  pub byTable : ℕ
+  pub byBidding : ℕ
+  pub byBisection : ℕ
+
+abbrev pub three : ℕ → ℕ → ℕ → Three
+three a b c = record { byTable = a; byBidding = b; byBisection = c }
+
+-- The counts are those at which the methods end, and each method's walk gives these separators.
+unfoldable pub endsAt : Job → List ℕ → Three → Bool
+endsAt job s n =
+    eqb (moves job) (n .byTable) && sameList (walk job (tableValue job (last job) (tasks job))) s
+    && isFirst (λ k. fits job (bidding job k)) (n .byBidding - 1) && sameList (walk job (bidding job (n .byBidding - 1))) s
+    && ((fits job (ideal job) && eqb (n .byBisection) 1 && sameList (walk job (ideal job)) s)
+    || (not (fits job (ideal job)) && isFirst (λ k. meet (ends job k)) (n .byBisection - 1)
+    && sameList (walk job ((ends job (n .byBisection - 1)) .low)) s))
+
+-- A row of the table.
+pub data Row : Type 0 where
+  -- a job's plan: separators, bottleneck, imbalance, counts, allowances
+  planned : Job → List ℕ → Bound → ℕ → Three → Three → Row
+  -- a trial that fits, with its separators; one that fails, with its next bid
+  fitsWith : Job → Bound → List ℕ → Row
+  failsWith : Job → Bound → Bound → Row
+  -- the quick plan: separators and bottleneck
+  quick : Job → List ℕ → Bound → Row
+  -- a division's bottleneck; a list that is refused with a number
+  measures : Job → List ℕ → Bound → Row
+  refused : Job → List ℕ → ℕ → Row
+
+-- Measuring a list: what the call takes beside the job.
+unfoldable pub measureRefusal : Job → List ℕ → ℕ
+measureRefusal job s =
+    refusal job
+    (record { methods = []; lists = record { needed = suc (processors job); given = length s } ∷ []; bounds = []; divisions = s ∷ [] })
+
+unfoldable pub isFailing : Outcome → Bound → Bool
+isFailing fitting C = false
+isFailing (failing B) C = samePair B C
+
+unfoldable pub isFitting : Outcome → Bool
+isFitting fitting = true
+isFitting (failing B) = false
+
+-- The row says what the definitions give.
+unfoldable pub holds : Row → Bool
+holds (planned job s B i n a) =
+    sameList (planOf job) s && samePair (bottleneck job s) B && eqb (imbalance job B) i && endsAt job s n
+    && eqb (allowance table job) (a .byTable) && eqb (allowance biddings job) (a .byBidding)
+    && eqb (allowance bisection job) (a .byBisection)
+holds (fitsWith job B s) = isFitting (probe job B) && sameList (walk job B) s
+holds (failsWith job B C) = isFailing (probe job B) C
+holds (quick job s B) = sameList (heuristic job) s && samePair (bottleneck job s) B
+holds (measures job s B) = eqb (measureRefusal job s) 0 && samePair (bottleneck job s) B
+holds (refused job s n) = eqb (measureRefusal job s) n
+
+unfoldable pub everyHolds : List Row → Bool
+everyHolds [] = true
+everyHolds (r ∷ rs) = holds r && everyHolds rs
+
+abbrev pub jobA : Job
+jobA = jobOf (1 ∷ 3 ∷ 8 ∷ []) (1 ∷ 3 ∷ [])
+
+abbrev pub jobB : Job
+jobB = jobOf (4 ∷ 3 ∷ 2 ∷ 6 ∷ 1 ∷ []) (1 ∷ 2 ∷ [])
+
+abbrev pub jobC : Job
+jobC = jobOf [] (7 ∷ 2 ∷ [])
+
+abbrev pub jobD : Job
+jobD = jobOf (0 ∷ 0 ∷ []) (1 ∷ 1 ∷ [])
+
+abbrev pub jobE : Job
+jobE = jobOf (6 ∷ []) (1 ∷ 1 ∷ [])
+
+-- The table. A's counts, allowances and imbalance are those of the listing that `strips` writes; C's, D's and E's allowances
+-- and imbalances, which document 01 leaves out, are worked out by hand.
+unfoldable pub marked : List Row
+marked =
+    planned jobA (0 ∷ 1 ∷ 3 ∷ []) (over 11 3) 222 (three 2 2 2) (three 3 4 8)
+    ∷ failsWith jobA (over 3 1) (over 11 3)
+    ∷ fitsWith jobA (over 11 3) (0 ∷ 1 ∷ 3 ∷ [])
+    ∷ fitsWith jobA (over 23 6) (0 ∷ 1 ∷ 3 ∷ [])
+    ∷ quick jobA (0 ∷ 2 ∷ 3 ∷ []) (over 4 1)
+    ∷ measures jobA (0 ∷ 3 ∷ 3 ∷ []) (over 12 1)
+    ∷ refused jobA (0 ∷ 2 ∷ 2 ∷ []) 11
+    ∷ planned jobB (0 ∷ 1 ∷ 5 ∷ []) (over 12 2) 125 (three 2 2 1) (three 5 6 6)
+    ∷ planned jobC (0 ∷ 0 ∷ 0 ∷ []) (over 0 7) 0 (three 0 1 1) (three 0 1 1)
+    ∷ planned jobD (0 ∷ 2 ∷ 2 ∷ []) (over 0 1) 0 (three 0 1 1) (three 2 3 1)
+    ∷ planned jobE (0 ∷ 1 ∷ 1 ∷ []) (over 6 1) 1000 (three 1 2 1) (three 1 2 4)
+    ∷ []

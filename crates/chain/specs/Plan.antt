@@ -1,0 +1,111 @@
+-- What a plan is, and what it is held against. Document 01, "The three methods"; demand 3.
+use Prim.Native.Nat.{ℕ, zero, suc, _+_, _-_, _*_, _/_, _≤_}
+use mathlib.Core.Path.{_≡_}
+use mathlib.Core.Bool.{Bool, true, false, not, cond}
+use mathlib.Core.List.{List, [], _∷_, _++_, map}
+use lib.Dec.{T, eqb}
+use Rattle.bound.specs.declared.Bound.{Bound}
+use Rattle.bound.specs.Order.{nought, lesser, _≼_, _≈_}
+use Rattle.chain.specs.Lists.{digits, isFirst}
+use Rattle.chain.specs.Job.{Job, tasks, processors, last, totalWeight, totalSpeed, heaviest, fastest, slowest, at, Partition, bottleneck, ideal}
+use Rattle.chain.specs.Probe.{walk, fits}
+use Rattle.chain.specs.Dynamic.{tableValue, moves}
+use Rattle.chain.specs.Search.{Ends, bidding, ends, meet}
+
+-- The lists of separators from a on, each made longer in front by b, for every b from a to a + d.
+unfoldable pub spread : (ℕ → List (List ℕ)) → ℕ → ℕ → List (List ℕ)
+spread rest a zero = map (λ s. a ∷ s) (rest a)
+spread rest a (suc d) = map (λ s. a ∷ s) (rest a) ++ spread rest (suc a) d
+
+-- Every way to go on from separator a with q separators between it and the end, n.
+unfoldable pub onward : ℕ → ℕ → ℕ → List (List ℕ)
+onward n zero a = (n ∷ []) ∷ []
+onward n (suc q) a = spread (onward n q) a (n - a)
+
+-- The list of all divisions of the job.
+unfoldable pub partitions : Job → List (List ℕ)
+partitions job = map (λ s. 0 ∷ s) (onward (tasks job) (last job) 0)
+
+-- The least of a list of bounds, the first among equals. (Of none it reads as nought.)
+unfoldable pub leastBound : List Bound → Bound
+leastBound [] = nought
+leastBound (B ∷ []) = B
+leastBound (B ∷ C ∷ Bs) = lesser B (leastBound (C ∷ Bs))
+
+-- The least bottleneck of all divisions. It knows no method.
+unfoldable pub leastBottleneck : Job → Bound
+leastBottleneck job = leastBound (map (bottleneck job) (partitions job))
+
+-- The plan's separators: one walk at the least bottleneck.
+unfoldable pub planOf : Job → List ℕ
+planOf job = walk job (leastBottleneck job)
+
+-- Demand 3: "Every other division has at least as great a bottleneck; where equal as bounds, each of its separators is at or
+-- before the plan's."
+pub record Best (job : Job) (s : List ℕ) : Type 0 where
+  pub partition : Partition job s
+  pub least : (t : List ℕ) → Partition job t → bottleneck job s ≼ bottleneck job t
+  pub furthest : (t : List ℕ) → Partition job t → bottleneck job t ≈ bottleneck job s → (p : ℕ) → at t p ≤ at s p
+
+-- "The three methods"
+pub data Method : Type 0 where
+  table biddings bisection : Method
+
+-- The table ends with B(P,N). "Count: the moves made"
+pub record TableEnds (job : Job) (count : ℕ) (found : Bound) : Type 0 where
+  pub counted : count ≡ moves job
+  pub yields : found ≡ tableValue job (last job) (tasks job)
+
+-- "at each least next bid until one fits. Count: trials, the one that fits included."
+pub record BiddingEnds (job : Job) (count : ℕ) (found : Bound) : Type 0 where
+  pub failures : ℕ
+  pub first-fit : T (isFirst (λ k. fits job (bidding job k)) failures)
+  pub counted : count ≡ suc failures
+  pub yields : found ≡ bidding job failures
+
+-- "A trial at the ideal; if it fits, done. If not, .. Bisection goes round until the two ends meet and yields their value ..
+-- Count: trials, the first included."
+pub data BisectionEnds (job : Job) (count : ℕ) (found : Bound) : Type 0 where
+  at-once : T (fits job (ideal job)) → count ≡ 1 → found ≡ ideal job → BisectionEnds job count found
+  after : (rounds : ℕ) → T (not (fits job (ideal job))) → T (isFirst (λ k. meet (ends job k)) rounds) → count ≡ suc rounds
+      → found ≡ (ends job rounds) .low → BisectionEnds job count found
+
+-- The method ends with this count and this bottleneck found.
+abbrev pub MethodEnds : Method → Job → ℕ → Bound → Type 0
+MethodEnds table job count found = TableEnds job count found
+MethodEnds biddings job count found = BiddingEnds job count found
+MethodEnds bisection job count found = BisectionEnds job count found
+
+-- "D = ⌊heaviest·fastest²/slowest⌋"
+unfoldable pub difference : Job → ℕ
+difference job = heaviest job * (fastest job * fastest job) / slowest job
+
+-- "table at most (P−1)·N, bidding at most (P−1)·N+1, bisection at most 1 + binary digits of D"
+unfoldable pub allowance : Method → Job → ℕ
+allowance table job = last job * tasks job
+allowance biddings job = last job * tasks job + 1
+allowance bisection job = 1 + digits (difference job)
+
+-- "the imbalance: 1000 × (bottleneck − ideal) / ideal, rounded down, and 0 if Wtot is 0"
+unfoldable pub imbalance : Job → Bound → ℕ
+imbalance job B =
+    cond (eqb (totalWeight job) 0) 0
+    (1000 * (B .load * totalSpeed job - totalWeight job * B .speed) / (totalWeight job * B .speed))
+
+-- "A plan carries its count, its allowance .., the bottleneck of its separators and the imbalance"
+pub record Plan : Type 0 where
+  pub separators : List ℕ
+  pub count : ℕ
+  pub allowed : ℕ
+  pub bound : Bound
+  pub excess : ℕ
+
+-- A plan of the job by the method. "All end with one walk at the bottleneck found, which writes the separators and is not
+-- counted."
+pub record PlanBy (method : Method) (job : Job) (plan : Plan) : Type 0 where
+  pub found : Bound
+  pub ended : MethodEnds method job (plan .count) found
+  pub walked : plan .separators ≡ walk job found
+  pub allows : plan .allowed ≡ allowance method job
+  pub measured : plan .bound ≡ bottleneck job (plan .separators)
+  pub exceeds : plan .excess ≡ imbalance job (plan .bound)

@@ -1,0 +1,98 @@
+-- The refusals that lists can cause, by number, and the order of their tests. Document 01, "Who causes which number".
+use Prim.Native.Nat.{ℕ, zero, suc, _+_, _*_}
+use mathlib.Core.Bool.{Bool, true, false, _&&_, cond}
+use mathlib.Core.List.{List, [], _∷_, _++_, map}
+use lib.ListN.{length, take}
+use lib.Dec.{leb, eqb}
+use Rattle.bound.specs.declared.Bound.{Bound}
+use Rattle.chain.specs.Limits.{maxTasks, maxWeight, maxProcessors, maxSpeed, maxBoundLoad, maxBoundSpeed}
+use Rattle.chain.specs.Lists.{all}
+use Rattle.chain.specs.Job.{Job, tasks, processors, at}
+
+-- A test: the number of its refusal, and whether it passes.
+pub record Test : Type 0 where
+  pub number : ℕ
+  pub passes : Bool
+
+abbrev pub test : ℕ → Bool → Test
+test n b = record { number = n; passes = b }
+
+-- x is from lo to hi.
+abbrev pub between : ℕ → ℕ → ℕ → Bool
+between lo hi x = leb lo x && leb x hi
+
+-- Every number of the list is from lo to hi.
+unfoldable pub eachBetween : ℕ → ℕ → List ℕ → Bool
+eachBetween lo hi [] = true
+eachBetween lo hi (x ∷ xs) = between lo hi x && eachBetween lo hi xs
+
+-- "1, not 1 to 3"
+unfoldable pub methodTest : ℕ → Test
+methodTest m = test 1 (between 1 3 m)
+
+-- "5, speed out of range"
+unfoldable pub speedsTest : List ℕ → Test
+speedsTest es = test 5 (eachBetween 1 maxSpeed es)
+
+-- "6, weight out of range"
+unfoldable pub weightsTest : List ℕ → Test
+weightsTest ws = test 6 (eachBetween 0 maxWeight ws)
+
+-- "7, machine count out of range"
+unfoldable pub processorsTest : List ℕ → Test
+processorsTest es = test 7 (between 1 maxProcessors (length es))
+
+-- "8, tile count above 2,048"
+unfoldable pub tasksTest : List ℕ → Test
+tasksTest ws = test 8 (leb (length ws) maxTasks)
+
+-- "9, one too short": a lent list of this length, where this much is needed.
+unfoldable pub lengthTest : ℕ → ℕ → Test
+lengthTest needed given = test 9 (leb needed given)
+
+-- "10, load or speed out of range"
+unfoldable pub boundTest : Bound → Test
+boundTest B = test 10 (leb (B .load) maxBoundLoad && between 1 maxBoundSpeed (B .speed))
+
+-- A list is a division of the job.
+unfoldable pub isPartition : Job → List ℕ → Bool
+isPartition job s =
+    eqb (length s) (suc (processors job)) && eqb (at s 0) 0 && all (λ p. leb (at s p) (at s (suc p))) (processors job)
+    && eqb (at s (processors job)) (tasks job)
+
+-- "11, its first P + 1 entries aren't a division"
+unfoldable pub partitionTest : Job → List ℕ → Test
+partitionTest job s = test 11 (isPartition job (take (suc (processors job)) s))
+
+-- The number of the first test that fails, 0 where all pass. "They are tested in that order .. A call makes only the tests
+-- whose inputs it takes."
+unfoldable pub firstRefusal : List Test → ℕ
+firstRefusal [] = 0
+firstRefusal (t ∷ ts) = cond (t .passes) (firstRefusal ts) (t .number)
+
+-- What every call with a job by lists tests. "With lists, all speeds come before all weights."
+unfoldable pub jobTests : Job → List Test
+jobTests job =
+    speedsTest (job .speeds) ∷ weightsTest (job .weights) ∷ processorsTest (job .speeds) ∷ tasksTest (job .weights) ∷ []
+
+-- A lent list: the length that is needed and the length that it has.
+pub record Lent : Type 0 where
+  pub needed : ℕ
+  pub given : ℕ
+
+-- What a call takes beside the job's lists; nothing of a kind where it takes none.
+pub record Inputs : Type 0 where
+  pub methods : List ℕ
+  pub lists : List Lent
+  pub bounds : List Bound
+  pub divisions : List (List ℕ)
+
+-- The tests of a call by lists, in order: 1; 5, 6, 7, 8; 9; 10; 11.
+unfoldable pub callTests : Job → Inputs → List Test
+callTests job inputs =
+    map methodTest (inputs .methods) ++ jobTests job ++ map (λ l. lengthTest (l .needed) (l .given)) (inputs .lists)
+    ++ map boundTest (inputs .bounds) ++ map (partitionTest job) (inputs .divisions)
+
+-- The number that a call by lists is refused with, 0 where it is accepted.
+unfoldable pub refusal : Job → Inputs → ℕ
+refusal job inputs = firstRefusal (callTests job inputs)

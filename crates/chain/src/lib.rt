@@ -1,0 +1,1 @@
+// The problem: definitions in specs/, theorems about them in proofs/. No code.
