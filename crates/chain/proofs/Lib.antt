@@ -1,4 +1,5 @@
 pub mod Parts
 pub mod Indices
+pub mod Bottleneck
 pub mod Cover
 pub mod Marked
