@@ -1,0 +1,149 @@
+-- The next bid of a probe that fails is above its bound and at most every bound that fits.
+-- Assumes nothing.
+use Prim.Native.Nat.{ℕ, zero, suc, _+_, _-_, _≤_, _<_}
+use mathlib.Core.Path.{_≡_, refl, sym, ap, subst, _∙_}
+use mathlib.Core.Bool.{Bool, true, false, not}
+use mathlib.Core.Logic.{_⊎_, inl, inr}
+use native.Mathlib.Omega.{arith}
+use native.Mathlib.Decide.{decLe}
+use lib.Dec.{T, ltb, T-not}
+use borrow.Author.Tests.{lt-ltb, le-ltb}
+use Rattle.bound.specs.declared.Bound.{Bound}
+use Rattle.bound.specs.Order.{_≼_, _≺_, pick, lesser, Real}
+use Rattle.bound.proofs.Order.{le-refl, le-trans, lt-le, le-or-lt, lt-le-trans, not-both, lesser-cases, lesser-left, lesser-right}
+use Rattle.chain.specs.Job.{Job, tasks, processors, last, partBound}
+use Rattle.chain.specs.Probe.{separator, fits, bid, leastBidTo, nextBid}
+use Rattle.chain.proofs.Parts.{Proper, part-empty, part-left, part-right, part-real}
+use Rattle.chain.proofs.Walk.{separator-to, separator-grows, separator-mono, separator-within, separator-past, growing, fits-le, le-fits, fails-lt}
+
+module _ (job : Job) (B : Bound) where
+  -- The bids of the processors before the last, and of the last.
+  pub bid-before : (p : ℕ) → p < last job → bid job B p ≡ partBound job p (separator job B p) (suc (separator job B (suc p)))
+  unfolding bid
+  bid-before p h =
+      ap
+      (λ (t : Bool).
+      pick t (partBound job p (separator job B p) (suc (separator job B (suc p)))) (partBound job p (separator job B p) (tasks job)))
+      (lt-ltb p (last job) h)
+
+  pub bid-last : bid job B (last job) ≡ partBound job (last job) (separator job B (last job)) (tasks job)
+  unfolding bid
+  bid-last =
+      ap
+      (λ (t : Bool).
+      pick t (partBound job (last job) (separator job B (last job)) (suc (separator job B (suc (last job)))))
+      (partBound job (last job) (separator job B (last job)) (tasks job)))
+      (le-ltb (last job) (last job) (omega arith))
+
+  -- A property of every bid is the next bid's.
+  bids-to : (Q : Bound → Type 0) (q : ℕ) → ((p : ℕ) → p ≤ q → Q (bid job B p)) → Q (leastBidTo job B q)
+  unfolding leastBidTo
+  bids-to Q zero h = h 0 (omega arith)
+  bids-to Q (suc q) h =
+      lesser-cases Q (leastBidTo job B q) (bid job B (suc q)) (bids-to Q q (λ p l. h p (omega arith))) (h (suc q) (omega arith))
+
+  pub next-cases : (Q : Bound → Type 0) → ((p : ℕ) → p ≤ last job → Q (bid job B p)) → Q (nextBid job B)
+  unfolding nextBid
+  next-cases Q h = bids-to Q (last job) h
+
+module _ {job : Job} (ok : Proper job) where
+  pub bid-real : (B : Bound) (p : ℕ) → Real (bid job B p)
+  unfolding bid
+  bid-real B p = go (ltb p (last job))
+    where
+      go : (t : Bool) → Real (pick t (partBound job p (separator job B p) (suc (separator job B (suc p)))) (partBound job p (separator job B p) (tasks job)))
+      go true = part-real job ok p _ _
+      go false = part-real job ok p _ _
+
+  pub next-real : (B : Bound) → Real (nextBid job B)
+  next-real B = next-cases job B Real (λ p h. bid-real B p)
+
+  least-real : (B : Bound) (q : ℕ) → Real (leastBidTo job B q)
+  least-real B q = bids-to job B Real q (λ p h. bid-real B p)
+
+  least-le : (B : Bound) (q p : ℕ) → p ≤ q → leastBidTo job B q ≼ bid job B p
+  unfolding leastBidTo
+  least-le B zero p h = subst (λ (i : ℕ). bid job B 0 ≼ bid job B i) (let e : 0 ≡ p = omega arith in e) (le-refl (bid job B 0))
+  least-le B (suc q) p h =
+      elim (decLe p q) [
+        | yes l ↦ le-trans (least-real B q) (lesser-left (leastBidTo job B q) (bid job B (suc q))) (least-le B q p l)
+        | no l ↦
+            subst (λ (i : ℕ). lesser (leastBidTo job B q) (bid job B (suc q)) ≼ bid job B i) (let e : suc q ≡ p = omega arith in e)
+            (lesser-right (leastBidTo job B q) (bid job B (suc q)))
+      ]
+
+  -- The next bid is at most every bid.
+  pub next-le-bid : (B : Bound) (p : ℕ) → p ≤ last job → nextBid job B ≼ bid job B p
+  unfolding nextBid
+  next-le-bid B p h = least-le B (last job) p h
+
+  -- In a probe that fails every separator before the end is before the last task.
+  pub fails-before-end : (B : Bound) → T (not (fits job B)) → (p : ℕ) → p ≤ last job → separator job B p < tasks job
+  fails-before-end B t p h =
+      elim (decLe (suc (separator job B p)) (tasks job)) [ yes x ↦ x | no x ↦ absurd (T-not (fits job B) t (le-fits ok B (last-empty x))) ]
+    where
+      last-empty : (suc (separator job B p) ≤ tasks job → ⊥) → partBound job (last job) (separator job B (last job)) (tasks job) ≼ B
+      last-empty x =
+          subst (λ (a : ℕ). partBound job (last job) a (tasks job) ≼ B)
+          (let e : tasks job ≡ separator job B (last job) =
+          omega (
+            arith,
+            separator-to job B (last job),
+            separator-mono job B p (last job - p),
+            ap (separator job B) (let f : p + (last job - p) ≡ last job = omega arith in f),
+          ) in
+          e)
+          (part-empty job (last job) (tasks job) B)
+
+  -- Every bid of a probe that fails is above its bound.
+  pub bid-above : (B : Bound) → T (not (fits job B)) → (p : ℕ) → p ≤ last job → B ≺ bid job B p
+  bid-above B t p h =
+      elim (decLe (suc p) (last job)) [
+        | yes l ↦
+            subst (λ (C : Bound). B ≺ C) (sym (bid-before job B p l))
+            (separator-past job B p (suc (separator job B (suc p))) (omega arith) (fails-before-end B t (suc p) l))
+        | no l ↦
+            subst (λ (i : ℕ). B ≺ bid job B i) (let e : last job ≡ p = omega arith in e)
+            (subst (λ (C : Bound). B ≺ C) (sym (bid-last job B)) (fails-lt ok B t))
+      ]
+
+  -- The next bid is greater than the bound.
+  pub next-above : (B : Bound) → T (not (fits job B)) → B ≺ nextBid job B
+  next-above B t = next-cases job B (λ C. B ≺ C) (bid-above B t)
+
+  -- A bound below every bid walks no further.
+  behind : (B C : Bound) → T (not (fits job B)) → ((p : ℕ) → p ≤ last job → C ≺ bid job B p) → (p : ℕ) → p ≤ last job
+      → separator job C p ≤ separator job B p
+  unfolding separator
+  behind B C t h zero l = omega arith
+  behind B C t h (suc p) l = step (behind B C t h p (omega arith))
+    where
+      step : separator job C p ≤ separator job B p → separator job C (suc p) ≤ separator job B (suc p)
+      step m =
+          elim (decLe (separator job C (suc p)) (separator job B (suc p))) [
+            | yes x ↦ x
+            | no x ↦
+                absurd
+                (not-both (h p (omega arith))
+                (subst (λ (D : Bound). D ≼ C) (sym (bid-before job B p l))
+                (le-trans (part-real job ok p (separator job C p) (suc (separator job B (suc p))))
+                (part-left job p (separator job C p) (separator job B p) (suc (separator job B (suc p))) m (omega (arith, separator-grows job B p)))
+                (le-trans (part-real job ok p (separator job C p) (separator job C (suc p)))
+                (part-right job p (separator job C p) (suc (separator job B (suc p))) (separator job C (suc p))
+                (omega (arith, separator-grows job B p)) (omega arith)) (separator-within job C p)))))
+          ]
+
+  -- The next bid is at most every bound that fits.
+  pub next-least : (B C : Bound) → T (not (fits job B)) → Real C → T (fits job C) → nextBid job B ≼ C
+  next-least B C t r f = elim (le-or-lt (nextBid job B) C) [ inl x ↦ x | inr x ↦ absurd (below x) ]
+    where
+      below : C ≺ nextBid job B → ⊥
+      below x =
+          not-both (each (last job) (omega arith))
+          (subst (λ (D : Bound). D ≼ C) (sym (bid-last job B))
+          (le-trans (part-real job ok (last job) (separator job C (last job)) (tasks job))
+          (part-left job (last job) (separator job C (last job)) (separator job B (last job)) (tasks job)
+          (behind B C t each (last job) (omega arith)) (separator-to job B (last job))) (fits-le ok C f)))
+        where
+          each : (p : ℕ) → p ≤ last job → C ≺ bid job B p
+          each p h = lt-le-trans (bid-real B p) x (next-le-bid B p h)
