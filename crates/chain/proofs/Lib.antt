@@ -4,4 +4,5 @@ pub mod Bottleneck
 pub mod Cover
 pub mod Walk
 pub mod NextBid
+pub mod Best
 pub mod Marked

@@ -1,0 +1,90 @@
+-- The one thing that every method must reach: a bound that fits and is at most every bound that fits. The walk at any such
+-- bound is the best partition, and there is only one best partition.
+-- Assumes nothing.
+use Prim.Native.Nat.{ℕ, zero, suc, _+_, _-_, _≤_, _<_}
+use mathlib.Core.Path.{_≡_, refl, sym, ap, subst, _∙_}
+use mathlib.Core.List.{List}
+use native.Mathlib.Omega.{arith}
+use native.Mathlib.Decide.{decLe}
+use lib.Dec.{T}
+use lib.ListN.{length, List·getD-eq-default}
+use lib.Seq.{ext-getD}
+use Rattle.bound.specs.declared.Bound.{Bound}
+use Rattle.bound.specs.Order.{_≼_, _≈_, Real}
+use Rattle.bound.proofs.Order.{le-trans, eq-sym}
+use Rattle.chain.specs.Job.{Job, tasks, processors, last, at, Partition, bottleneck, Within}
+use Rattle.chain.specs.Probe.{separator, walk, fits}
+use Rattle.chain.specs.Plan.{Best}
+use Rattle.chain.proofs.Parts.{Proper}
+use Rattle.chain.proofs.Bottleneck.{processors-last, bottleneck-real, bottleneck-le, within-bottleneck, le-bottleneck}
+use Rattle.chain.proofs.Walk.{walk-partition, walk-within, walk-at, walk-end, walk-length, walk-alike, partition-fits, partition-covers, furthest}
+
+-- A bound that fits, and is at most every bound that fits.
+pub record Least (job : Job) (B : Bound) : Type 0 where
+  pub real : Real B
+  pub fitting : T (fits job B)
+  pub least : (C : Bound) → Real C → T (fits job C) → B ≼ C
+
+module _ {job : Job} (ok : Proper job) where
+  -- A partition's bottleneck is a bound that fits.
+  pub bottleneck-fits : (s : List ℕ) → Partition job s → T (fits job (bottleneck job s))
+  bottleneck-fits s pa = partition-fits ok (bottleneck-real ok s) pa (within-bottleneck ok s)
+
+  -- Two least bounds are equal as bounds, and walk alike.
+  pub least-equal : {B C : Bound} → Least job B → Least job C → B ≈ C
+  least-equal {B} {C} b c = record { to = b .least C (c .real) (c .fitting); from = c .least B (b .real) (b .fitting) }
+
+  pub least-alike : {B C : Bound} → Least job B → Least job C → walk job B ≡ walk job C
+  least-alike b c = walk-alike ok (b .real) (c .real) (least-equal b c)
+
+  -- No partition has a smaller bottleneck, and the walk's is equal.
+  pub least-below : {B : Bound} → Least job B → (s : List ℕ) → Partition job s → B ≼ bottleneck job s
+  least-below b s pa = b .least (bottleneck job s) (bottleneck-real ok s) (bottleneck-fits s pa)
+
+  pub least-met : {B : Bound} → Least job B → bottleneck job (walk job B) ≈ B
+  least-met {B} b =
+      record { to = bottleneck-le ok (walk-within ok B (b .fitting)); from = least-below b (walk job B) (walk-partition ok B) }
+
+  -- A partition within the bound is nowhere ahead of the walk.
+  pub nowhere-ahead : {B : Bound} → Real B → {s : List ℕ} → Partition job s → Within job s B → (p : ℕ) → at s p ≤ at (walk job B) p
+  nowhere-ahead {B} r {s} pa w p =
+      elim (decLe p (last job)) [
+        | yes l ↦
+            omega (
+              arith,
+              walk-at job B p l,
+              furthest ok B r p (at s p) (partition-covers ok pa w p (omega (arith, ok .some))) (inside (processors job - p) p (omega (arith, ok .some))),
+            )
+        | no l ↦ past l
+      ]
+    where
+      inside : (d p : ℕ) → p + d ≡ processors job → at s p ≤ tasks job
+      inside zero p e = omega (arith, pa .end, ap (at s) (let f : p ≡ processors job = omega arith in f))
+      inside (suc d) p e = omega (arith, pa .grows p (omega arith), inside d (suc p) (omega arith))
+
+      past : (p ≤ last job → ⊥) → at s p ≤ at (walk job B) p
+      past l =
+          elim (decLe p (processors job)) [
+            | yes m ↦
+                subst (λ (i : ℕ). at s i ≤ at (walk job B) i) (let e : suc (last job) ≡ p = omega (arith, ok .some) in e)
+                (omega (arith, walk-end job B, pa .end, ap (at s) (processors-last ok)))
+            | no m ↦ omega (arith, List·getD-eq-default s 0 {n = p} (omega (arith, pa .count)))
+          ]
+
+  -- The walk at a least bound is the best partition.
+  pub least-best : {B : Bound} → Least job B → Best job (walk job B)
+  least-best {B} b =
+      record {
+        partition = walk-partition ok B;
+        least = λ t pa. le-trans (b .real) ((least-met b) .to) (least-below b t pa);
+        furthest = λ t pa e. nowhere-ahead (b .real) pa (le-bottleneck ok (le-trans (bottleneck-real ok (walk job B)) (e .to) ((least-met b) .to)));
+      }
+
+-- There is at most one best partition.
+pub best-unique : {job : Job} {s t : List ℕ} → Best job s → Best job t → s ≡ t
+best-unique {job} {s} {t} a b =
+    ext-getD 0 s t ((a .partition) .count ∙ sym ((b .partition) .count))
+    (λ p h. omega (arith, a .furthest t (b .partition) (eq-sym same) p, b .furthest s (a .partition) same p))
+  where
+    same : bottleneck job s ≈ bottleneck job t
+    same = record { to = a .least t (b .partition); from = b .least s (a .partition) }
