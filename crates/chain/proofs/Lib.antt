@@ -2,7 +2,9 @@ pub mod Parts
 pub mod Indices
 pub mod Bottleneck
 pub mod Cover
+pub mod CoverLaws
 pub mod Walk
 pub mod NextBid
 pub mod Best
+pub mod Table
 pub mod Marked
