@@ -3,4 +3,5 @@ pub mod Indices
 pub mod Bottleneck
 pub mod Cover
 pub mod Extremes
+pub mod Ideal
 pub mod Marked
