@@ -2,4 +2,5 @@ pub mod Parts
 pub mod Indices
 pub mod Bottleneck
 pub mod Cover
+pub mod Enumeration
 pub mod Marked
