@@ -3,4 +3,5 @@ pub mod Indices
 pub mod Bottleneck
 pub mod Cover
 pub mod Enumeration
+pub mod Digits
 pub mod Marked
