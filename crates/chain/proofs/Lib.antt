@@ -2,6 +2,8 @@ pub mod Best
 pub mod Bottleneck
 pub mod Cover
 pub mod CoverLaws
+pub mod Digits
+pub mod Enumeration
 pub mod Extremes
 pub mod Ideal
 pub mod Indices
