@@ -12,3 +12,4 @@ pub mod NextBid
 pub mod Parts
 pub mod Table
 pub mod Walk
+pub mod Bidding
