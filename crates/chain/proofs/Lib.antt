@@ -4,4 +4,5 @@ pub mod Bottleneck
 pub mod Cover
 pub mod Extremes
 pub mod Ideal
+pub mod Heuristic
 pub mod Marked
