@@ -1,17 +1,17 @@
 -- The greatest of a list is at least each of its numbers and one of them, the slowest speed at most each and one of them; the
 -- weights and speeds of a job lie between its extremes.
 -- Assumes nothing.
-use Prim.Native.Nat.{ℕ, zero, suc, _≤_, _<_}
-use mathlib.Core.Path.{_≡_, refl}
+use Prim.Native.Nat.{ℕ, zero, suc, _+_, _-_, _≤_, _<_}
+use mathlib.Core.Path.{_≡_, refl, ap, _∙_}
 use mathlib.Core.Bool.{Bool, true, false, cond}
 use mathlib.Core.List.{List, [], _∷_}
 use native.Mathlib.Omega.{arith}
 use lib.Dec.{leb}
-use lib.ListN.{length, getD}
+use lib.ListN.{length, getD, take, drop}
 use borrow.Author.Tests.{leb-true, leb-false}
-use Rattle.chain.specs.Lists.{greatestOf, leastOf}
-use Rattle.chain.specs.Job.{Job, processors, speedOf, fastest, slowestOf, slowest}
-use Rattle.chain.proofs.Parts.{Proper}
+use Rattle.chain.specs.Lists.{sum, greatestOf, leastOf}
+use Rattle.chain.specs.Job.{Job, processors, speedOf, partWeight, heaviest, fastest, slowestOf, slowest}
+use Rattle.chain.proofs.Parts.{Proper, weight-split}
 
 -- What holds of both numbers holds of the picked one; picked by their order it is at least, or at most, each.
 pick-cases : (Q : ℕ → Type 0) (t : Bool) (x y : ℕ) → Q x → Q y → Q (cond t x y)
@@ -70,7 +70,26 @@ slowest-cases Q (e ∷ []) h = h 0
 slowest-cases Q (e ∷ f ∷ es) h =
     pick-cases Q (leb e (leastOf f es)) e (leastOf f es) (h 0) (slowest-cases Q (f ∷ es) (λ p. h (suc p)))
 
+-- What stands at an index, as a sum of one.
+sum-one : (xs : List ℕ) (i : ℕ) → sum (take 1 (drop i xs)) ≡ getD xs i 0
+unfolding sum
+sum-one [] zero = refl
+sum-one [] (suc i) = refl
+sum-one (x ∷ xs) zero = omega arith
+sum-one (x ∷ xs) (suc i) = sum-one xs i
+
 module _ (job : Job) where
+  -- The part of one task weighs what the task weighs.
+  pub weight-one : (i : ℕ) → partWeight job i (suc i) ≡ getD (job .weights) i 0
+  unfolding partWeight
+  weight-one i =
+      ap (λ (n : ℕ). sum (take n (drop i (job .weights)))) (let e : suc i - i ≡ 1 = omega arith in e) ∙ sum-one (job .weights) i
+
+  -- One more task adds at most the heaviest.
+  pub weight-step : (a i : ℕ) → a ≤ i → partWeight job a (suc i) ≤ partWeight job a i + heaviest job
+  weight-step a i h =
+      omega (arith, weight-split job a i (suc i) h (omega arith), weight-one i, greatest-of-le (job .weights) i)
+
   -- The slowest speed is above 0.
   pub slowest-positive : Proper job → 0 < slowest job
   unfolding speedOf

@@ -2,16 +2,17 @@
 -- loads of all parts add up to at least the weight of all tasks.
 -- Assumes nothing.
 use Prim.Native.Nat.{ℕ, zero, suc, _+_, _*_, _≤_, _<_}
-use mathlib.Core.Path.{_≡_, refl, sym, ap, subst, _∙_}
+use mathlib.Core.Path.{_≡_, refl, sym, ap, _∙_}
 use mathlib.Core.List.{List, [], _∷_}
 use native.Mathlib.Omega.{arith}
+use native.Mathlib.Decide.{decLe}
 use native.Mathlib.Nat.{mul-le-mul-right}
 use lib.ListN.{length, getD}
 use Rattle.bound.specs.declared.Bound.{Bound}
 use Rattle.bound.specs.Order.{_≼_, Real}
 use Rattle.bound.proofs.Order.{open-le, make-le, speed-real}
 use Rattle.chain.specs.Lists.{sum, sumTo}
-use Rattle.chain.specs.Job.{Job, tasks, processors, last, speedOf, partWeight, partLoad, totalWeight, totalSpeed, partBound, at, Partition, boundAt, bottleneck, ideal, Within}
+use Rattle.chain.specs.Job.{Job, processors, last, speedOf, partWeight, partLoad, totalSpeed, partBound, at, Partition, boundAt, bottleneck, ideal, Within}
 use Rattle.chain.proofs.Parts.{Proper, weight-split, weight-empty, weight-all}
 use Rattle.chain.proofs.Bottleneck.{processors-last, within-bottleneck}
 
@@ -26,6 +27,13 @@ pub sum-is-sumTo : (xs : List ℕ) (d : ℕ) → sum xs ≡ sumTo (λ i. getD xs
 unfolding sum sumTo
 sum-is-sumTo [] d = refl
 sum-is-sumTo (x ∷ xs) d = ap (λ (n : ℕ). x + n) (sum-is-sumTo xs d) ∙ sym (sum-first (λ i. getD (x ∷ xs) i d) (length xs))
+
+-- A sum of numbered terms grows with its number of terms.
+pub sum-grows : (f : ℕ → ℕ) (p q : ℕ) → p ≤ q → sumTo f p ≤ sumTo f q
+unfolding sumTo
+sum-grows f p zero h = rw (let e : p ≡ 0 = omega arith in e) (omega arith)
+sum-grows f p (suc q) h =
+    elim (decLe p q) [ yes l ↦ omega (arith, sum-grows f p q l) | no l ↦ rw (let e : p ≡ suc q = omega arith in e) (omega arith) ]
 
 -- All speed is the sum of the speeds of the processors.
 pub total-speed-is : (job : Job) → totalSpeed job ≡ sumTo (speedOf job) (processors job)
@@ -45,12 +53,13 @@ part-le job {B} s p h =
     omega (arith, open-le h, mul-le-mul-right (B .speed) (weight-le-load job (at s p) (at s (suc p))))
 
 module _ {job : Job} (ok : Proper job) where
-  -- All speed is above 0, so the ideal is a real fraction.
+  -- All speed is above 0.
   pub total-speed-positive : 0 < totalSpeed job
   unfolding sumTo
   total-speed-positive =
       rw (total-speed-is job, processors-last ok) (omega (arith, ok .positive (last job)))
 
+  -- So the ideal is a real fraction.
   pub ideal-real : Real (ideal job)
   unfolding ideal
   ideal-real = speed-real total-speed-positive

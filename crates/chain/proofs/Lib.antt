@@ -1,10 +1,12 @@
 pub mod Best
+pub mod Bidding
 pub mod Bottleneck
 pub mod Cover
 pub mod CoverLaws
 pub mod Digits
 pub mod Enumeration
 pub mod Extremes
+pub mod Heuristic
 pub mod Ideal
 pub mod Indices
 pub mod Marked
@@ -12,4 +14,3 @@ pub mod NextBid
 pub mod Parts
 pub mod Table
 pub mod Walk
-pub mod Bidding
