@@ -14,3 +14,4 @@ pub mod NextBid
 pub mod Parts
 pub mod Table
 pub mod Walk
+pub mod Bisection
