@@ -15,3 +15,4 @@ pub mod Parts
 pub mod Table
 pub mod Walk
 pub mod Bisection
+pub mod Demand
