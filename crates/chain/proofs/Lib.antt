@@ -4,4 +4,5 @@ pub mod Bottleneck
 pub mod Cover
 pub mod Enumeration
 pub mod Digits
+pub mod Refusals
 pub mod Marked
