@@ -5,4 +5,5 @@ pub mod Cover
 pub mod Enumeration
 pub mod Digits
 pub mod Refusals
+pub mod Ranges
 pub mod Marked

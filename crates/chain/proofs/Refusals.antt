@@ -4,27 +4,29 @@
 use Prim.Native.Nat.{ℕ, zero, suc, _≤_, _<_}
 use mathlib.Core.Path.{_≡_, refl, sym, ap, subst, _∙_}
 use mathlib.Core.Bool.{Bool, true, false, cond, _&&_}
-use mathlib.Core.List.{List, [], _∷_, _++_, map, List·Memᴰ, List·Memᴰ·head, List·Memᴰ·tail, List·Memᴰ·not-nil, List·Memᴰ·cases-cons, List·Memᴰ·append-cases, Memᴰ·of-map}
-use mathlib.Core.Logic.{_≢_, _⊎_, inl, inr}
+use mathlib.Core.List.{List, [], _∷_, _++_, map, List·Memᴰ, List·Memᴰ·head, List·Memᴰ·tail, List·Memᴰ·not-nil, List·Memᴰ·cases-cons, List·Memᴰ·append-cases, Memᴰ·append-left, Memᴰ·append-right, Memᴰ·of-map}
+use mathlib.Core.Logic.{_≢_, inl, inr}
 use native.Mathlib.Omega.{arith}
 use lib.Dec.{T, leb, eqb, leb→le, le→leb, eqb→eq, eqb-refl, lit≤}
 use lib.ListN.{length, getD}
 use Rattle.chain.specs.Limits.{maxTasks, maxWeight, maxProcessors, maxSpeed}
 use Rattle.chain.specs.Lists.{all}
 use Rattle.chain.specs.Job.{Job, tasks, processors, speedOf, Valid, at, Partition}
-use Rattle.chain.specs.Refusal.{Test, test, between, eachBetween, methodTest, speedsTest, weightsTest, processorsTest, tasksTest, lengthTest, boundTest, isPartition, partitionTest, firstRefusal, jobTests, Lent, Inputs, callTests, refusal}
+use Rattle.chain.specs.Refusal.{Test, between, eachBetween, methodTest, speedsTest, weightsTest, processorsTest, tasksTest, lengthTest, boundTest, isPartition, partitionTest, firstRefusal, jobTests, Inputs, callTests, refusal}
 use Rattle.chain.proofs.Indices.{all-at, all-of}
 
--- Two tests at once.
-and-left : (x y : Bool) → T (x && y) → T x
+-- Two tests at once pass exactly when both do: the first,
+pub and-left : (x y : Bool) → T (x && y) → T x
 and-left true y t = tt
 and-left false y t = t
 
-and-right : (x y : Bool) → T (x && y) → T y
+-- the second,
+pub and-right : (x y : Bool) → T (x && y) → T y
 and-right true y t = t
 and-right false y t = absurd t
 
-and-both : (x y : Bool) → T x → T y → T (x && y)
+-- and back.
+pub and-both : (x y : Bool) → T x → T y → T (x && y)
 and-both true y t u = u
 and-both false y t u = t
 
@@ -35,17 +37,21 @@ eq-test m n e = subst (λ (k : ℕ). T (eqb m k)) e (eqb-refl m)
 pub record Numbered (ts : List Test) : Type 0 where
   pub positive : (t : Test) → List·Memᴰ t ts → 0 < t .number
 
+-- A list of no tests is numbered so.
 pub numbered-nil : Numbered []
 numbered-nil = record { positive = λ t m. absurd (List·Memᴰ·not-nil m) }
 
+-- One test more.
 pub numbered-cons : {t : Test} {ts : List Test} → 0 < t .number → Numbered ts → Numbered (t ∷ ts)
 numbered-cons {t} {ts} h n =
     record { positive = λ u m. elim (List·Memᴰ·cases-cons m) [ inl e ↦ subst (λ (x : Test). 0 < x .number) (sym e) h | inr k ↦ n .positive u k ] }
 
+-- Two lists of tests one after the other.
 pub numbered-append : {ts us : List Test} → Numbered ts → Numbered us → Numbered (ts ++ us)
 numbered-append {ts} {us} n k =
     record { positive = λ t m. elim (List·Memᴰ·append-cases ts m) [ inl h ↦ n .positive t h | inr h ↦ k .positive t h ] }
 
+-- One kind of test, made of every input.
 pub numbered-map : {A : Type 0} (f : A → Test) → ((a : A) → 0 < (f a) .number) → (l : List A) → Numbered (map f l)
 numbered-map f h l =
     record { positive = λ t m. let r = Memᴰ·of-map f l m in subst (λ (x : Test). 0 < x .number) (r .2) (h (r .0)) }
@@ -74,13 +80,14 @@ fail-head : (t : Test) (ts : List Test) → t .passes ≡ false → firstRefusal
 unfolding firstRefusal
 fail-head t ts e = ap (λ (b : Bool). cond b (firstRefusal ts) (t .number)) e
 
--- Where all tests pass nothing is refused, and the other way round.
+-- Where all tests pass, nothing is refused.
 pub passes-accepted : (ts : List Test) → ((t : Test) → List·Memᴰ t ts → T (t .passes)) → firstRefusal ts ≡ 0
 unfolding firstRefusal
 passes-accepted [] h = refl
 passes-accepted (t ∷ ts) h =
     pass-skip t ts (h t (List·Memᴰ·head refl)) ∙ passes-accepted ts (λ u m. h u (List·Memᴰ·tail m))
 
+-- Where nothing is refused, all tests pass.
 pub accepted-passes : (ts : List Test) → Numbered ts → firstRefusal ts ≡ 0 → (t : Test) → List·Memᴰ t ts → T (t .passes)
 accepted-passes [] n e u m = absurd (List·Memᴰ·not-nil m)
 accepted-passes (t ∷ ts) n e u m =
@@ -96,6 +103,7 @@ passed-append [] us h = refl
 passed-append (t ∷ ts) us h =
     pass-skip t (ts ++ us) (h t (List·Memᴰ·head refl)) ∙ passed-append ts us (λ u m. h u (List·Memᴰ·tail m))
 
+-- Where nothing of the first tests is refused, the others decide.
 pub first-refusal-append : (ts us : List Test) → Numbered ts → firstRefusal ts ≡ 0 → firstRefusal (ts ++ us) ≡ firstRefusal us
 first-refusal-append ts us n e = passed-append ts us (accepted-passes ts n e)
 
@@ -125,12 +133,13 @@ pub record FirstFailing (ts : List Test) (n : ℕ) : Type 0 where
   pub fails : failed .passes ≡ false
   pub gives : failed .number ≡ n
 
--- A number is given exactly when its test is the first to fail.
+-- A number is given where its test is the first to fail,
 pub failing-refused : {ts : List Test} {n : ℕ} → FirstFailing ts n → firstRefusal ts ≡ n
 failing-refused r =
     ap firstRefusal (sym (r .whole)) ∙ passed-append (r .before) (r .failed ∷ r .after) (r .passed) ∙ fail-head (r .failed) (r .after) (r .fails)
     ∙ r .gives
 
+-- and only there.
 pub refused-failing : (ts : List Test) → firstRefusal ts ≢ 0 → FirstFailing ts (firstRefusal ts)
 unfolding firstRefusal
 refused-failing [] h = absurd (h refl)
@@ -152,12 +161,13 @@ refused-failing (t ∷ ts) h = go (t .passes) refl h (refused-failing ts)
     go false e k below =
         record { before = []; failed = t; after = ts; whole = refl; passed = λ u m. absurd (List·Memᴰ·not-nil m); fails = e; gives = refl }
 
--- The numbers of document 01's tests.
+-- The tests of a job have numbers above 0.
 pub job-numbered : (job : Job) → Numbered (jobTests job)
 unfolding jobTests speedsTest weightsTest processorsTest tasksTest
 job-numbered job =
     numbered-cons (omega arith) (numbered-cons (omega arith) (numbered-cons (omega arith) (numbered-cons (omega arith) numbered-nil)))
 
+-- The tests of a call have numbers above 0.
 pub call-numbered : (job : Job) (inputs : Inputs) → Numbered (callTests job inputs)
 unfolding callTests methodTest lengthTest boundTest partitionTest
 call-numbered job inputs =
@@ -225,6 +235,20 @@ module _ {job : Job} where
 -- The lists are accepted exactly when they make a valid job.
 pub job-accepted : {job : Job} → (firstRefusal (jobTests job) ≡ 0 → Valid job) × (Valid job → firstRefusal (jobTests job) ≡ 0)
 job-accepted {job} = (accepted-valid {job = job}, valid-accepted)
+
+-- A call is accepted exactly when all its tests pass.
+pub call-accepted : (job : Job) (inputs : Inputs)
+    → (refusal job inputs ≡ 0 → (t : Test) → List·Memᴰ t (callTests job inputs) → T (t .passes))
+    × (((t : Test) → List·Memᴰ t (callTests job inputs) → T (t .passes)) → refusal job inputs ≡ 0)
+unfolding refusal
+call-accepted job inputs =
+    (accepted-passes (callTests job inputs) (call-numbered job inputs), passes-accepted (callTests job inputs))
+
+-- An accepted call has a valid job.
+pub call-valid : (job : Job) (inputs : Inputs) → refusal job inputs ≡ 0 → Valid job
+unfolding callTests
+call-valid job inputs e =
+    accepted-valid (passes-accepted (jobTests job) (λ t m. call-accepted job inputs .0 e t (Memᴰ·append-left (map (partitionTest job) (inputs .divisions)) (Memᴰ·append-left (map boundTest (inputs .bounds)) (Memᴰ·append-left (map (λ l. lengthTest (l .needed) (l .given)) (inputs .lists)) (Memᴰ·append-right (map methodTest (inputs .methods)) m))))))
 
 -- The test of a list of separators passes exactly when it is a partition.
 pub partition-test : (job : Job) (s : List ℕ) → (T (isPartition job s) → Partition job s) × (Partition job s → T (isPartition job s))
