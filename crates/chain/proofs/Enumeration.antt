@@ -1,16 +1,16 @@
 -- The list of all partitions holds every partition and nothing else, and the least bottleneck is the least of their bottlenecks.
 -- Assumes nothing.
-use Prim.Native.Nat.{ℕ, zero, suc, _+_, _-_, _≤_, _<_}
-use mathlib.Core.Path.{_≡_, refl, sym, ap, subst, _∙_}
-use mathlib.Core.List.{List, [], _∷_, _++_, map, List·Memᴰ, List·Memᴰ·head, List·Memᴰ·tail, List·Memᴰ·not-nil, List·Memᴰ·cases-cons, List·Memᴰ·append-cases, List·Memᴰ·eq-of-singleton, Memᴰ·append-left, Memᴰ·append-right, Memᴰ·cast, Memᴰ·map, Memᴰ·of-map}
-use mathlib.Core.Logic.{_⊎_, inl, inr}
+use Prim.Native.Nat.{ℕ, zero, suc, _+_, _-_, _≤_}
+use mathlib.Core.Path.{_≡_, refl, sym, ap, subst}
+use mathlib.Core.List.{List, [], _∷_, map, List·Memᴰ, List·Memᴰ·head, List·Memᴰ·tail, List·Memᴰ·not-nil, List·Memᴰ·cases-cons, List·Memᴰ·append-cases, List·Memᴰ·eq-of-singleton, Memᴰ·append-left, Memᴰ·append-right, Memᴰ·cast, Memᴰ·map, Memᴰ·of-map}
+use mathlib.Core.Logic.{inl, inr}
 use native.Mathlib.Omega.{arith}
 use native.Mathlib.Decide.{decLe}
-use lib.ListN.{length, getD}
+use lib.ListN.{length}
 use Rattle.bound.specs.declared.Bound.{Bound}
-use Rattle.bound.specs.Order.{nought, lesser, _≼_, Real}
+use Rattle.bound.specs.Order.{lesser, _≼_, Real}
 use Rattle.bound.proofs.Order.{le-refl, le-trans, lesser-cases, lesser-left, lesser-right}
-use Rattle.chain.specs.Job.{Job, tasks, processors, last, at, Partition, bottleneck}
+use Rattle.chain.specs.Job.{Job, tasks, last, at, Partition, bottleneck}
 use Rattle.chain.specs.Plan.{spread, onward, partitions, leastBound, leastBottleneck}
 use Rattle.chain.proofs.Parts.{Proper}
 use Rattle.chain.proofs.Bottleneck.{processors-last, bottleneck-real}
@@ -84,7 +84,7 @@ spread-complete rest a (suc d) b t h k m =
       | no l ↦ Memᴰ·append-right (map (λ s. a ∷ s) (rest a)) (spread-complete rest (suc a) d b t (omega arith) (omega arith) m)
     ]
 
--- The lists that go on from a are exactly the rests of a partition from a on.
+-- Every list that goes on from a is the rest of a partition from a on.
 pub onward-sound : (n q a : ℕ) (t : List ℕ) → a ≤ n → List·Memᴰ t (onward n q a) → Onward n q a t
 unfolding onward
 onward-sound n zero a t h m = subst (Onward n 0 a) (sym (List·Memᴰ·eq-of-singleton m)) (onward-last n a h)
@@ -93,6 +93,7 @@ onward-sound n (suc q) a t h m =
     subst (Onward n (suc q) a) (r .whole)
     (onward-cons (r .from) (onward-sound n q (r .first) (r .tail) (omega (arith, r .to)) (r .mem)))
 
+-- Every rest of a partition from a on is listed.
 pub onward-complete : (n q a : ℕ) (t : List ℕ) → Onward n q a t → List·Memᴰ t (onward n q a)
 unfolding onward
 onward-complete n q a [] w = absurd (let z : ⊥ = omega (arith, w .count) in z)
@@ -191,6 +192,7 @@ module _ {job : Job} (ok : Proper job) where
       let r = least-of-attained (bottleneck job) (bottleneck-real ok) (partitions job) (m .0) (m .1) in
       (r .0, partitions-sound (r .0) (r .1), r .2)
 
+  -- The least bottleneck is not 0/0.
   pub least-real : Real (leastBottleneck job)
   unfolding leastBottleneck
   least-real = least-of-real (bottleneck job) (bottleneck-real ok) (partitions job)

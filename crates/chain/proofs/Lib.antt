@@ -1,8 +1,10 @@
 pub mod Best
 pub mod Bidding
+pub mod Bisection
 pub mod Bottleneck
 pub mod Cover
 pub mod CoverLaws
+pub mod Demand
 pub mod Digits
 pub mod Enumeration
 pub mod Extremes
@@ -12,7 +14,7 @@ pub mod Indices
 pub mod Marked
 pub mod NextBid
 pub mod Parts
+pub mod Ranges
+pub mod Refusals
 pub mod Table
 pub mod Walk
-pub mod Bisection
-pub mod Demand
