@@ -1,0 +1,5 @@
+pub mod Limits
+pub mod Tests
+pub mod Each
+pub mod Steps
+pub mod ByLists

@@ -1,0 +1,93 @@
+-- How a job file is read and tested, by its places. Document 01, "Files and the C call", "Who causes which number". Records and
+-- their bytes are counted from 0.
+use Prim.Native.Nat.{ℕ, zero, suc, _+_, _*_, _/_, _%_}
+use mathlib.Core.Bool.{Bool, true, false, not, cond, _&&_, _||_}
+use mathlib.Core.List.{List, [], _∷_, _++_}
+use lib.ListN.{length, getD}
+use lib.Dec.{eqb}
+use Rattle.chain.specs.Limits.{maxWeight, maxSpeed}
+use Rattle.chain.specs.Job.{Job, jobOf}
+use Rattle.chain.specs.Refusal.{Test, test, between, processorsTest, tasksTest, firstRefusal}
+use Rattle.jobs.specs.JobFile.{processorKind, taskKind}
+
+-- "8-byte records without a header": how many.
+abbrev pub recordCount : List ℕ → ℕ
+recordCount file = length file / 8
+
+-- Byte k of record i.
+unfoldable pub byteAt : List ℕ → ℕ → ℕ → ℕ
+byteAt file i k = getD file (8 * i + k) 0
+
+-- "byte 0 is the kind"
+unfoldable pub kindAt : List ℕ → ℕ → ℕ
+kindAt file i = byteAt file i 0
+
+-- "bytes 4 to 7 are the speed or weight", "little-endian"
+unfoldable pub valueAt : List ℕ → ℕ → ℕ
+valueAt file i = byteAt file i 4 + 256 * byteAt file i 5 + 65536 * byteAt file i 6 + 16777216 * byteAt file i 7
+
+-- Record i is of this kind.
+unfoldable pub isKind : ℕ → List ℕ → ℕ → Bool
+isKind kind file i = eqb (kindAt file i) kind
+
+-- A tile stands before record i.
+unfoldable pub taskBefore : List ℕ → ℕ → Bool
+taskBefore file zero = false
+taskBefore file (suc i) = taskBefore file i || isKind taskKind file i
+
+-- "2, length not a multiple of 8."
+unfoldable pub multipleTest : List ℕ → Test
+multipleTest file = test 2 (eqb (length file % 8) 0)
+
+-- "3, a kind other than 1 or 2, or bytes 1 to 3 not zero."
+unfoldable pub formTest : List ℕ → ℕ → Test
+formTest file i =
+    test 3
+    ((isKind processorKind file i || isKind taskKind file i) && eqb (byteAt file i 1) 0 && eqb (byteAt file i 2) 0
+    && eqb (byteAt file i 3) 0)
+
+-- "4, a machine after a tile."
+unfoldable pub orderTest : List ℕ → ℕ → Test
+orderTest file i = test 4 (not (isKind processorKind file i && taskBefore file i))
+
+-- "5, speed out of range."
+unfoldable pub speedTest : List ℕ → ℕ → Test
+speedTest file i = test 5 (not (isKind processorKind file i) || between 1 maxSpeed (valueAt file i))
+
+-- "6, weight out of range."
+unfoldable pub weightTest : List ℕ → ℕ → Test
+weightTest file i = test 6 (not (isKind taskKind file i) || between 0 maxWeight (valueAt file i))
+
+-- "in rising order within a record"
+unfoldable pub recordTests : List ℕ → ℕ → List Test
+recordTests file i = formTest file i ∷ orderTest file i ∷ speedTest file i ∷ weightTest file i ∷ []
+
+-- "3 to 6 go record by record from the front": the first n records.
+unfoldable pub recordsTests : List ℕ → ℕ → List Test
+recordsTests file zero = []
+recordsTests file (suc n) = recordsTests file n ++ recordTests file n
+
+-- The values of this kind among the first n records, in order.
+unfoldable pub valuesOf : ℕ → List ℕ → ℕ → List ℕ
+valuesOf kind file zero = []
+valuesOf kind file (suc n) = valuesOf kind file n ++ cond (isKind kind file n) (valueAt file n ∷ []) []
+
+-- The job that a file holds.
+unfoldable pub speedsOf : List ℕ → List ℕ
+speedsOf file = valuesOf processorKind file (recordCount file)
+
+unfoldable pub weightsOf : List ℕ → List ℕ
+weightsOf file = valuesOf taskKind file (recordCount file)
+
+abbrev pub jobIn : List ℕ → Job
+jobIn file = jobOf (weightsOf file) (speedsOf file)
+
+-- The tests of a file, in order: 2; 3 to 6, record by record; 7; 8.
+unfoldable pub fileTests : List ℕ → List Test
+fileTests file =
+    multipleTest file
+    ∷ (recordsTests file (recordCount file) ++ processorsTest (speedsOf file) ∷ tasksTest (weightsOf file) ∷ [])
+
+-- The number that a file is refused with, 0 where it is accepted.
+unfoldable pub fileRefusal : List ℕ → ℕ
+fileRefusal file = firstRefusal (fileTests file)
