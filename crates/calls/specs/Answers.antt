@@ -13,7 +13,7 @@ use Rattle.chain.specs.Refusal.{Lent, Inputs, refusal}
 use Rattle.calls.specs.declared.Measured.{Measured}
 use Rattle.calls.specs.declared.Measured.the-variants.{Bottleneck, Refused}
 use Rattle.calls.specs.declared.Probed.{Probed}
-use Rattle.calls.specs.declared.Probed.the-variants.{Fits, Fails, Rejected}
+use Rattle.calls.specs.declared.Probed.the-variants.{Fits, Fails, Refused as ProbeRefused}
 
 -- Document 01's number of an answer: 0 where the call is accepted.
 abbrev pub measuredNumber : Measured → ℕ
@@ -23,7 +23,7 @@ measuredNumber (Refused n) = n
 abbrev pub probedNumber : Probed → ℕ
 probedNumber Fits = 0
 probedNumber (Fails B) = 0
-probedNumber (Rejected n) = n
+probedNumber (ProbeRefused n) = n
 
 -- "P + 1 separators": the lent list of them.
 abbrev pub separatorsLent : Job → List ℕ → Lent
@@ -50,7 +50,7 @@ measureAnswer job s = orRefused Refused (refusal job (measureInputs job s)) (Bot
 
 -- "If that is within the bound the trial fits .. A trial that fails answers with the least next bid"
 unfoldable pub probeAnswer : Job → Bound → List ℕ → Probed
-probeAnswer job B s = orRefused Rejected (refusal job (probeInputs job B s)) (cond (fits job B) Fits (Fails (nextBid job B)))
+probeAnswer job B s = orRefused ProbeRefused (refusal job (probeInputs job B s)) (cond (fits job B) Fits (Fails (nextBid job B)))
 
 -- A list with the separators in front: "Entries past the needed length stay."
 abbrev pub inFront : Job → List ℕ → List ℕ → List ℕ

@@ -19,7 +19,7 @@ pub enum Measured {
 pub enum Probed {
     Fits,
     Fails(Bound),
-    Rejected(u32),
+    Refused(u32),
 }
 
 // Whether the first P + 1 separators are a partition of the job. Inner: there are so many.

@@ -5,6 +5,7 @@ use mathlib.Core.Path.{_≡_, refl, sym, ap, subst, _∙_}
 use mathlib.Core.List.{List, [], _∷_, _++_}
 use native.Mathlib.Omega.{arith}
 use native.Mathlib.Decide.{decLe}
+use native.Mathlib.Numerals.{add-one}
 use lib.ListN.{length, getD, set, drop, length-append, length-drop, length-set}
 use lib.Seq.{getD-set-same, getD-set-other, getD-drop, ext-getD}
 use Rattle.chain.specs.Lists.{tabulate}
@@ -31,6 +32,10 @@ front-store {f} {n} {xs} {ys} v w h e =
     last : (k : ℕ) → n ≡ k → getD (set ys n v) k 0 ≡ f k
     last k x =
         subst (λ (i : ℕ). getD (set ys n v) i 0 ≡ f i) x (getD-set-same ys n v 0 (omega (arith, w .same)) ∙ e)
+
+-- The same, as code counts.
+pub front-next : {f : ℕ → ℕ} {n : ℕ} {xs ys : List ℕ} (v : ℕ) → Front f n xs ys → n < length xs → v ≡ f n → Front f (n + 1) xs (set ys n v)
+front-next {f} {n} {xs} {ys} v w h e = subst (λ (k : ℕ). Front f k xs (set ys n v)) (sym (add-one n)) (front-store v w h e)
 
 -- The list in the end.
 pub front-end : {f : ℕ → ℕ} {n : ℕ} {xs ys : List ℕ} → Front f n xs ys → n ≤ length xs → ys ≡ tabulate f n ++ drop n xs
