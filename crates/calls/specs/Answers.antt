@@ -2,14 +2,15 @@
 -- on the whole input, refusals included. Document 01, "Trial at a bound", "Quick plan", "Who causes which number".
 use Prim.Native.Nat.{ℕ, zero, suc}
 use mathlib.Core.Bool.{Bool, true, false, cond}
-use mathlib.Core.List.{List, [], _∷_, _++_}
-use lib.ListN.{length, take, drop}
+use mathlib.Core.List.{List, [], _∷_}
+use lib.ListN.{length, take}
 use lib.Dec.{eqb}
 use Rattle.bound.specs.declared.Bound.{Bound}
 use Rattle.chain.specs.Job.{Job, processors, bottleneck}
 use Rattle.chain.specs.Probe.{walk, fits, nextBid}
 use Rattle.chain.specs.Heuristic.{heuristic}
 use Rattle.chain.specs.Refusal.{Lent, Inputs, refusal}
+use Rattle.jobs.specs.Answers.{lentAfter}
 use Rattle.calls.specs.declared.Measured.{Measured}
 use Rattle.calls.specs.declared.Measured.the-variants.{Bottleneck, Refused}
 use Rattle.calls.specs.declared.Probed.{Probed}
@@ -39,30 +40,27 @@ probeInputs job B s = record { methods = []; lists = separatorsLent job s ∷ []
 unfoldable pub heuristicInputs : Job → List ℕ → Inputs
 heuristicInputs job s = record { methods = []; lists = separatorsLent job s ∷ []; bounds = []; divisions = [] }
 
--- Refused with the number, or accepted where it is 0.
-abbrev pub orRefused {ℓ} : {A : Type ℓ} → (ℕ → A) → ℕ → A → A
-orRefused refused zero accepted = accepted
-orRefused refused (suc n) accepted = refused (suc n)
-
 -- "Measuring a division gives its bottleneck."
 unfoldable pub measureAnswer : Job → List ℕ → Measured
-measureAnswer job s = orRefused Refused (refusal job (measureInputs job s)) (Bottleneck (bottleneck job (take (suc (processors job)) s)))
+measureAnswer job s =
+    let number = refusal job (measureInputs job s) in
+    cond (eqb number 0) (Bottleneck (bottleneck job (take (suc (processors job)) s))) (Refused number)
 
 -- "If that is within the bound the trial fits .. A trial that fails answers with the least next bid"
 unfoldable pub probeAnswer : Job → Bound → List ℕ → Probed
-probeAnswer job B s = orRefused ProbeRefused (refusal job (probeInputs job B s)) (cond (fits job B) Fits (Fails (nextBid job B)))
-
--- A list with the separators in front: "Entries past the needed length stay."
-abbrev pub inFront : Job → List ℕ → List ℕ → List ℕ
-inFront job separators s = separators ++ drop (suc (processors job)) s
+probeAnswer job B s =
+    let number = refusal job (probeInputs job B s) in
+    cond (eqb number 0) (cond (fits job B) Fits (Fails (nextBid job B))) (ProbeRefused number)
 
 -- "the trial fits and the separators are written. A trial that fails .. leaves the separators untouched."
 unfoldable pub probeWrites : Job → Bound → List ℕ → List ℕ
-probeWrites job B s = orRefused (λ n. s) (refusal job (probeInputs job B s)) (cond (fits job B) (inFront job (walk job B) s) s)
+probeWrites job B s = cond (fits job B) (lentAfter (refusal job (probeInputs job B s)) (walk job B) s) s
 
 -- "The separators are written and their bottleneck is given."
 unfoldable pub heuristicAnswer : Job → List ℕ → Measured
-heuristicAnswer job s = orRefused Refused (refusal job (heuristicInputs job s)) (Bottleneck (bottleneck job (heuristic job)))
+heuristicAnswer job s =
+    let number = refusal job (heuristicInputs job s) in
+    cond (eqb number 0) (Bottleneck (bottleneck job (heuristic job))) (Refused number)
 
 unfoldable pub heuristicWrites : Job → List ℕ → List ℕ
-heuristicWrites job s = orRefused (λ n. s) (refusal job (heuristicInputs job s)) (inFront job (heuristic job) s)
+heuristicWrites job s = lentAfter (refusal job (heuristicInputs job s)) (heuristic job) s
