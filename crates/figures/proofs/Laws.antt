@@ -19,7 +19,7 @@ use Rattle.chain.specs.Limits.{maxProcessors, maxTasks}
 use Rattle.chain.specs.Lists.{sum, sumTo, greatestOf, leastOf, digits}
 use Rattle.chain.specs.Job.{Job, Valid, tasks, processors, last, totalWeight, totalSpeed, heaviest, fastest, slowest, slowestOf, ideal}
 use Rattle.chain.specs.Plan.{Method, table, biddings, bisection, difference, allowance, imbalance}
-use Rattle.chain.proofs.Digits.{digits-leading}
+use Rattle.chain.proofs.Digits.{digits-leading, digits-below}
 use Rattle.chain.proofs.Extremes.{greatest-of-le, greatest-cases, slowest-le}
 use Rattle.chain.proofs.Ideal.{sum-is-sumTo, sum-grows}
 use Rattle.chain.proofs.Ranges.{total-speed-limit, total-speed-fits, fastest-limit, speeds-fit, difference-product, Small, imbalance-product, imbalance-divisor}
@@ -162,6 +162,9 @@ pub difference-fits : {job : Job} → Valid job → difference job < 2 ^ 64
 unfolding difference
 difference-fits {job} v =
     lt-of-le-of-lt (div-le-self (heaviest job * (fastest job * fastest job)) (slowest job)) (difference-product v)
+
+pub digits-fit : {job : Job} → Valid job → digits (difference job) ≤ 64
+digits-fit {job} v = digits-below (difference job) 64 (difference-fits v)
 
 -- The methods by their numbers.
 pub method-table : (m : ℕ) → m ≡ 1 → methodOf m ≡ table
