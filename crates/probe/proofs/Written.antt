@@ -1,0 +1,2 @@
+-- What the probe writes and answers.
+-- Assumes nothing.
