@@ -1,19 +1,19 @@
 -- The bids: comparing them fits, a part gains nothing past the last task, and the least bid so far.
 -- Assumes nothing.
-use Prim.Native.Nat.{ℕ, zero, suc, _+_, _-_, _*_, _^_, _≤_, _<_}
+use Prim.Native.Nat.{ℕ, zero, suc, _-_, _*_, _^_, _≤_, _<_}
 use mathlib.Core.Path.{_≡_, refl, sym, ap, subst, _∙_}
 use mathlib.Core.Bool.{Bool, true, false}
 use native.Mathlib.Omega.{arith}
 use native.Mathlib.Decide.{decLe}
 use native.Mathlib.Nat.{mul-le-mul, lt-of-le-of-lt}
 use lib.Dec.{lit<}
-use lib.ListN.{getD, List·getD-eq-default}
+use lib.ListN.{List·getD-eq-default}
 use Rattle.bound.specs.declared.Bound.{Bound}
 use Rattle.bound.specs.Order.{over, le, pick, lesser}
 use Rattle.bound.proofs.Order.{make-lt, le-false, lesser-cases}
-use Rattle.chain.specs.Job.{Job, Valid, tasks, processors, last, speedOf, partWeight, partLoad, partBound}
+use Rattle.chain.specs.Job.{Job, Valid, tasks, last, speedOf, partLoad, partBound}
 use Rattle.chain.specs.Probe.{separator, bid, leastBidTo, nextBid}
-use Rattle.chain.proofs.Parts.{Proper, weight-split}
+use Rattle.chain.proofs.Parts.{weight-split}
 use Rattle.chain.proofs.Extremes.{weight-one}
 use Rattle.chain.proofs.NextBid.{bid-before, bid-last}
 use Rattle.chain.proofs.Ranges.{Small, part-small, small-fits}
@@ -81,13 +81,13 @@ module _ (job : Job) where
       ]
 
   -- The lesser of the best bid so far and a bid that stops there.
-  pub bid-lesser : {best C D : Bound} {p a i r : ℕ} → a ≤ i → i ≤ tasks job → OneMore i (tasks job) r → C ≡ partBound job p a r → D ≡ lesser best C
+  pub bid-lesser : (best : Bound) {C D : Bound} (p : ℕ) {a i r : ℕ} → a ≤ i → i ≤ tasks job → OneMore i (tasks job) r → C ≡ partBound job p a r → D ≡ lesser best C
       → D ≡ lesser best (partBound job p a (suc i))
-  bid-lesser {best} {p = p} {a} h k w e f = f ∙ ap (lesser best) (e ∙ bid-stops p a h k w)
+  bid-lesser best p {a} h k w e f = f ∙ ap (lesser best) (e ∙ bid-stops p a h k w)
 
 -- The bound of a part is narrow.
-pub part-narrow : {job : Job} {C : Bound} {p a b : ℕ} → Valid job → C ≡ partBound job p a b → Narrow C
-part-narrow {p = p} {a} {b} v e = subst Narrow (sym e) (small-narrow (part-small v p a b))
+pub part-narrow : {job : Job} {C : Bound} (p a b : ℕ) → Valid job → C ≡ partBound job p a b → Narrow C
+part-narrow p a b v e = subst Narrow (sym e) (small-narrow (part-small v p a b))
 
 -- The least bid of the processors below p, 1/0 of none.
 unfoldable pub leastBefore : Job → Bound → ℕ → Bound

@@ -1,23 +1,23 @@
 -- The end of a part: what the search over prefix sums finds is as far as the part reaches.
 -- Assumes nothing.
-use Prim.Native.Nat.{ℕ, zero, suc, _+_, _-_, _*_, _/_, _^_, _≤_, _<_}
+use Prim.Native.Nat.{ℕ, suc, _+_, _-_, _*_, _/_, _^_, _≤_, _<_}
 use mathlib.Core.Path.{_≡_, sym, ap, subst, _∙_}
 use mathlib.Core.List.{List}
 use mathlib.Core.Logic.{inl, inr}
 use native.Mathlib.Omega.{arith}
 use native.Mathlib.Decide.{decLe}
 use native.Mathlib.Nat.{le-div-iff-mul-le}
-use lib.ListN.{length, getD}
+use lib.ListN.{getD}
 use Rattle.bound.specs.declared.Bound.{Bound}
 use Rattle.bound.specs.Order.{_≼_, _≺_}
 use Rattle.bound.proofs.Order.{open-le, make-le, le-or-lt, le-trans, not-both}
 use Rattle.chain.specs.Job.{Job, Valid, tasks, processors, speedOf, partLoad, partBound}
 use Rattle.chain.specs.Probe.{reach}
 use Rattle.chain.proofs.Parts.{Proper, valid-proper, part-right, part-real}
-use Rattle.chain.proofs.Walk.{reach-from, reach-to, reach-within, reach-past}
-use Rattle.chain.proofs.Ranges.{Small, Lendable, part-small, probe-products}
-use Rattle.parts.specs.Prefix.{Prefix, Ready}
-use Rattle.parts.proofs.Laws.{speed-read, prefix-split, prefix-grows, prefix-fits}
+use Rattle.chain.proofs.Walk.{reach-to, reach-within, reach-past}
+use Rattle.chain.proofs.Ranges.{Lendable, part-small, probe-products}
+use Rattle.parts.specs.Prefix.{Ready}
+use Rattle.parts.proofs.Laws.{speed-read, prefix-split, prefix-fits}
 use Rattle.probe.specs.Search.{LastAtMost}
 
 -- An index whose part is within the bound, while the part with one more task is not, is as far as the part reaches.

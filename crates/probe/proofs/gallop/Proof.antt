@@ -1,9 +1,9 @@
 -- `gallop` meets its contract: what was passed is at most the cap, and the step is one more than the way so far.
 -- Assumes nothing.
-use Prim.Native.Nat.{ℕ, _+_, _-_, _≤_, _<_}
+use Prim.Native.Nat.{_+_, _-_, _≤_}
 use mathlib.Core.Path.{_≡_}
 use native.Mathlib.Omega.{arith}
-use lib.ListN.{length, getD}
+use lib.ListN.{getD}
 use Rattle.probe.proofs.gallop.Statement.{statement}
 use Rattle.probe.proofs.gallop.Tie as tie
 

@@ -1,9 +1,8 @@
 -- `halve` meets its contract: the entry at the lower end is at most the cap, the one at the upper end is above it.
 -- Assumes nothing.
-use Prim.Native.Nat.{ℕ, suc, _+_, _-_, _≤_, _<_}
-use mathlib.Core.Path.{_≡_, subst}
+use Prim.Native.Nat.{_-_, _≤_, _<_}
 use native.Mathlib.Omega.{arith}
-use lib.ListN.{length, getD}
+use lib.ListN.{getD}
 use Rattle.probe.proofs.Search.{ends-met}
 use Rattle.probe.proofs.halve.Statement.{statement}
 use Rattle.probe.proofs.halve.Tie as tie

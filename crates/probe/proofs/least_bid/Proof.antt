@@ -15,12 +15,12 @@ part-bound-requires c κs = search needs
 lesser-bound-requires : tie.Need-lesser-bound-requires
 lesser-bound-requires c κs =
     let s = c .before .before .before .before .before in
-    (s .pre .1 .0, part-narrow (s .pre .0 .valid) (c .part-bound .ensures))
+    (s .pre .1 .0, part-narrow _ _ _ (s .pre .0 .valid) (c .part-bound .ensures))
 
 returns : tie.Need-returns
 returns c =
     let s = c .before .before .before .before .before .before in
-    bid-lesser (jobOf (s .args .weights .now) (s .args .speeds .now)) (s .pre .1 .1 .1) (s .pre .1 .1 .2) (c .before .before .one-more .ensures)
+    bid-lesser (jobOf (s .args .weights .now) (s .args .speeds .now)) (s .args .best) (s .args .p) (s .pre .1 .1 .1) (s .pre .1 .1 .2) (c .before .before .one-more .ensures)
     (c .before .part-bound .ensures) (c .lesser-bound .ensures)
 
 pub least-bid-spec : {M : Type 1} → statement M

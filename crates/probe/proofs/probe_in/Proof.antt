@@ -1,115 +1,121 @@
+-- `probe_in` meets its contract: the loop keeps `Walked`.
+-- Assumes nothing.
+use Prim.Native.Nat.{_-_}
+use mathlib.Core.Path.{sym, _∙_}
+use native.Mathlib.Omega.{arith}
+use lib.ListN.{length-set}
+use Rattle.chain.specs.Job.{jobOf}
+use Rattle.probe.proofs.Written.{Walked, walked-start, walked-turn, walked-end, answer-fits, answer-fails, index-fits, rest-products, end-after, end-inside}
+use Rattle.probe.proofs.Bids.{part-narrow}
 use Rattle.probe.proofs.probe_in.Statement.{statement}
 use Rattle.probe.proofs.probe_in.Tie as tie
-use Rattle.probe.proofs.probe_in.Reads as reads
-use Rattle.probe.proofs.probe_in.Lts as lts
-use Rattle.bound.proofs.Bound.at_most.Reads as at-most-reads
-use Rattle.parts.proofs.part_bound.Reads as part-bound-reads
-use Rattle.probe.proofs.least_bid.Reads as least-bid-reads
-use Rattle.probe.proofs.lesser_bound.Reads as lesser-bound-reads
-use Rattle.probe.proofs.narrow.Reads as narrow-reads
-use Rattle.probe.proofs.part_end.Reads as part-end-reads
 
 abbrev Inv-loop : tie.InvT-loop
-Inv-loop speeds weights sums bound separators₀ last n best₀ a₀ p₀ separators best a p = ?
+Inv-loop speeds weights sums bound separators₀ last n best₀ a₀ p₀ separators best a p =
+    Walked (jobOf weights speeds) bound separators₀ separators p a best
 
 abbrev μ-loop : tie.MeasureT-loop
-μ-loop speeds weights sums bound separators₀ last n best₀ a₀ p₀ separators best a p = ?
+μ-loop speeds weights sums bound separators₀ last n best₀ a₀ p₀ separators best a p = last - p
 
--- src/lib.rt:172:16
 sub-last : tie.Need-sub-last Inv-loop μ-loop
-sub-last c = ?
+sub-last c = omega arith
 
--- src/lib.rt:177:5
 loop-holds : tie.Need-loop-holds Inv-loop μ-loop
-loop-holds c = ?
+loop-holds c =
+    let s = c .before .before .before .before in
+    walked-start (jobOf (s .args .weights .now) (s .args .speeds .now)) (s .args .bound) (s .args .separators .now)
 
--- src/lib.rt:178:25
 narrow-requires : tie.Need-narrow-requires Inv-loop μ-loop
-narrow-requires c κs = ?
+narrow-requires c κs = index-fits (c .before .before .before .before .before .before .pre .0 .valid) (c .before .loop .inv .inside)
 
--- src/lib.rt:178:9
 mul-separators : tie.Need-mul-separators Inv-loop μ-loop
-mul-separators c = ?
+mul-separators c = omega arith
 
--- src/lib.rt:178:9
 slice-write-separators : tie.Need-slice-write-separators Inv-loop μ-loop
-slice-write-separators c = ?
+slice-write-separators c = omega (arith, c .before .before .loop .inv .front .same)
 
--- src/lib.rt:179:13
 part-end-requires : tie.Need-part-end-requires Inv-loop μ-loop
-part-end-requires c κs = ?
+part-end-requires c κs =
+    let s = c .before .before .before .before .before .before .before in
+    (s .pre .0, (s .pre .1 .0, (omega arith, c .before .before .loop .inv .inside)))
 
--- src/lib.rt:180:9
 least-bid-requires : tie.Need-least-bid-requires Inv-loop μ-loop
-least-bid-requires c κs = ?
+least-bid-requires c κs =
+    let s = c .before .before .before .before .before .before .before .before in
+    let w = c .before .before .before .loop .inv in
+    (s .pre .0, (w .small, (omega arith, end-after (s .pre .0 .valid) (s .pre .1 .1) w (c .part-end .ensures), end-inside (s .pre .0 .valid) (s .pre .1 .1) w (c .part-end .ensures))))
 
--- src/lib.rt:182:9
 add-p : tie.Need-add-p Inv-loop μ-loop
-add-p c = ?
+add-p c = omega arith
 
--- src/lib.rt:177:5
 loop-less : tie.Need-loop-less Inv-loop μ-loop
-loop-less c = ?
+loop-less c = omega arith
 
--- src/lib.rt:177:5
 loop-again : tie.Need-loop-again Inv-loop μ-loop
-loop-again c = ?
+loop-again c =
+    let s = c .before .before .before .before .before .before .before .before .before in
+    walked-turn (s .pre .0 .valid) (s .pre .1 .1) (c .before .before .before .before .loop .inv) (omega arith) (c .before .before .narrow .ensures)
+    (c .before .part-end .ensures) (c .least-bid .ensures)
 
--- src/lib.rt:184:21
 narrow-requires-2 : tie.Need-narrow-requires-2 Inv-loop μ-loop
-narrow-requires-2 c κs = ?
+narrow-requires-2 c κs = index-fits (c .before .before .before .before .before .before .pre .0 .valid) (c .before .loop .inv .inside)
 
--- src/lib.rt:184:5
 mul-separators-2 : tie.Need-mul-separators-2 Inv-loop μ-loop
-mul-separators-2 c = ?
+mul-separators-2 c = omega arith
 
--- src/lib.rt:184:5
 slice-write-separators-2 : tie.Need-slice-write-separators-2 Inv-loop μ-loop
-slice-write-separators-2 c = ?
+slice-write-separators-2 c = omega (arith, c .before .before .loop .inv .front .same)
 
--- src/lib.rt:185:25
 narrow-requires-3 : tie.Need-narrow-requires-3 Inv-loop μ-loop
-narrow-requires-3 c κs = ?
+narrow-requires-3 c κs = index-fits (c .before .before .before .before .before .before .before .pre .0 .valid) (omega arith)
 
--- src/lib.rt:185:16
 add-separators : tie.Need-add-separators Inv-loop μ-loop
-add-separators c = ?
+add-separators c = omega arith
 
--- src/lib.rt:185:5
 mul-separators-3 : tie.Need-mul-separators-3 Inv-loop μ-loop
-mul-separators-3 c = ?
+mul-separators-3 c = omega arith
 
--- src/lib.rt:185:5
 slice-write-separators-3 : tie.Need-slice-write-separators-3 Inv-loop μ-loop
-slice-write-separators-3 c = ?
+slice-write-separators-3 c = simp length-set (omega (arith, c .before .before .before .loop .inv .front .same))
 
--- src/lib.rt:186:9
 part-bound-requires : tie.Need-part-bound-requires Inv-loop μ-loop
-part-bound-requires c κs = ?
+part-bound-requires c κs =
+    let s = c .before .before .before .before .before .before .before .before in
+    (s .pre .0, (omega arith, c .before .before .before .loop .inv .inside, omega arith))
 
--- src/lib.rt:187:8
 at-most-requires : tie.Need-at-most-requires Inv-loop μ-loop
-at-most-requires c κs = ?
+at-most-requires c κs =
+    let s = c .before .before .before .before .before .before .before .before .before in
+    let h = rest-products _ _ _ (s .pre .0 .valid) (s .pre .1 .0) (c .part-bound .ensures) in
+    (omega arith, omega arith)
 
--- src/lib.rt:188:9
 same-length : tie.Need-same-length Inv-loop μ-loop
-same-length c = ?
+same-length c = simp length-set (c .before .before .before .before .before .before .loop .inv .front .same)
 
--- src/lib.rt:188:9
 returns : tie.Need-returns Inv-loop μ-loop
-returns c = ?
+returns c =
+    let s = c .before .before .before .before .before .before .before .before .before .before .before in
+    let w = c .before .before .before .before .before .before .loop .inv in (
+      answer-fits (s .pre .0 .valid) (s .pre .1 .1) w (omega arith) (c .before .before .part-bound .ensures) (sym (c .before .at-most .ensures) ∙ c .if1 .taken),
+      walked-end (s .pre .0 .valid) (s .pre .1 .1) w (omega arith) (c .before .before .before .before .narrow2 .ensures) (c .before .before .before .narrow3 .ensures),
+    )
 
--- src/lib.rt:190:20
 lesser-bound-requires : tie.Need-lesser-bound-requires Inv-loop μ-loop
-lesser-bound-requires c κs = ?
+lesser-bound-requires c κs =
+    let s = c .before .before .before .before .before .before .before .before .before .before .before in
+    let l = c .before .before .before .before .before .before .loop in
+    (l .inv .small, part-narrow _ _ _ (s .pre .0 .valid) (c .before .before .part-bound .ensures))
 
--- src/lib.rt:159:1
 same-length-2 : tie.Need-same-length-2 Inv-loop μ-loop
-same-length-2 c = ?
+same-length-2 c = simp length-set (c .before .before .before .before .before .before .before .loop .inv .front .same)
 
--- src/lib.rt:159:1
 returns-2 : tie.Need-returns-2 Inv-loop μ-loop
-returns-2 c = ?
+returns-2 c =
+    let s = c .before .before .before .before .before .before .before .before .before .before .before .before in
+    let w = c .before .before .before .before .before .before .before .loop .inv in (
+      answer-fails (s .pre .0 .valid) (s .pre .1 .1) w (omega arith) (c .before .before .before .part-bound .ensures) (sym (c .before .before .at-most .ensures) ∙ c .before .if1 .left) (c .lesser-bound .ensures),
+      walked-end (s .pre .0 .valid) (s .pre .1 .1) w (omega arith) (c .before .before .before .before .before .narrow2 .ensures) (c .before .before .before .before .narrow3 .ensures),
+    )
 
 pub probe-in-spec : {M : Type 1} → statement M
 probe-in-spec =
