@@ -7,6 +7,7 @@ use mathlib.Core.Logic.{inl, inr}
 use native.Mathlib.Omega.{arith}
 use native.Mathlib.Decide.{decLe}
 use native.Mathlib.Nat.{mul-le-mul}
+use native.Mathlib.Numerals.{add-one}
 use lib.Dec.{lit<}
 use Rattle.bound.specs.declared.Bound.{Bound}
 use Rattle.bound.specs.Order.{le, pick, greater, lesser}
@@ -29,13 +30,28 @@ greater-second : (B C : Bound) → le C B ≡ false → greater B C ≡ C
 unfolding greater
 greater-second B C e = ap (λ (t : Bool). pick t B C) e
 
-pub lesser-first : (B C : Bound) → le B C ≡ true → lesser B C ≡ B
+lesser-first : (B C : Bound) → le B C ≡ true → lesser B C ≡ B
 unfolding lesser
 lesser-first B C e = ap (λ (t : Bool). pick t B C) e
 
-pub lesser-second : (B C : Bound) → le B C ≡ false → lesser B C ≡ C
+lesser-second : (B C : Bound) → le B C ≡ false → lesser B C ≡ C
 unfolding lesser
 lesser-second B C e = ap (λ (t : Bool). pick t B C) e
+
+-- What the code's test of two bounds says of the bounds that they are.
+pub tested : {B C X Y : Bound} {r t : Bool} → B ≡ X → C ≡ Y → r ≡ le B C → r ≡ t → le X Y ≡ t
+tested e f h k = sym (ap₂ le e f) ∙ sym h ∙ k
+
+-- Two small bounds can be compared.
+pub small-products : {B C : Bound} → Small B → Small C → (B .load * C .speed < 2 ^ 64) × (C .load * B .speed < 2 ^ 64)
+small-products s t = probe-products s (small-lendable t)
+
+pub small-same : {B C : Bound} → B ≡ C → Small C → Small B
+small-same e s = subst Small (sym e) s
+
+-- The code's p + 1 is the processor after p.
+pub next-part : (job : Job) (p a b : ℕ) → partBound job (p + 1) a b ≡ partBound job (suc p) a b
+next-part job p a b = ap (λ (q : ℕ). partBound job q a b) (add-one p)
 
 -- Pointers of all rows make no more moves than 32 bits count.
 moves-limit : maxProcessors * maxTasks < 2 ^ 32
@@ -53,15 +69,6 @@ module _ {job : Job} (v : Valid job) where
           → Small (tableValue job (suc p) i)
       go row (j, l, e) =
           subst Small (sym e) (greater-cases Small (tableValue job p j) (partBound job (suc p) j i) (row j) (part-small v (suc p) j i))
-
-  -- The products of a comparison of a part with a value fit, and of a value with a part.
-  pub part-value-products : (q a b p i : ℕ)
-      → ((partBound job q a b) .load * (tableValue job p i) .speed < 2 ^ 64) × ((tableValue job p i) .load * (partBound job q a b) .speed < 2 ^ 64)
-  part-value-products q a b p i = probe-products (part-small v q a b) (small-lendable (table-small p i))
-
-  pub value-part-products : (q a b p i : ℕ)
-      → ((tableValue job p i) .load * (partBound job q a b) .speed < 2 ^ 64) × ((partBound job q a b) .load * (tableValue job p i) .speed < 2 ^ 64)
-  value-part-products q a b p i = probe-products (table-small p i) (small-lendable (part-small v q a b))
 
   -- The moves of the first p rows, and what one row more can add, fit 32 bits.
   moves-so-far : (p : ℕ) → sumTo (λ q. movesTo job q (tasks job)) p ≤ p * tasks job
@@ -112,7 +119,7 @@ module _ (job : Job) (p i : ℕ) where
   value-first e =
       sym (ap (lesserAt (candidate job (tableValue job p) (suc p) i)) e ∙ greater-first (tableValue job p 0) (partBound job (suc p) 0 i) (subst (λ (k : ℕ). stops k ≡ true) e crossing-stops))
 
-  pub value-later : (c : ℕ) → crossing job p i ≡ suc c
+  value-later : (c : ℕ) → crossing job p i ≡ suc c
       → tableValue job (suc p) i ≡ lesser (tableValue job p (suc c)) (partBound job (suc p) c i)
   unfolding tableValue crossing lesserAt candidate
   value-later c e =
@@ -121,8 +128,18 @@ module _ (job : Job) (p i : ℕ) where
       (greater-first (tableValue job p (suc c)) (partBound job (suc p) (suc c) i) (subst (λ (k : ℕ). stops k ≡ true) e crossing-stops))
       (greater-second (tableValue job p c) (partBound job (suc p) c i) (crossing-is .before c (omega arith) (omega arith)))
 
-  pub value-here : (at : ℕ) → at ≡ crossing job p i → (at ≡ 0 → ⊥)
+  value-here : (at : ℕ) → at ≡ crossing job p i → (at ≡ 0 → ⊥)
       → tableValue job (suc p) i ≡ lesser (tableValue job p at) (partBound job (suc p) (at - 1) i)
   value-here at e n =
       let s : suc (at - 1) ≡ at = omega arith in
       value-later (at - 1) (sym e ∙ sym s) ∙ ap (λ (k : ℕ). lesser (tableValue job p k) (partBound job (suc p) (at - 1) i)) s
+
+  pub value-at-crossing : (at : ℕ) → at ≡ crossing job p i → (at ≡ 0 → ⊥)
+      → le (tableValue job p at) (partBound job (suc p) (at - 1) i) ≡ true → tableValue job p at ≡ tableValue job (suc p) i
+  value-at-crossing at e n t =
+      sym (value-here at e n ∙ lesser-first (tableValue job p at) (partBound job (suc p) (at - 1) i) t)
+
+  pub value-before-crossing : (at : ℕ) → at ≡ crossing job p i → (at ≡ 0 → ⊥)
+      → le (tableValue job p at) (partBound job (suc p) (at - 1) i) ≡ false → partBound job (suc p) (at - 1) i ≡ tableValue job (suc p) i
+  value-before-crossing at e n t =
+      sym (value-here at e n ∙ lesser-second (tableValue job p at) (partBound job (suc p) (at - 1) i) t)

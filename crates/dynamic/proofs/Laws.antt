@@ -51,15 +51,16 @@ pub writing-start : (job : Job) (xs : List ℕ) (o q : ℕ) → Writing job xs x
 writing-start job xs o q =
     record { to = omega arith; row = row-none job xs o q; kept = kept-refl o (2 * suc (tasks job)) xs }
 
-pub writing-turn : {job : Job} {xs ys : List ℕ} {o q i : ℕ} (B : Bound) → Writing job xs ys o q i → o + 2 * suc (tasks job) ≤ length xs
-    → i ≤ tasks job → B ≡ tableValue job q i → Writing job xs (stored ys o i B) o q (i + 1)
-writing-turn {job} {xs} {ys} {o} {q} {i} B w h l e =
-    record {
+pub writing-turn : {job : Job} {xs ys zs : List ℕ} {o q i : ℕ} {B : Bound} → Writing job xs ys o q i → o + 2 * suc (tasks job) ≤ length xs
+    → i ≤ tasks job → zs ≡ stored ys o i B → B ≡ tableValue job q i → Writing job xs zs o q (i + 1)
+writing-turn {job} {xs} {ys} {zs} {o} {q} {i} {B} w h l f e =
+    subst (λ (l : List ℕ). Writing job xs l o q (i + 1)) (sym f)
+    (record {
       to = omega arith;
       row =
           subst (RowAt job (stored ys o i B) o q) (sym (add-one i)) (row-stored B (w .row) (omega (arith, w .kept .same)) e);
       kept = kept-stored i B (omega arith) (w .kept);
-    }
+    })
 
 pub writing-row : {job : Job} {xs ys : List ℕ} {o q i : ℕ} → Writing job xs ys o q i → tasks job < i → RowAt job ys o q (suc (tasks job))
 writing-row {job} {xs} {ys} {o} {q} {i} w h =
@@ -97,14 +98,14 @@ unfolding passed
 filling-start {job} xs o p e =
     record { writing = writing-start job xs o (suc p); pointer = e; carried = omega arith }
 
-pub filling-turn : {job : Job} {xs ys : List ℕ} {o p count i at counted at′ counted′ : ℕ} (B : Bound)
+pub filling-turn : {job : Job} {xs ys zs : List ℕ} {o p count i at counted at′ counted′ : ℕ} {B : Bound}
     → Filling job xs ys o p count i at counted → o + 2 * suc (tasks job) ≤ length xs → i ≤ tasks job
-    → Advanced job p i at counted at′ counted′ → B ≡ tableValue job (suc p) i
-    → Filling job xs (stored ys o i B) o p count (i + 1) at′ counted′
+    → Advanced job p i at counted at′ counted′ → zs ≡ stored ys o i B → B ≡ tableValue job (suc p) i
+    → Filling job xs zs o p count (i + 1) at′ counted′
 unfolding passed
-filling-turn {job} {xs} {ys} {o} {p} {count} {i} {at} {counted} {at′} B w h l a e =
+filling-turn {job} {xs} {ys} {zs} {o} {p} {count} {i} {at} {counted} {at′} w h l a f e =
     record {
-      writing = writing-turn B (w .writing) h l e;
+      writing = writing-turn (w .writing) h l f e;
       pointer = a .arrived ∙ sym (ap (passed job p) (add-one i));
       carried = omega (arith, a .carried, w .carried);
     }
@@ -130,3 +131,65 @@ pub record Tabling (job : Job) (xs ys : List ℕ) (row other p counted : ℕ) : 
   pub below : p < processors job
   pub kept : Kept (suc (tasks job)) (4 * suc (tasks job)) xs ys
   pub carried : counted ≡ sumTo (λ q. movesTo job q (tasks job)) p
+
+pub tabling-start : {job : Job} {xs ys : List ℕ} {row other : ℕ} → Ready job xs → Places (suc (tasks job)) row other (length xs)
+    → FirstRow job xs ys row → Tabling job ys ys row other 0 0
+unfolding sumTo
+tabling-start {job} {xs} {ys} {row} {other} r l f =
+    record {
+      ready = kept-ready (f .kept) (l .a-low) r;
+      current = f .row;
+      places = subst (Places (suc (tasks job)) row other) (sym (f .kept .same)) l;
+      below = r .valid .some-processor;
+      kept = kept-refl (suc (tasks job)) (4 * suc (tasks job)) ys;
+      carried = refl;
+    }
+
+-- What the next row is made from.
+pub tabling-row : {job : Job} {xs ys : List ℕ} {row other p counted : ℕ} → Tabling job xs ys row other p counted → p + 1 < processors job
+    → RowReady job ys row p
+tabling-row w h =
+    record {
+      ready = w .ready;
+      row = w .current;
+      inside = omega (arith, w .places .a-high, w .places .enough);
+      next = omega arith;
+    }
+
+pub tabling-turn : {job : Job} {xs ys zs : List ℕ} {row other p count counted : ℕ} → Tabling job xs ys row other p count
+    → p + 1 < processors job → Filled job ys zs other p count counted → Tabling job xs zs other row (p + 1) counted
+unfolding sumTo
+tabling-turn {job} {xs} {ys} {zs} {row} {other} {p} {count} {counted} w h f =
+    record {
+      ready = kept-ready (f .kept) (w .places .b-low) (w .ready);
+      current = subst (λ (q : ℕ). RowAt job zs other q (suc (tasks job))) (sym (add-one p)) (f .row);
+      places = subst (Places (suc (tasks job)) other row) (sym (f .kept .same)) (places-swap (w .places));
+      below = h;
+      kept =
+          kept-trans (w .kept)
+          (kept-wider (suc (tasks job)) (4 * suc (tasks job)) (w .places .b-low) (omega (arith, w .places .b-high)) (f .kept));
+      carried =
+          f .carried ∙ ap (λ (n : ℕ). n + movesTo job p (tasks job)) (w .carried) ∙ sym (ap (sumTo (λ q. movesTo job q (tasks job))) (add-one p));
+    }
+
+pub tabling-end : {job : Job} {xs ys zs : List ℕ} {first row other p counted : ℕ} {B : Bound} → Tabling job ys zs row other p counted
+    → processors job ≤ p + 1 → FirstRow job xs ys first → suc (tasks job) ≡ first → B ≡ entryAt zs row (tasks job)
+    → Tabled job xs zs B counted
+unfolding moves
+tabling-end {job} {xs} {ys} {zs} {first} {row} {other} {p} {counted} {B} w h f g e =
+    record {
+      value = e ∙ w .current .entries n (omega arith) ∙ ap (λ (q : ℕ). tableValue job q n) at-last;
+      counted = w .carried ∙ ap (sumTo (λ q. movesTo job q n)) at-last;
+      sums = kept-take (suc n) all-kept (omega arith);
+      rest = kept-drop (5 * suc n) all-kept (omega arith);
+      same = all-kept .same;
+    }
+  where
+    n : ℕ
+    n = tasks job
+
+    at-last : p ≡ last job
+    at-last = omega (arith, w .below)
+
+    all-kept : Kept (suc n) (4 * suc n) xs zs
+    all-kept = kept-trans (kept-wider (suc n) (4 * suc n) (omega arith) (omega arith) (f .kept)) (w .kept)

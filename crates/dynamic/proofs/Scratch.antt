@@ -107,14 +107,14 @@ row-stored {job} {xs} {o} {p} {i} B r h e =
     new k x = subst (λ (n : ℕ). entryAt (stored xs o i B) o n ≡ tableValue job p n) x (stored-here xs o i B h ∙ e)
 
 -- The places of the rows: the first behind the prefix sums, the second behind it; they may be swapped.
-pub places-start : (n size : ℕ) → 5 * n ≤ size → Places n n (3 * n) size
-places-start n size h =
+pub places-start : {n a b size : ℕ} → a ≡ n → b ≡ 3 * n → 5 * n ≤ size → Places n a b size
+places-start e f h =
     record {
       a-low = omega arith;
       b-low = omega arith;
       a-high = omega arith;
       b-high = omega arith;
-      apart = λ k a b c d. omega arith;
+      apart = λ k x y u v. omega arith;
       enough = h;
     }
 

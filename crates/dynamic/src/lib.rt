@@ -8,7 +8,8 @@ ghost use Rattle.chain.specs.Dynamic.{tableValue, crossing};
 ghost use Rattle.parts.specs.Prefix.{Ready};
 ghost use Rattle.dynamic.specs.Rows.{entryAt, stored, RowReady, Places, Advanced, Filled, FirstRow, Tabled};
 use bound::Bound;
-use parts::{part_bound, wide};
+use parts::part_bound;
+use parts::wide;
 
 // The least bottleneck, and the pointer's moves.
 pub struct Found {
@@ -56,7 +57,7 @@ fn advance(
     start: Pointer,
 ) -> Pointer
     requires { ⌜ RowReady (jobOf (now weights) (now speeds)) (now scratch) before p ⌝ }
-    requires { ⌜ (i ≤ length (now weights)) × (start .at ≤ crossing (jobOf (now weights) (now speeds)) p i) × (start .moves + length (now weights) < 2 ^ 32) ⌝ }
+    requires { ⌜ (i ≤ length (now weights)) × (start .at ≤ crossing (jobOf (now weights) (now speeds)) p i) × (start .moves + i < 2 ^ 32 + start .at) ⌝ }
     ensures { λ r. ⌜ Advanced (jobOf (now (weights .entry)) (now (speeds .entry))) p i (start .at) (start .moves) (r .at) (r .moves) ⌝ }
 {
     let next = p + 1;

@@ -1,60 +1,82 @@
+-- `advance` meets its contract: the loop keeps `Moving`.
+-- Assumes nothing.
+use Prim.Native.Nat.{ℕ, suc, _+_, _-_}
+use mathlib.Core.Path.{_≡_, _∙_}
+use mathlib.Core.Bool.{Bool}
+use native.Mathlib.Omega.{arith}
+use Rattle.bound.specs.Order.{le}
+use Rattle.chain.specs.Job.{Job, jobOf, partBound}
+use Rattle.chain.specs.Dynamic.{tableValue}
+use Rattle.chain.proofs.Ranges.{part-small}
+use Rattle.chain.proofs.Parts.{valid-proper}
+use Rattle.chain.proofs.Table.{crossing-le}
+use Rattle.dynamic.proofs.Crossing.{table-small, tested, small-products, small-same, next-part}
+use Rattle.dynamic.proofs.Laws.{Moving, moving-start, moving-turn, moving-stop, moving-end}
 use Rattle.dynamic.proofs.advance.Statement.{statement}
 use Rattle.dynamic.proofs.advance.Tie as tie
-use Rattle.dynamic.proofs.advance.Reads as reads
-use Rattle.dynamic.proofs.advance.Lts as lts
-use Rattle.bound.proofs.Bound.at_most.Reads as at-most-reads
-use Rattle.dynamic.proofs.entry.Reads as entry-reads
-use Rattle.parts.proofs.part_bound.Reads as part-bound-reads
 
 abbrev Inv-loop : tie.InvT-loop
-Inv-loop speeds weights scratch before p i next at₀ moves₀ at moves = ?
+Inv-loop speeds weights scratch before p i next at₀ moves₀ at moves = Moving (jobOf weights speeds) p i at₀ moves₀ at moves
 
 abbrev μ-loop : tie.MeasureT-loop
-μ-loop speeds weights scratch before p i next at₀ moves₀ at moves = ?
+μ-loop speeds weights scratch before p i next at₀ moves₀ at moves = i - at
 
--- src/lib.rt:62:16
 add-next : tie.Need-add-next Inv-loop μ-loop
-add-next c = ?
+add-next c = omega arith
 
--- src/lib.rt:65:5
 loop-holds : tie.Need-loop-holds Inv-loop μ-loop
-loop-holds c = ?
+loop-holds c = moving-start (c .before .before .before .pre .1 .1)
 
--- src/lib.rt:66:13
 part-bound-requires : tie.Need-part-bound-requires Inv-loop μ-loop
-part-bound-requires c κs = ?
+part-bound-requires c κs = let s = c .before .before .before .before .before in (s .pre .0 .ready, omega arith)
 
--- src/lib.rt:67:33
 entry-requires : tie.Need-entry-requires Inv-loop μ-loop
-entry-requires c κs = ?
+entry-requires c κs = omega (arith, c .before .before .before .before .before .before .pre .0 .inside)
 
--- src/lib.rt:67:12
+-- The two bounds that are compared.
+module _ (c : tie.After-entry Inv-loop μ-loop) where
+  abbrev start : tie.Start Inv-loop μ-loop
+  start = c .before .before .before .before .before .before .before
+
+  abbrev job : Job
+  job = jobOf (start .args .weights .now) (start .args .speeds .now)
+
+  abbrev at : ℕ
+  at = c .before .before .before .loop .at
+
+  part-is : c .before .part-bound .result ≡ partBound job (suc (start .args .p)) at (start .args .i)
+  part-is = c .before .part-bound .ensures ∙ next-part job (start .args .p) at (start .args .i)
+
+  value-is : c .entry .result ≡ tableValue job (start .args .p) at
+  value-is = c .entry .ensures ∙ start .pre .0 .row .entries at (omega arith)
+
 at-most-requires : tie.Need-at-most-requires Inv-loop μ-loop
-at-most-requires c κs = ?
+at-most-requires c κs =
+    let s = start c in
+    let v = s .pre .0 .ready .valid in
+    small-products (small-same (part-is c) (part-small v (suc (s .args .p)) (at c) (s .args .i))) (small-same (value-is c) (table-small v (s .args .p) (at c)))
 
--- src/lib.rt:68:13
 returns : tie.Need-returns Inv-loop μ-loop
-returns c = ?
+returns c =
+    moving-stop (c .before .before .before .before .before .loop .inv)
+    (tested (part-is (c .before .before)) (value-is (c .before .before)) (c .before .at-most .ensures) (c .if1 .taken))
 
--- src/lib.rt:70:9
 add-at : tie.Need-add-at Inv-loop μ-loop
-add-at c = ?
+add-at c = omega arith
 
--- src/lib.rt:71:9
 add-moves : tie.Need-add-moves Inv-loop μ-loop
-add-moves c = ?
+add-moves c = omega arith
 
--- src/lib.rt:65:5
 loop-less : tie.Need-loop-less Inv-loop μ-loop
-loop-less c = ?
+loop-less c = omega arith
 
--- src/lib.rt:65:5
 loop-again : tie.Need-loop-again Inv-loop μ-loop
-loop-again c = ?
+loop-again c =
+    moving-turn (c .before .before .before .before .before .loop .inv)
+    (tested (part-is (c .before .before)) (value-is (c .before .before)) (c .before .at-most .ensures) (c .if1 .left))
 
--- src/lib.rt:49:1
 returns-2 : tie.Need-returns-2 Inv-loop μ-loop
-returns-2 c = ?
+returns-2 c = moving-end (c .before .before .before .before .before .pre .0 .ready .valid) (c .before .loop .inv) (omega arith)
 
 pub advance-spec : {M : Type 1} → statement M
 advance-spec =

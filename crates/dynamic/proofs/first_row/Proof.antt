@@ -1,47 +1,58 @@
+-- `first_row` meets its contract: the loop keeps `Writing`.
+-- Assumes nothing.
+use Prim.Native.Nat.{ℕ, suc, _+_, _-_, _*_}
+use mathlib.Core.Path.{_≡_, sym, subst, _∙_}
+use mathlib.Core.List.{List}
+use native.Mathlib.Omega.{arith}
+use lib.ListN.{length}
+use Rattle.chain.specs.Job.{Job, jobOf, partBound}
+use Rattle.chain.specs.Dynamic.{tableValue}
+use Rattle.chain.proofs.Ranges.{part-small, small-fits}
+use Rattle.dynamic.proofs.Crossing.{small-same}
+use Rattle.dynamic.proofs.Scratch.{kept-ready}
+use Rattle.dynamic.proofs.Laws.{Writing, writing-start, writing-turn, writing-row}
 use Rattle.dynamic.proofs.first_row.Statement.{statement}
 use Rattle.dynamic.proofs.first_row.Tie as tie
-use Rattle.dynamic.proofs.first_row.Reads as reads
-use Rattle.dynamic.proofs.first_row.Lts as lts
-use Rattle.dynamic.proofs.put.Reads as put-reads
-use Rattle.parts.proofs.part_bound.Reads as part-bound-reads
 
 abbrev Inv-loop : tie.InvT-loop
-Inv-loop speeds weights scratch₀ row i₀ scratch i = ?
+Inv-loop speeds weights scratch₀ row i₀ scratch i = Writing (jobOf weights speeds) scratch₀ scratch row 0 i
 
 abbrev μ-loop : tie.MeasureT-loop
-μ-loop speeds weights scratch₀ row i₀ scratch i = ?
+μ-loop speeds weights scratch₀ row i₀ scratch i = suc (length weights) - i
 
--- src/lib.rt:136:5
 loop-holds : tie.Need-loop-holds Inv-loop μ-loop
-loop-holds c = ?
+loop-holds c =
+    let a = c .before .before .before .args in
+    writing-start (jobOf (a .weights .now) (a .speeds .now)) (a .scratch .now) (a .row) 0
 
--- src/lib.rt:137:13
 part-bound-requires : tie.Need-part-bound-requires Inv-loop μ-loop
-part-bound-requires c κs = ?
+part-bound-requires c κs =
+    let s = c .before .before .before .before .before .before in
+    (kept-ready (c .before .before .loop .inv .kept) (s .pre .1 .0) (s .pre .0), omega (arith, s .pre .0 .valid .some-processor))
 
--- src/lib.rt:138:9
 put-requires : tie.Need-put-requires Inv-loop μ-loop
-put-requires c κs = ?
+put-requires c κs =
+    let s = c .before .before .before .before .before .before .before .before in
+    let i = c .before .before .before .before .loop .i in
+    (omega (arith, c .before .before .before .before .loop .inv .kept .same), small-fits (small-same (c .before .part-bound .ensures) (part-small (s .pre .0 .valid) 0 0 i)))
 
--- src/lib.rt:139:9
 add-i : tie.Need-add-i Inv-loop μ-loop
-add-i c = ?
+add-i c = omega arith
 
--- src/lib.rt:136:5
 loop-less : tie.Need-loop-less Inv-loop μ-loop
-loop-less c = ?
+loop-less c = omega arith
 
--- src/lib.rt:136:5
 loop-again : tie.Need-loop-again Inv-loop μ-loop
-loop-again c = ?
+unfolding tableValue
+loop-again c =
+    let s = c .before .before .before .before .before .before .before .before .before .before .before in
+    writing-turn (c .before .before .before .before .before .before .before .loop .inv) (s .pre .1 .1) (omega arith) (c .before .before .put .ensures) (c .before .before .before .before .part-bound .ensures)
 
--- src/lib.rt:130:1
 same-length : tie.Need-same-length Inv-loop μ-loop
-same-length c = ?
+same-length c = c .before .loop .inv .kept .same
 
--- src/lib.rt:130:1
 returns : tie.Need-returns Inv-loop μ-loop
-returns c = ?
+returns c = record { row = writing-row (c .before .loop .inv) (omega arith); kept = c .before .loop .inv .kept }
 
 pub first-row-spec : {M : Type 1} → statement M
 first-row-spec =
