@@ -7,7 +7,7 @@ use native.Mathlib.Omega.{arith}
 use native.Mathlib.Decide.{decLe}
 use native.Mathlib.Numerals.{add-one}
 use lib.ListN.{length, getD, set, drop, length-append, length-drop, length-set}
-use lib.Seq.{getD-set-same, getD-set-other, getD-drop, ext-getD}
+use lib.Seq.{getD-set-same, getD-set-other, getD-drop, drop-at, ext-getD}
 use Rattle.chain.specs.Lists.{tabulate}
 use Rattle.chain.proofs.Indices.{length-tabulate, at-tabulate, after-tabulate}
 
@@ -64,3 +64,23 @@ front-of f n xs h =
           ap (λ (i : ℕ). getD (tabulate f n ++ drop n xs) i 0) (let e : k ≡ n + (k - n) = omega arith in e)
           ∙ after-tabulate f n (drop n xs) (k - n) ∙ getD-drop n xs (k - n) 0 ∙ ap (λ (i : ℕ). getD xs i 0) (let e : n + (k - n) ≡ k = omega arith in e);
     }
+
+-- What is behind the first n entries is as it was.
+pub record Behind (n : ℕ) (before now : List ℕ) : Type 0 where
+  pub same : length now ≡ length before
+  pub rest : drop n now ≡ drop n before
+
+pub behind-start : (n : ℕ) (xs : List ℕ) → Behind n xs xs
+behind-start n xs = record { same = refl; rest = refl }
+
+-- It stays so where n entries are put in front, and it is then the new list's rest.
+pub behind-written : {n : ℕ} {before now : List ℕ} (new later : List ℕ) → Behind n before now → n ≤ length before → length new ≡ n → later ≡ new ++ drop n now
+    → Behind n before later
+behind-written {n} {before} {now} new later b h l e =
+    record {
+      same = omega (arith, ap length e, length-append new (drop n now), length-drop n now, b .same);
+      rest = ap (drop n) e ∙ drop-at new (drop n now) n l ∙ b .rest;
+    }
+
+pub behind-is : {n : ℕ} {before now later : List ℕ} (new : List ℕ) → Behind n before now → later ≡ new ++ drop n now → later ≡ new ++ drop n before
+behind-is {n} new b e = e ∙ ap (λ (l : List ℕ). new ++ l) (b .rest)

@@ -8,6 +8,12 @@ ghost use Rattle.chain.specs.Job.{jobOf, Valid, Partition, partBound, bottlenec
 ghost use Rattle.parts.specs.Prefix.{prefixes, Ready};
 use bound::Bound;
 
+// What a method ends with: the bottleneck found, and the count of its moves or trials.
+pub struct Found {
+    pub bound: Bound,
+    pub count: u32,
+}
+
 // A number of 32 bits as one of 64.
 pub fn wide(x: u32) -> u64
     ensures { λ r. ⌜ r ≡ x ⌝ }

@@ -7,18 +7,21 @@ use mathlib.Core.List.{List}
 use native.Mathlib.Omega.{arith}
 use native.Mathlib.Decide.{decLe}
 use native.Mathlib.Numerals.{add-one}
-use lib.Dec.{T, T-not}
+use lib.Dec.{T}
+use lib.ListN.{length}
 use Rattle.bound.specs.declared.Bound.{Bound}
 use Rattle.bound.specs.Order.{_≼_, _≺_, middle, le}
 use Rattle.bound.proofs.Order.{le-true}
 use Rattle.chain.specs.Lists.{isFirst, digits}
-use Rattle.chain.specs.Job.{Job, Valid, tasks, last, ideal, bottleneck}
+use Rattle.chain.specs.Job.{Job, Valid, tasks, processors, last, ideal, bottleneck}
 use Rattle.chain.specs.Probe.{walk, fits, nextBid}
 use Rattle.chain.specs.Heuristic.{heuristic}
 use Rattle.chain.specs.Search.{Ends, bidding, firstEnds, narrow, ends, meet}
 use Rattle.chain.specs.Plan.{BiddingEnds, BisectionEnds, at-once, after, difference}
 use Rattle.chain.proofs.Parts.{valid-proper}
 use Rattle.chain.proofs.Indices.{first-of}
+use Rattle.chain.proofs.Bottleneck.{processors-last}
+use Rattle.chain.proofs.Walk.{walk-length}
 use Rattle.chain.proofs.Bidding.{failures-below}
 use Rattle.chain.proofs.Bisection.{Bracket, bracket-after, low-high, rounds-below}
 use Rattle.chain.proofs.Ranges.{Small, Lendable, small-lendable, ideal-lendable, bottleneck-small, next-bid-small}
@@ -27,6 +30,10 @@ use Rattle.figures.proofs.Laws.{count-fits, digits-fit}
 -- What holds at each index below k and at k holds below k + 1.
 below-next : {Q : ℕ → Type 0} {k : ℕ} → ((j : ℕ) → j < k → Q j) → Q k → (j : ℕ) → j < suc k → Q j
 below-next {Q} {k} h x j l = elim (decLe (suc j) k) [ yes m ↦ h j m | no m ↦ subst Q (let e : k ≡ j = omega arith in e) x ]
+
+-- The walk has P + 1 separators.
+pub walk-count : {job : Job} → Valid job → (B : Bound) → length (walk job B) ≡ suc (processors job)
+walk-count {job} v B = walk-length job B ∙ ap suc (sym (processors-last (valid-proper v)))
 
 -- Bidding after k failures: the bound to try next, and the count of failures.
 pub record Bidden (job : Job) (bound : Bound) (count : ℕ) : Type 0 where
@@ -57,10 +64,10 @@ unfolding bidding
 bidden-next {job} {bound} {count} new v b t e =
     subst (Bidden job new) (sym (add-one count))
     (record {
-       is = e ∙ ap (nextBid job) (b .is);
-       failed = below-next {Q = λ j. T (not (fits job (bidding job j)))} (b .failed) (subst (λ (B : Bound). T (not (fits job B))) (b .is) t);
-       lendable = subst Lendable (sym e) (small-lendable (next-bid-small v bound))
-     })
+      is = e ∙ ap (nextBid job) (b .is);
+      failed = below-next {Q = λ j. T (not (fits job (bidding job j)))} (b .failed) (subst (λ (B : Bound). T (not (fits job B))) (b .is) t);
+      lendable = subst Lendable (sym e) (small-lendable (next-bid-small v bound));
+    })
 
 pub bidden-end : {job : Job} {bound : Bound} {count : ℕ} → Bidden job bound count → T (fits job bound) → BiddingEnds job (count + 1) bound
 bidden-end {job} {bound} {count} b t =
@@ -68,7 +75,7 @@ bidden-end {job} {bound} {count} b t =
       failures = count;
       first-fit = first-of (λ k. fits job (bidding job k)) count (subst (λ (B : Bound). T (fits job B)) (b .is) t) (b .failed);
       counted = add-one count;
-      yields = b .is
+      yields = b .is;
     }
 
 -- A test that passes, and one that fails.
@@ -88,9 +95,10 @@ narrow-fits job E t = ap turn (passes (fits job (middle (E .low) (E .high))) t)
   where
     turn : Bool → Ends
     turn x =
-        elim x
-        [ true ↦ record { low = E .low; high = bottleneck job (walk job (middle (E .low) (E .high))) }
-        | false ↦ record { low = nextBid job (middle (E .low) (E .high)); high = E .high } ]
+        elim x [
+          | true ↦ record { low = E .low; high = bottleneck job (walk job (middle (E .low) (E .high))) }
+          | false ↦ record { low = nextBid job (middle (E .low) (E .high)); high = E .high }
+        ]
 
 narrow-fails : (job : Job) (E : Ends) → T (not (fits job (middle (E .low) (E .high))))
     → narrow job E ≡ record { low = nextBid job (middle (E .low) (E .high)); high = E .high }
@@ -99,9 +107,10 @@ narrow-fails job E t = ap turn (rejects (fits job (middle (E .low) (E .high))) t
   where
     turn : Bool → Ends
     turn x =
-        elim x
-        [ true ↦ record { low = E .low; high = bottleneck job (walk job (middle (E .low) (E .high))) }
-        | false ↦ record { low = nextBid job (middle (E .low) (E .high)); high = E .high } ]
+        elim x [
+          | true ↦ record { low = E .low; high = bottleneck job (walk job (middle (E .low) (E .high))) }
+          | false ↦ record { low = nextBid job (middle (E .low) (E .high)); high = E .high }
+        ]
 
 -- Bisection after k rounds: the two ends, and the count of trials, the first included.
 pub record Halved (job : Job) (low high : Bound) (rounds : ℕ) : Type 0 where
@@ -122,7 +131,7 @@ halved-start {job} v t l h =
       apart = λ j x. absurd (let z : ⊥ = omega arith in z);
       failed = t;
       low-small = subst Small (sym l) (next-bid-small v (ideal job));
-      high-small = subst Small (sym h) (bottleneck-small v (heuristic job))
+      high-small = subst Small (sym h) (bottleneck-small v (heuristic job));
     }
 
 module _ {job : Job} (v : Valid job) {low high : Bound} {k : ℕ} (w : Halved job low high k) where
@@ -153,13 +162,13 @@ module _ {job : Job} (v : Valid job) {low high : Bound} {k : ℕ} (w : Halved jo
   halved-high new e t n =
       subst (Halved job low new) (sym (add-one k))
       (record {
-         low-is = w .low-is ∙ sym (ap (λ (E : Ends). E .low) step);
-         high-is = n ∙ ap (λ (M : Bound). bottleneck job (walk job M)) middle-is ∙ sym (ap (λ (E : Ends). E .high) step);
-         apart = below-next {Q = λ j. T (not (meet (ends job j)))} (w .apart) (not-met e);
-         failed = w .failed;
-         low-small = w .low-small;
-         high-small = subst Small (sym n) (bottleneck-small v (walk job (middle low high)))
-       })
+        low-is = w .low-is ∙ sym (ap (λ (E : Ends). E .low) step);
+        high-is = n ∙ ap (λ (M : Bound). bottleneck job (walk job M)) middle-is ∙ sym (ap (λ (E : Ends). E .high) step);
+        apart = below-next {Q = λ j. T (not (meet (ends job j)))} (w .apart) (not-met e);
+        failed = w .failed;
+        low-small = w .low-small;
+        high-small = subst Small (sym n) (bottleneck-small v (walk job (middle low high)));
+      })
     where
       step : narrow job (ends job k)
           ≡ record { low = (ends job k) .low; high = bottleneck job (walk job (middle ((ends job k) .low) ((ends job k) .high))) }
@@ -171,13 +180,13 @@ module _ {job : Job} (v : Valid job) {low high : Bound} {k : ℕ} (w : Halved jo
   halved-low new e t n =
       subst (Halved job new high) (sym (add-one k))
       (record {
-         low-is = n ∙ ap (nextBid job) middle-is ∙ sym (ap (λ (E : Ends). E .low) step);
-         high-is = w .high-is ∙ sym (ap (λ (E : Ends). E .high) step);
-         apart = below-next {Q = λ j. T (not (meet (ends job j)))} (w .apart) (not-met e);
-         failed = w .failed;
-         low-small = subst Small (sym n) (next-bid-small v (middle low high));
-         high-small = w .high-small
-       })
+        low-is = n ∙ ap (nextBid job) middle-is ∙ sym (ap (λ (E : Ends). E .low) step);
+        high-is = w .high-is ∙ sym (ap (λ (E : Ends). E .high) step);
+        apart = below-next {Q = λ j. T (not (meet (ends job j)))} (w .apart) (not-met e);
+        failed = w .failed;
+        low-small = subst Small (sym n) (next-bid-small v (middle low high));
+        high-small = w .high-small;
+      })
     where
       step : narrow job (ends job k)
           ≡ record { low = nextBid job (middle ((ends job k) .low) ((ends job k) .high)); high = (ends job k) .high }
