@@ -12,7 +12,7 @@ use native.Mathlib.Nat.{lt-of-le-of-lt, le-trans, mul-le-mul}
 use lib.Dec.{leb, lit<}
 use lib.ListN.{length, getD, set, take, drop, length-append, length-set, length-take}
 use lib.Seq.{getD-set-same, drop-set-lt, getD-take, ext-getD, length-take-le}
-use borrow.Author.Tests.{leb-true, leb-false}
+use borrow.Author.Tests.{le-leb, lt-leb}
 use Rattle.bound.specs.declared.Bound.{Bound}
 use Rattle.bound.specs.Order.{greater}
 use Rattle.chain.specs.Limits.{maxTasks}
@@ -48,31 +48,32 @@ pub speed-start : {job : Job} → SpeedTo job 0 0
 unfolding sumTo
 speed-start = record { to = omega arith; total-is = refl }
 
-pub speed-fits : {job : Job} {p total : ℕ} → Valid job → SpeedTo job p total → p < processors job → total + getD (job .speeds) p 0 < 2 ^ 32
+-- A turn adds the speed of processor p.
+pub speed-fits : {job : Job} {p total e : ℕ} → Valid job → SpeedTo job p total → p < processors job → e ≡ getD (job .speeds) p 0 → total + e < 2 ^ 64
 unfolding sumTo
-speed-fits {job} {p} v w h =
+speed-fits {job} {p} v w h x =
     omega (arith, w .total-is, speed-read job p h, speeds-to-limit v (suc p) h, total-speed-fits)
 
-pub speed-turn : {job : Job} {p total : ℕ} → SpeedTo job p total → p < processors job → SpeedTo job (p + 1) (total + getD (job .speeds) p 0)
+pub speed-turn : {job : Job} {p total e : ℕ} → SpeedTo job p total → p < processors job → e ≡ getD (job .speeds) p 0 → SpeedTo job (p + 1) (total + e)
 unfolding sumTo
-speed-turn {job} {p} {total} w h =
-    subst (λ (k : ℕ). SpeedTo job k (total + getD (job .speeds) p 0)) (sym (add-one p))
-    (record { to = h; total-is = ap₂ _+_ (w .total-is) (speed-read job p h) })
+speed-turn {job} {p} {total} {e} w h x =
+    subst (λ (k : ℕ). SpeedTo job k (total + e)) (sym (add-one p))
+    (record { to = h; total-is = ap₂ _+_ (w .total-is) (x ∙ speed-read job p h) })
 
 pub speed-end : {job : Job} {p total : ℕ} → SpeedTo job p total → processors job ≤ p → total ≡ totalSpeed job
 speed-end {job} {p} w h =
     w .total-is ∙ ap (sumTo (speedOf job)) (let e : p ≡ processors job = omega (arith, w .to) in e) ∙ sym (total-speed-is job)
 
--- The search: no entry from a to i is at least the limit.
+-- The search: every entry from a to i is less than the limit.
 pub record Passed (xs : List ℕ) (a b limit i : ℕ) : Type 0 where
   pub from : a ≤ i
   pub to : i ≤ b
-  pub less : (k : ℕ) → a ≤ k → k < i → leb limit (at xs k) ≡ false
+  pub less : (k : ℕ) → a ≤ k → k < i → at xs k < limit
 
 pub passed-start : {xs : List ℕ} {a b limit : ℕ} → a ≤ b → Passed xs a b limit a
 passed-start h = record { from = omega arith; to = h; less = λ k l m. absurd (let z : ⊥ = omega arith in z) }
 
-pub passed-turn : {xs : List ℕ} {a b limit i : ℕ} → Passed xs a b limit i → i < b → leb limit (at xs i) ≡ false → Passed xs a b limit (i + 1)
+pub passed-turn : {xs : List ℕ} {a b limit i : ℕ} → Passed xs a b limit i → i < b → at xs i < limit → Passed xs a b limit (i + 1)
 passed-turn {xs} {a} {b} {limit} {i} w h e =
     record {
       from = omega (arith, w .from);
@@ -80,19 +81,20 @@ passed-turn {xs} {a} {b} {limit} {i} w h e =
       less = λ k l m.
           elim (decLe (suc k) i) [
             | yes j ↦ w .less k l j
-            | no j ↦ subst (λ (n : ℕ). leb limit (at xs n) ≡ false) (let z : i ≡ k = omega arith in z) e
+            | no j ↦ subst (λ (n : ℕ). at xs n < limit) (let z : i ≡ k = omega arith in z) e
           ];
     }
 
-pub passed-end : {xs : List ℕ} {a b limit i : ℕ} → Passed xs a b limit i → ((i ≡ b) ⊎ (leb limit (at xs i) ≡ true)) → i ≡ firstAtLeast xs a b limit
+-- It ends at b, or at an entry that is at least the limit.
+pub passed-end : {xs : List ℕ} {a b limit i : ℕ} → Passed xs a b limit i → ((i ≡ b) ⊎ (limit ≤ at xs i)) → i ≡ firstAtLeast xs a b limit
 unfolding firstAtLeast
 passed-end {xs} {a} {b} {limit} {i} w f =
     smallest-unique
     (record {
       from = w .from;
       to = omega (arith, w .from, w .to);
-      found = elim f [ inl e ↦ inl (omega (arith, w .from, w .to)) | inr e ↦ inr e ];
-      before = w .less;
+      found = elim f [ inl e ↦ inl (omega (arith, w .from, w .to)) | inr e ↦ inr (le-leb limit (at xs i) e) ];
+      before = λ k l m. lt-leb limit (at xs k) (w .less k l m);
     })
 
 -- The heuristic's separators up to p.
@@ -118,8 +120,3 @@ placed-start {job} xs h =
     first k l =
         subst (λ (i : ℕ). getD (set xs 0 0) i 0 ≡ at (heuristic job) i) (let e : 0 ≡ k = omega arith in e)
         (getD-set-same xs 0 0 0 h)
-
--- What a turn asks of its callees, and what it gives.
-module _ {job : Job} {xs ys : List ℕ} {p speed past s : ℕ} (w : Placed job xs ys p speed past s) (h : p < last job) where
-  next-speed : ℕ
-  next-speed = speed + getD (job .speeds) p 0

@@ -2,14 +2,14 @@
 -- sum as the one before that. And searches find one index only.
 -- Assumes nothing.
 use Prim.Native.Nat.{ℕ, zero, suc, _+_, _-_, _*_, _/_, _≤_, _<_, _^_}
-use mathlib.Core.Path.{_≡_, refl, sym, ap, subst, _∙_}
+use mathlib.Core.Path.{_≡_, refl, sym, ap, ap₂, subst, _∙_}
 use mathlib.Core.Bool.{Bool, true, false}
 use mathlib.Core.List.{List}
 use mathlib.Core.Logic.{_⊎_, inl, inr}
 use native.Mathlib.Omega.{arith}
 use native.Mathlib.Decide.{decLe}
 use native.Mathlib.Nat.{mul-le-mul-left, mul-le-mul-right, mul-lt-mul-of-pos-right, le-of-mul-le-mul-right, le-div-iff-mul-le, div-lt-iff-lt-mul}
-use lib.Dec.{leb}
+use lib.Dec.{leb, ltb}
 use lib.ListN.{length}
 use borrow.Author.Tests.{leb-true, leb-false}
 use Rattle.chain.specs.Lists.{sumTo, smallestFrom, smallestLeast, distance}
@@ -55,6 +55,11 @@ below-strictly a b t h k = omega arith
 
 above : (a b t : ℕ) → t ≤ a → a ≤ b → distance a t ≤ distance b t
 above a b t h k = omega arith
+
+-- Whether y, past the target, is nearer to it than x, not past it.
+pub nearer-test : (x y t : ℕ) → x ≤ t → t ≤ y → ltb (y - t) (t - x) ≡ ltb (distance y t) (distance x t)
+nearer-test x y t h k =
+    ap₂ ltb (let e : y - t ≡ distance y t = omega arith in e) (let e : t - x ≡ distance x t = omega arith in e)
 
 -- A function that grows, a target t and the first index g past it.
 module _ (x : ℕ → ℕ) (up : (i j : ℕ) → i ≤ j → x i ≤ x j) (n t g : ℕ) (from : 1 ≤ g) (to : g ≤ suc n) (before : (k : ℕ) → k < g → x k ≤ t)

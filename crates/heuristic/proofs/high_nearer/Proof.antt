@@ -1,3 +1,5 @@
+use Prim.Native.Nat.{_*_}
+use Rattle.heuristic.proofs.Nearest.{nearer-test}
 use borrow.Author.Needs.{needs}
 use Rattle.heuristic.proofs.high_nearer.Statement.{statement}
 use Rattle.heuristic.proofs.high_nearer.Tie as tie
@@ -22,7 +24,7 @@ sub-result-2 c = search needs
 
 -- src/lib.rt:78:1
 returns : tie.Need-returns
-returns c = ?
+returns c = let a = c .args in nearer-test (a .low * a .total) (a .high * a .total) (a .target) (c .pre .0) (c .pre .1)
 
 pub high-nearer-spec : {M : Type 1} → statement M
 high-nearer-spec = tie.close (tie.spec mul-result sub-result mul-result-2 sub-result-2 returns)
