@@ -1,3 +1,6 @@
+use native.Mathlib.Omega.{arith}
+use Rattle.chain.proofs.Ranges.{total-speed-positive}
+use Rattle.heuristic.proofs.Laws.{limit-fits, first-past-of}
 use borrow.Author.Needs.{needs}
 use Rattle.heuristic.proofs.first_past.Statement.{statement}
 use Rattle.heuristic.proofs.first_past.Tie as tie
@@ -11,11 +14,11 @@ add-first-at-least c = search needs
 
 -- src/lib.rt:74:48
 div-first-at-least : tie.Need-div-first-at-least
-div-first-at-least c = ?
+div-first-at-least c = let s = c .before .before .before in omega (arith, total-speed-positive (s .pre .0 .valid), s .pre .1 .0 .speed)
 
 -- src/lib.rt:74:48
 add-first-at-least-2 : tie.Need-add-first-at-least-2
-add-first-at-least-2 c = ?
+add-first-at-least-2 c = let s = c .before .before .before in record { fits = limit-fits (s .pre .0 .valid) (s .pre .1 .0) }
 
 -- src/lib.rt:74:5
 first-at-least-requires : tie.Need-first-at-least-requires
@@ -23,7 +26,7 @@ first-at-least-requires c κs = search needs
 
 -- src/lib.rt:61:1
 returns : tie.Need-returns
-returns c = ?
+returns c = let s = c .before .before .before .before in first-past-of (s .pre .0) (s .pre .1 .0) (s .pre .1 .1) (c .first-at-least .ensures)
 
 pub first-past-spec : {M : Type 1} → statement M
 first-past-spec =

@@ -1,3 +1,13 @@
+-- `nearest_from` meets its contract: the first index past the target, or the smallest with the prefix sum before it.
+-- Assumes nothing.
+use Prim.Native.Nat.{ℕ, _-_, _≤_}
+use mathlib.Core.Path.{_≡_, sym, ap, _∙_}
+use mathlib.Core.Logic.{⊎-elim}
+use native.Mathlib.Omega.{arith}
+use Rattle.chain.specs.Job.{jobOf, tasks}
+use Rattle.heuristic.specs.Target.{firstAtLeast, off}
+use Rattle.heuristic.proofs.Nearest.{nearest-before, nearest-low}
+use Rattle.heuristic.proofs.Laws.{choice-products, choice-high, choice-low}
 use borrow.Author.Needs.{needs}
 use Rattle.heuristic.proofs.nearest_from.Statement.{statement}
 use Rattle.heuristic.proofs.nearest_from.Tie as tie
@@ -37,11 +47,23 @@ wide-requires-2 c κs = search needs
 
 -- src/lib.rt:103:12
 high-nearer-requires : tie.Need-high-nearer-requires
-high-nearer-requires c κs = ?
+high-nearer-requires c κs = let s = c .before .before .before .before .before .before .before .before in choice-products (s .pre .0) (s .pre .1 .0) (s .pre .1 .1 .0) (c .before .before .if1 .taken) (c .before .before .before .wide .ensures) (c .wide2 .ensures)
 
 -- src/lib.rt:104:13
 returns : tie.Need-returns
-returns c = ?
+returns c = let s = c .before .before .before .before .before .before .before .before .before .before in choice-high (s .pre .0) (s .pre .1 .0) (s .pre .1 .1 .0) (c .before .before .before .before .if1 .taken) (c .before .before .before .before .before .wide .ensures) (c .before .before .wide2 .ensures) (sym (c .before .high-nearer .ensures) ∙ c .if2 .taken)
+
+-- Where the search for the smaller index begins, the index before is as near.
+near : (c : tie.Joined1)
+    → let s = c .before .before .before .before .before .before in
+    s .args .past ≤ tasks (jobOf (s .args .weights .now) (s .args .speeds .now))
+    → off (jobOf (s .args .weights .now) (s .args .speeds .now)) (s .args .target) (s .args .past - 1)
+    ≤ off (jobOf (s .args .weights .now) (s .args .speeds .now)) (s .args .target) (s .args .past)
+near c h =
+    let s = c .before .before .before .before .before .before in
+    ⊎-elim
+    (λ w. choice-low (s .pre .0) (s .pre .1 .0) (s .pre .1 .1 .0) h (c .before .wide .ensures) (w .2 .ensures) (sym (w .3 .ensures) ∙ w .4 .left))
+    (λ w. absurd (let z : ⊥ = omega arith in z)) (c .if1 .came)
 
 -- src/lib.rt:107:29
 sub-first-at-least : tie.Need-sub-first-at-least
@@ -49,11 +71,11 @@ sub-first-at-least c = search needs
 
 -- src/lib.rt:107:5
 first-at-least-requires : tie.Need-first-at-least-requires
-first-at-least-requires c κs = ?
+first-at-least-requires c κs = let s = c .before .before .before .before .before .before in let m = nearest-before (s .pre .0) (s .pre .1 .1 .0) (near c) in (omega arith, omega arith)
 
 -- src/lib.rt:86:1
 returns-2 : tie.Need-returns-2
-returns-2 c = ?
+returns-2 c = let s = c .before .before .before .before .before .before .before in c .first-at-least .ensures ∙ ap (firstAtLeast (s .args .sums .now) (s .args .s) (s .args .past - 1)) (c .before .before .wide .ensures) ∙ nearest-low (s .pre .0) (s .pre .1 .1 .0) (near (c .before)) (s .args .s) (s .pre .1 .1 .1)
 
 pub nearest-from-spec : {M : Type 1} → statement M
 nearest-from-spec =
