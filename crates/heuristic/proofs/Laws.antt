@@ -176,50 +176,50 @@ placed-start {job} {sums} xs r h x y =
 -- A turn: the next target, what its callees ask, and what they give.
 module _ {job : Job} {xs ys : List ℕ} {total weight p speed past s e : ℕ} (v : Valid job) (w : Placed job xs ys total weight p speed past s)
     (h : p < last job) (x : e ≡ getD (job .speeds) p 0)
-    where
-  next : SpeedTo job (p + 1) (speed + e)
-  next = speed-turn (w .speeds) (omega arith) x
+  where
+    next : SpeedTo job (p + 1) (speed + e)
+    next = speed-turn (w .speeds) (omega arith) x
 
-  pub placed-aim : weight * (speed + e) ≡ targetOf job (suc p)
-  placed-aim = ap₂ _*_ (w .weight-is) (next .total-is ∙ ap (sumTo (speedOf job)) (add-one p))
+    pub placed-aim : weight * (speed + e) ≡ targetOf job (suc p)
+    placed-aim = ap₂ _*_ (w .weight-is) (next .total-is ∙ ap (sumTo (speedOf job)) (add-one p))
 
-  pub placed-fits : weight * (speed + e) < 2 ^ 64
-  placed-fits = subst (λ (n : ℕ). n < 2 ^ 64) (sym placed-aim) (heuristic-products v 0 (suc p) (omega arith) .1)
+    pub placed-fits : weight * (speed + e) < 2 ^ 64
+    placed-fits = subst (λ (n : ℕ). n < 2 ^ 64) (sym placed-aim) (heuristic-products v 0 (suc p) (omega arith) .1)
 
-  pub placed-target : Target job total (weight * (speed + e))
-  placed-target =
-      record { speed = w .total-is; most = subst (λ (n : ℕ). n ≤ totalWeight job * totalSpeed job) (sym placed-aim) (target-most job (suc p) (omega arith)) }
+    pub placed-target : Target job total (weight * (speed + e))
+    placed-target =
+        record { speed = w .total-is; most = subst (λ (n : ℕ). n ≤ totalWeight job * totalSpeed job) (sym placed-aim) (target-most job (suc p) (omega arith)) }
 
-  pub placed-behind : Behind job (weight * (speed + e)) past
-  placed-behind =
-      subst (λ (n : ℕ). Behind job n past) (sym placed-aim) (behind-more job (target-grows job p (suc p) (omega arith)) (w .behind))
+    pub placed-behind : Behind job (weight * (speed + e)) past
+    placed-behind =
+        subst (λ (n : ℕ). Behind job n past) (sym placed-aim) (behind-more job (target-grows job p (suc p) (omega arith)) (w .behind))
 
-  pub placed-near : s ≤ nearestTo job (weight * (speed + e))
-  placed-near =
-      subst (λ (n : ℕ). s ≤ nearestTo job n) (sym placed-aim)
-      (omega (arith, w .near, nearest-grows job p (suc p) (omega arith), nearest-to-target job (suc p)))
+    pub placed-near : s ≤ nearestTo job (weight * (speed + e))
+    placed-near =
+        subst (λ (n : ℕ). s ≤ nearestTo job n) (sym placed-aim)
+        (omega (arith, w .near, nearest-grows job p (suc p) (omega arith), nearest-to-target job (suc p)))
 
-  module _ {r q : ℕ} (f : FirstPast job (weight * (speed + e)) r) (y : q ≡ nearestTo job (weight * (speed + e))) where
-    nearest-next : q ≡ nearest job (suc p)
-    nearest-next = y ∙ ap (nearestTo job) placed-aim ∙ sym (nearest-to-target job (suc p))
+    module _ {r q : ℕ} (f : FirstPast job (weight * (speed + e)) r) (y : q ≡ nearestTo job (weight * (speed + e))) where
+      nearest-next : q ≡ nearest job (suc p)
+      nearest-next = y ∙ ap (nearestTo job) placed-aim ∙ sym (nearest-to-target job (suc p))
 
-    pub placed-narrow : q < 2 ^ 32
-    placed-narrow = index-fits v q (omega (arith, nearest-next, nearest-le job (suc p)))
+      pub placed-narrow : q < 2 ^ 32
+      placed-narrow = index-fits v q (omega (arith, nearest-next, nearest-le job (suc p)))
 
-    pub placed-turn : {i : ℕ} → i ≡ q → Placed job xs (set ys (p + 1) i) total weight (p + 1) (speed + e) r q
-    placed-turn {i} z =
-        subst (λ (k : ℕ). SpeedTo job k (speed + e) → Placed job xs (set ys k i) total weight k (speed + e) r q) (sym (add-one p))
-        (λ n.
-            record {
-              room = w .room;
-              total-is = w .total-is;
-              weight-is = w .weight-is;
-              to = h;
-              speeds = n;
-              behind = subst (λ (t : ℕ). Behind job t r) placed-aim (f .behind);
-              near = nearest-next;
-              front = front-store i (w .front) (omega (arith, w .room)) (z ∙ nearest-next ∙ sym (heuristic-at job (suc p) h));
-            }) next
+      pub placed-turn : {i : ℕ} → i ≡ q → Placed job xs (set ys (p + 1) i) total weight (p + 1) (speed + e) r q
+      placed-turn {i} z =
+          subst (λ (k : ℕ). SpeedTo job k (speed + e) → Placed job xs (set ys k i) total weight k (speed + e) r q) (sym (add-one p))
+          (λ n.
+          record {
+            room = w .room;
+            total-is = w .total-is;
+            weight-is = w .weight-is;
+            to = h;
+            speeds = n;
+            behind = subst (λ (t : ℕ). Behind job t r) placed-aim (f .behind);
+            near = nearest-next;
+            front = front-store i (w .front) (omega (arith, w .room)) (z ∙ nearest-next ∙ sym (heuristic-at job (suc p) h));
+          }) next
 
 -- The end: N behind the last of them.
 pub placed-end : {job : Job} (xs : List ℕ) {ys : List ℕ} {total weight p speed past s i : ℕ} → Valid job → processors job < length xs
