@@ -3,17 +3,18 @@
 use Prim.Native.Nat.{ℕ, zero, suc, _+_, _-_, _*_, _≤_, _<_, _^_}
 use mathlib.Core.Path.{_≡_, refl, sym, ap, ap₂, subst, subst₂, _∙_}
 use mathlib.Core.Bool.{Bool, true, false, not, _&&_}
-use mathlib.Core.List.{List}
+use mathlib.Core.List.{List, _++_}
 use native.Mathlib.Omega.{arith}
 use native.Mathlib.Decide.{decLe}
 use native.Mathlib.Numerals.{add-one}
 use lib.Dec.{T}
-use lib.ListN.{length}
+use lib.ListN.{length, take}
+use lib.Seq.{take-at}
 use Rattle.bound.specs.declared.Bound.{Bound}
 use Rattle.bound.specs.Order.{_≼_, _≺_, middle, le}
 use Rattle.bound.proofs.Order.{le-true}
 use Rattle.chain.specs.Lists.{isFirst, digits}
-use Rattle.chain.specs.Job.{Job, Valid, tasks, processors, last, ideal, bottleneck}
+use Rattle.chain.specs.Job.{Job, Valid, Partition, tasks, processors, last, ideal, bottleneck}
 use Rattle.chain.specs.Probe.{walk, fits, nextBid}
 use Rattle.chain.specs.Heuristic.{heuristic}
 use Rattle.chain.specs.Search.{Ends, bidding, firstEnds, narrow, ends, meet}
@@ -25,6 +26,7 @@ use Rattle.chain.proofs.Walk.{walk-length}
 use Rattle.chain.proofs.Bidding.{failures-below}
 use Rattle.chain.proofs.Bisection.{Bracket, bracket-after, low-high, rounds-below}
 use Rattle.chain.proofs.Ranges.{Small, Lendable, small-lendable, ideal-lendable, bottleneck-small, next-bid-small}
+use Rattle.parts.proofs.Front.{Behind}
 use Rattle.figures.proofs.Laws.{count-fits, digits-fit}
 
 -- What holds at each index below k and at k holds below k + 1.
@@ -88,7 +90,7 @@ rejects true x = absurd x
 rejects false x = refl
 
 -- A round where the trial at the middle fits, and one where it fails.
-narrow-fits : (job : Job) (E : Ends) → T (fits job (middle (E .low) (E .high)))
+pub narrow-fits : (job : Job) (E : Ends) → T (fits job (middle (E .low) (E .high)))
     → narrow job E ≡ record { low = E .low; high = bottleneck job (walk job (middle (E .low) (E .high))) }
 unfolding narrow
 narrow-fits job E t = ap turn (passes (fits job (middle (E .low) (E .high))) t)
@@ -100,7 +102,7 @@ narrow-fits job E t = ap turn (passes (fits job (middle (E .low) (E .high))) t)
           | false ↦ record { low = nextBid job (middle (E .low) (E .high)); high = E .high }
         ]
 
-narrow-fails : (job : Job) (E : Ends) → T (not (fits job (middle (E .low) (E .high))))
+pub narrow-fails : (job : Job) (E : Ends) → T (not (fits job (middle (E .low) (E .high))))
     → narrow job E ≡ record { low = nextBid job (middle (E .low) (E .high)); high = E .high }
 unfolding narrow
 narrow-fails job E t = ap turn (rejects (fits job (middle (E .low) (E .high))) t)
@@ -111,6 +113,22 @@ narrow-fails job E t = ap turn (rejects (fits job (middle (E .low) (E .high))) t
           | true ↦ record { low = E .low; high = bottleneck job (walk job (middle (E .low) (E .high))) }
           | false ↦ record { low = nextBid job (middle (E .low) (E .high)); high = E .high }
         ]
+
+-- A round keeps the ends small.
+narrow-small : (job : Job) → Valid job → (E : Ends) → Small (E .low) → Small (E .high) → Small ((narrow job E) .low) × Small ((narrow job E) .high)
+unfolding narrow
+narrow-small job v E l h = go (fits job (middle (E .low) (E .high)))
+  where
+    turn : Bool → Ends
+    turn x =
+        elim x [
+          | true ↦ record { low = E .low; high = bottleneck job (walk job (middle (E .low) (E .high))) }
+          | false ↦ record { low = nextBid job (middle (E .low) (E .high)); high = E .high }
+        ]
+
+    go : (x : Bool) → Small ((turn x) .low) × Small ((turn x) .high)
+    go true = (l, bottleneck-small v (walk job (middle (E .low) (E .high))))
+    go false = (next-bid-small v (middle (E .low) (E .high)), h)
 
 -- Bisection after k rounds: the two ends, and the count of trials, the first included.
 pub record Halved (job : Job) (low high : Bound) (rounds : ℕ) : Type 0 where
@@ -150,53 +168,61 @@ module _ {job : Job} (v : Valid job) {low high : Bound} {k : ℕ} (w : Halved jo
   pub halved-room : le high low ≡ false → k < digits (difference job)
   halved-room e = rounds-below (valid-proper v) (w .failed) k (not-met e)
 
-  pub halved-fits : le high low ≡ false → k + 1 + 1 < 2 ^ 32
-  halved-fits e = omega (arith, halved-room e, digits-fit v)
-
-  pub middle-is : middle low high ≡ middle ((ends job k) .low) ((ends job k) .high)
-  middle-is = ap₂ middle (w .low-is) (w .high-is)
-
-  pub halved-high : (new : Bound) → le high low ≡ false → T (fits job (middle low high)) → new ≡ bottleneck job (walk job (middle low high))
-      → Halved job low new (k + 1)
+  -- The ends after one more round.
+  pub halved-next : (E : Ends) → le high low ≡ false → E ≡ narrow job (record { low = low; high = high }) → Halved job (E .low) (E .high) (k + 1)
   unfolding ends
-  halved-high new e t n =
-      subst (Halved job low new) (sym (add-one k))
+  halved-next E e n =
+      subst (Halved job (E .low) (E .high)) (sym (add-one k))
       (record {
-        low-is = w .low-is ∙ sym (ap (λ (E : Ends). E .low) step);
-        high-is = n ∙ ap (λ (M : Bound). bottleneck job (walk job M)) middle-is ∙ sym (ap (λ (E : Ends). E .high) step);
+        low-is = ap (λ (F : Ends). F .low) step;
+        high-is = ap (λ (F : Ends). F .high) step;
         apart = below-next {Q = λ j. T (not (meet (ends job j)))} (w .apart) (not-met e);
         failed = w .failed;
-        low-small = w .low-small;
-        high-small = subst Small (sym n) (bottleneck-small v (walk job (middle low high)));
+        low-small = subst (λ (F : Ends). Small (F .low)) (sym n) ((narrow-small job v (record { low = low; high = high }) (w .low-small) (w .high-small)) .0);
+        high-small = subst (λ (F : Ends). Small (F .high)) (sym n) ((narrow-small job v (record { low = low; high = high }) (w .low-small) (w .high-small)) .1);
       })
     where
-      step : narrow job (ends job k)
-          ≡ record { low = (ends job k) .low; high = bottleneck job (walk job (middle ((ends job k) .low) ((ends job k) .high))) }
-      step = narrow-fits job (ends job k) (subst (λ (B : Bound). T (fits job B)) middle-is t)
-
-  pub halved-low : (new : Bound) → le high low ≡ false → T (not (fits job (middle low high))) → new ≡ nextBid job (middle low high)
-      → Halved job new high (k + 1)
-  unfolding ends
-  halved-low new e t n =
-      subst (Halved job new high) (sym (add-one k))
-      (record {
-        low-is = n ∙ ap (nextBid job) middle-is ∙ sym (ap (λ (E : Ends). E .low) step);
-        high-is = w .high-is ∙ sym (ap (λ (E : Ends). E .high) step);
-        apart = below-next {Q = λ j. T (not (meet (ends job j)))} (w .apart) (not-met e);
-        failed = w .failed;
-        low-small = subst Small (sym n) (next-bid-small v (middle low high));
-        high-small = w .high-small;
-      })
-    where
-      step : narrow job (ends job k)
-          ≡ record { low = nextBid job (middle ((ends job k) .low) ((ends job k) .high)); high = (ends job k) .high }
-      step = narrow-fails job (ends job k) (subst (λ (B : Bound). T (not (fits job B))) middle-is t)
+      step : E ≡ narrow job (ends job k)
+      step = n ∙ ap₂ (λ (a b : Bound). narrow job (record { low = a; high = b })) (w .low-is) (w .high-is)
 
   -- Where the ends meet, bisection ends with the low one.
   pub halved-end : le high low ≡ true → BisectionEnds job (k + 1) low
   halved-end e =
       after k (w .failed) (first-of (λ j. meet (ends job j)) k (subst T (sym (meets ∙ e)) tt) (w .apart)) (add-one k) (w .low-is)
 
+-- The count of rounds, and one more, fits 32 bits.
+pub rounds-fit : {job : Job} {low high : Bound} (k : ℕ) → Valid job → Halved job low high k → k + 1 < 2 ^ 32
+rounds-fit zero v w = lib.Dec.lit< tt
+rounds-fit (suc k) v w =
+    omega (arith, rounds-below (valid-proper v) (w .failed) k (w .apart k (omega arith)), digits-fit v)
+
 -- The trial at the ideal fits: bisection ends at once.
 pub ended-at-once : {job : Job} {bound : Bound} → bound ≡ ideal job → T (fits job bound) → BisectionEnds job 1 bound
 ended-at-once {job} {bound} e t = at-once (subst (λ (B : Bound). T (fits job B)) e t) refl e
+
+-- A list with n entries in front: these entries, and that a partition among them is one there.
+pub taken : {n : ℕ} (new l : List ℕ) {ys : List ℕ} → length new ≡ n → ys ≡ new ++ l → take n ys ≡ new
+taken {n} new l h e = ap (take n) e ∙ take-at new l n h
+
+pub front-partition : {job : Job} (new l : List ℕ) {ys : List ℕ} → Partition job new → ys ≡ new ++ l → Partition job (take (suc (processors job)) ys)
+front-partition {job} new l pa e = subst (Partition job) (sym (taken new l (pa .count) e)) pa
+
+pub front-bottleneck : {job : Job} (new l : List ℕ) {ys : List ℕ} {B : Bound} → Partition job new → ys ≡ new ++ l
+    → B ≡ bottleneck job (take (suc (processors job)) ys) → B ≡ bottleneck job new
+front-bottleneck {job} new l pa e h = h ∙ ap (bottleneck job) (taken new l (pa .count) e)
+
+pub behind-trans : {n : ℕ} {a b c : List ℕ} → Behind n a b → Behind n b c → Behind n a c
+behind-trans x y = record { same = y .same ∙ x .same; rest = y .rest ∙ x .rest }
+
+-- A round, by what the trial at the middle answers.
+pub round-fits : (job : Job) (low high : Bound) {M least : Bound} → M ≡ middle low high → T (fits job M) → least ≡ bottleneck job (walk job M)
+    → _≡_ {A = Ends} (record { low = low; high = least }) (narrow job (record { low = low; high = high }))
+round-fits job low high {M} e t l =
+    ap (λ (B : Bound). record { low = low; high = B }) (l ∙ ap (λ (B : Bound). bottleneck job (walk job B)) e)
+    ∙ sym (narrow-fits job (record { low = low; high = high }) (subst (λ (B : Bound). T (fits job B)) e t))
+
+pub round-fails : (job : Job) (low high : Bound) {M next : Bound} → M ≡ middle low high → T (not (fits job M)) → next ≡ nextBid job M
+    → _≡_ {A = Ends} (record { low = next; high = high }) (narrow job (record { low = low; high = high }))
+round-fails job low high {M} e t l =
+    ap (λ (B : Bound). record { low = B; high = high }) (l ∙ ap (nextBid job) e)
+    ∙ sym (narrow-fails job (record { low = low; high = high }) (subst (λ (B : Bound). T (not (fits job B))) e t))

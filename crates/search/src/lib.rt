@@ -5,10 +5,16 @@ ghost use mathlib.Core.List.{_++_};
 ghost use lib.ListN.{length, drop};
 ghost use Rattle.chain.specs.Job.{jobOf, ideal};
 ghost use Rattle.chain.specs.Probe.{walk};
-ghost use Rattle.chain.specs.Plan.{BiddingEnds};
+ghost use Rattle.chain.specs.Plan.{BiddingEnds, BisectionEnds};
+ghost use Rattle.chain.specs.Search.{narrow};
+ghost use Rattle.chain.proofs.Ranges.{Lendable, Small};
+ghost use Rattle.parts.proofs.Front.{Behind};
 ghost use Rattle.parts.specs.Prefix.{Ready};
+ghost use Rattle.search.specs.Start.{Rejected, endsOf};
 use bound::Bound;
 use figures::total_speed;
+use heuristic::heuristic_in;
+use heuristic::measure_in;
 use parts::Found;
 use parts::wide;
 use probe::Outcome;
@@ -48,5 +54,88 @@ pub fn bidding_in(speeds: &[u32], weights: &[u32], sums: &[u32], separators: &mu
                 failures += 1;
             }
         }
+    }
+}
+
+// The two ends of bisection.
+pub struct Pair {
+    pub low: Bound,
+    pub high: Bound,
+}
+
+// Inner. One round of bisection: a trial at half the sum of the ends. A fit brings the high end to that partition's bottleneck,
+// a failure brings the low end to the next bid.
+fn narrow_ends(
+    speeds: &[u32],
+    weights: &[u32],
+    sums: &[u32],
+    low: Bound,
+    high: Bound,
+    separators: &mut [u32],
+) -> Pair
+    requires { ⌜ Ready (jobOf (now weights) (now speeds)) (now sums) ⌝ }
+    requires { ⌜ length (now speeds) < length (now separators) ⌝ }
+    requires { ⌜ Small low × Small high ⌝ }
+    ensures { λ r. ⌜ endsOf r ≡ narrow (jobOf (now (weights .entry)) (now (speeds .entry))) (record { low = low; high = high }) ⌝ }
+    ensures { λ r. ⌜ Behind (suc (length (now (speeds .entry)))) (now (separators .entry)) (now (separators .exit)) ⌝ }
+{
+    let middle = Bound::midpoint(low, high);
+    let answer = probe_in(speeds, weights, sums, middle, separators);
+    match answer {
+        Outcome::Fits => {
+            let least = measure_in(speeds, weights, sums, separators);
+            Pair { low, high: least }
+        }
+        Outcome::Fails(bid) => Pair { low: bid, high },
+    }
+}
+
+// Inner. The rounds of bisection, once the trial at the ideal has failed with this next bid: until the two ends meet.
+fn bisect(
+    speeds: &[u32],
+    weights: &[u32],
+    sums: &[u32],
+    next: Bound,
+    separators: &mut [u32],
+) -> Found
+    requires { ⌜ Ready (jobOf (now weights) (now speeds)) (now sums) ⌝ }
+    requires { ⌜ length (now speeds) < length (now separators) ⌝ }
+    requires { ⌜ Rejected (jobOf (now weights) (now speeds)) next ⌝ }
+    ensures { λ r. ⌜ BisectionEnds (jobOf (now (weights .entry)) (now (speeds .entry))) (r .count) (r .bound) ⌝ }
+    ensures { λ r. ⌜ Lendable (r .bound) ⌝ }
+    ensures { λ r. ⌜ Behind (suc (length (now (speeds .entry)))) (now (separators .entry)) (now (separators .exit)) ⌝ }
+{
+    heuristic_in(speeds, weights, sums, separators);
+    let mut low = next;
+    let mut high = measure_in(speeds, weights, sums, separators);
+    let mut rounds = 0u32;
+    let found = loop {
+        if Bound::at_most(high, low) {
+            break low;
+        }
+        let ends = narrow_ends(speeds, weights, sums, low, high, separators);
+        low = ends.low;
+        high = ends.high;
+        rounds += 1;
+    };
+    Found {
+        bound: found,
+        count: rounds + 1,
+    }
+}
+
+// Inner. Bisection: a trial at the ideal; if it fails, rounds between its next bid and the heuristic's bottleneck.
+pub fn bisection_in(speeds: &[u32], weights: &[u32], sums: &[u32], separators: &mut [u32]) -> Found
+    requires { ⌜ Ready (jobOf (now weights) (now speeds)) (now sums) ⌝ }
+    requires { ⌜ length (now speeds) < length (now separators) ⌝ }
+    ensures { λ r. ⌜ BisectionEnds (jobOf (now (weights .entry)) (now (speeds .entry))) (r .count) (r .bound) ⌝ }
+    ensures { λ r. ⌜ Lendable (r .bound) ⌝ }
+    ensures { λ r. ⌜ Behind (suc (length (now (speeds .entry)))) (now (separators .entry)) (now (separators .exit)) ⌝ }
+{
+    let bound = ideal_of(speeds, weights, sums);
+    let answer = probe_in(speeds, weights, sums, bound, separators);
+    match answer {
+        Outcome::Fits => Found { bound, count: 1 },
+        Outcome::Fails(next) => bisect(speeds, weights, sums, next, separators),
     }
 }
