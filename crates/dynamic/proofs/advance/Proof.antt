@@ -1,15 +1,12 @@
 -- `advance` meets its contract: the loop keeps `Moving`.
 -- Assumes nothing.
+use borrow.Author.Needs.{needs}
 use Prim.Native.Nat.{ℕ, suc, _+_, _-_}
 use mathlib.Core.Path.{_≡_, _∙_}
-use mathlib.Core.Bool.{Bool}
 use native.Mathlib.Omega.{arith}
-use Rattle.bound.specs.Order.{le}
 use Rattle.chain.specs.Job.{Job, jobOf, partBound}
 use Rattle.chain.specs.Dynamic.{tableValue}
 use Rattle.chain.proofs.Ranges.{part-small}
-use Rattle.chain.proofs.Parts.{valid-proper}
-use Rattle.chain.proofs.Table.{crossing-le}
 use Rattle.dynamic.proofs.Crossing.{table-small, tested, small-products, small-same, next-part}
 use Rattle.dynamic.proofs.Laws.{Moving, moving-start, moving-turn, moving-stop, moving-end}
 use Rattle.dynamic.proofs.advance.Statement.{statement}
@@ -54,12 +51,15 @@ at-most-requires : tie.Need-at-most-requires Inv-loop μ-loop
 at-most-requires c κs =
     let s = start c in
     let v = s .pre .0 .ready .valid in
-    small-products (small-same (part-is c) (part-small v (suc (s .args .p)) (at c) (s .args .i))) (small-same (value-is c) (table-small v (s .args .p) (at c)))
+    let h = small-products (small-same (part-is c) (part-small v (suc (s .args .p)) (at c) (s .args .i))) (small-same (value-is c) (table-small v (s .args .p) (at c))) in
+    search needs
 
 returns : tie.Need-returns Inv-loop μ-loop
 returns c =
+    let w =
     moving-stop (c .before .before .before .before .before .loop .inv)
-    (tested (part-is (c .before .before)) (value-is (c .before .before)) (c .before .at-most .ensures) (c .if1 .taken))
+    (tested (part-is (c .before .before)) (value-is (c .before .before)) (c .before .at-most .ensures) (c .if1 .taken)) in
+    record { arrived = w .arrived; carried = omega (arith, w .carried) }
 
 add-at : tie.Need-add-at Inv-loop μ-loop
 add-at c = omega arith
@@ -74,6 +74,8 @@ loop-again : tie.Need-loop-again Inv-loop μ-loop
 loop-again c =
     moving-turn (c .before .before .before .before .before .loop .inv)
     (tested (part-is (c .before .before)) (value-is (c .before .before)) (c .before .at-most .ensures) (c .if1 .left))
+    (omega arith)
+    (omega arith)
 
 returns-2 : tie.Need-returns-2 Inv-loop μ-loop
 returns-2 c = moving-end (c .before .before .before .before .before .pre .0 .ready .valid) (c .before .loop .inv) (omega arith)
