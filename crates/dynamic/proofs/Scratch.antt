@@ -106,15 +106,15 @@ row-stored {job} {xs} {o} {p} {i} B r h e =
     new : (k : ℕ) → i ≡ k → entryAt (stored xs o i B) o k ≡ tableValue job p k
     new k x = subst (λ (n : ℕ). entryAt (stored xs o i B) o n ≡ tableValue job p n) x (stored-here xs o i B h ∙ e)
 
--- The places of the rows: the first behind the prefix sums, the second behind it; they may be swapped.
-pub places-start : {n a b size : ℕ} → a ≡ n → b ≡ 3 * n → 5 * n ≤ size → Places n a b size
-places-start e f h =
+-- The places of the rows: the first behind the prefix sums, the second behind the first; they may be swapped.
+pub places-start : {n a b size : ℕ} → n ≤ a → a + 2 * n ≤ b → b + 2 * n ≤ 5 * n → 5 * n ≤ size → Places n a b size
+places-start x y z h =
     record {
-      a-low = omega arith;
+      a-low = x;
       b-low = omega arith;
       a-high = omega arith;
-      b-high = omega arith;
-      apart = λ k x y u v. omega arith;
+      b-high = z;
+      apart = λ k p q u v. omega arith;
       enough = h;
     }
 

@@ -29,7 +29,7 @@ first-row-requires c κs = let s = c .before .before .before .before in (s .pre 
 loop-holds : tie.Need-loop-holds Inv-loop μ-loop
 loop-holds c =
     let s = c .before .before .before .before .before .before .before in
-    tabling-start (s .pre .0) (places-start (omega arith) (omega arith) (s .pre .1)) (c .before .before .first-row .ensures) (omega arith)
+    tabling-start (s .pre .0) (places-start (omega arith) (omega arith) (omega arith) (s .pre .1)) (c .before .before .first-row .ensures) (omega arith)
 
 add-loop : tie.Need-add-loop Inv-loop μ-loop
 add-loop c = omega arith
