@@ -1,6 +1,5 @@
 -- `advance` meets its contract: the loop keeps `Moving`.
 -- Assumes nothing.
-use borrow.Author.Needs.{needs}
 use Prim.Native.Nat.{ℕ, suc, _+_, _-_}
 use mathlib.Core.Path.{_≡_, _∙_}
 use native.Mathlib.Omega.{arith}
@@ -51,14 +50,13 @@ at-most-requires : tie.Need-at-most-requires Inv-loop μ-loop
 at-most-requires c κs =
     let s = start c in
     let v = s .pre .0 .ready .valid in
-    let h = small-products (small-same (part-is c) (part-small v (suc (s .args .p)) (at c) (s .args .i))) (small-same (value-is c) (table-small v (s .args .p) (at c))) in
-    search needs
+    small-products (small-same (part-is c) (part-small v (suc (s .args .p)) (at c) (s .args .i))) (small-same (value-is c) (table-small v (s .args .p) (at c)))
 
 returns : tie.Need-returns Inv-loop μ-loop
 returns c =
-    let w =
-    moving-stop (c .before .before .before .before .before .loop .inv)
-    (tested (part-is (c .before .before)) (value-is (c .before .before)) (c .before .at-most .ensures) (c .if1 .taken)) in
+    let i = c .before .before .before .before .before .loop .inv in
+    let t = tested (part-is (c .before .before)) (value-is (c .before .before)) (c .before .at-most .ensures) (c .if1 .taken) in
+    let w = moving-stop i t in
     record { arrived = w .arrived; carried = omega (arith, w .carried) }
 
 add-at : tie.Need-add-at Inv-loop μ-loop
