@@ -1,7 +1,7 @@
 -- Crossings, values and moves of the table, in the words of the code.
 -- Assumes nothing.
 use Prim.Native.Nat.{ℕ, zero, suc, _+_, _-_, _*_, _^_, _≤_, _<_}
-use mathlib.Core.Path.{_≡_, refl, sym, ap, ap₂, subst, _∙_}
+use mathlib.Core.Path.{_≡_, sym, ap, ap₂, subst, _∙_}
 use mathlib.Core.Bool.{Bool, true, false}
 use mathlib.Core.Logic.{inl, inr}
 use native.Mathlib.Omega.{arith}
@@ -17,7 +17,7 @@ use Rattle.chain.specs.Lists.{sumTo}
 use Rattle.chain.specs.Job.{Job, Valid, tasks, processors, partBound}
 use Rattle.chain.specs.Dynamic.{candidate, crossingOf, lesserAt, tableValue, crossing, movesTo}
 use Rattle.chain.proofs.Indices.{Smallest, smallest-is}
-use Rattle.chain.proofs.Parts.{Proper, valid-proper, part-empty}
+use Rattle.chain.proofs.Parts.{valid-proper, part-empty}
 use Rattle.chain.proofs.Ranges.{Small, part-small, small-lendable, probe-products}
 use Rattle.chain.proofs.Table.{crossing-le, table-attained, moves-to-crossing}
 

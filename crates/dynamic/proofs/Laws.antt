@@ -1,22 +1,24 @@
 -- What the loops of the table keep: each invariant at the start, after a turn and at the end.
 -- Assumes nothing.
-use Prim.Native.Nat.{ℕ, zero, suc, _+_, _-_, _*_, _^_, _≤_, _<_}
+use Prim.Native.Nat.{ℕ, zero, suc, _+_, _*_, _≤_, _<_}
 use mathlib.Core.Path.{_≡_, refl, sym, ap, subst, _∙_}
-use mathlib.Core.Bool.{Bool, true, false}
+use mathlib.Core.Bool.{true, false}
 use mathlib.Core.List.{List}
 use native.Mathlib.Omega.{arith}
 use native.Mathlib.Numerals.{add-one}
-use lib.ListN.{length, getD, take, drop}
+use lib.ListN.{length, getD}
+use lib.Seq.{getD-take}
 use Rattle.bound.specs.declared.Bound.{Bound}
-use Rattle.bound.specs.Order.{le, lesser}
+use Rattle.bound.specs.Order.{le}
 use Rattle.chain.specs.Lists.{sumTo}
 use Rattle.chain.specs.Job.{Job, Valid, tasks, processors, last, partBound}
 use Rattle.chain.specs.Dynamic.{tableValue, crossing, movesTo, moves}
-use Rattle.chain.proofs.Parts.{Proper, valid-proper}
+use Rattle.chain.proofs.Parts.{valid-proper}
+use Rattle.chain.proofs.Ranges.{Small}
 use Rattle.chain.proofs.Table.{crossing-le, crossing-grows, moves-to-crossing}
 use Rattle.parts.specs.Prefix.{Ready}
 use Rattle.dynamic.specs.Rows.{entryAt, stored, RowAt, Kept, RowReady, Places, Advanced, Filled, FirstRow, Tabled}
-use Rattle.dynamic.proofs.Crossing.{crossing-here, crossing-past}
+use Rattle.dynamic.proofs.Crossing.{small-same, table-small, crossing-here, crossing-past}
 use Rattle.dynamic.proofs.Scratch.{kept-refl, kept-trans, kept-wider, kept-stored, kept-take, kept-drop, kept-ready, row-kept, row-none, row-stored, places-swap}
 
 -- The pointer on its way to the crossing of i.
@@ -28,9 +30,10 @@ pub moving-start : {job : Job} {p i from count : ℕ} → from ≤ crossing job 
 moving-start h = record { to = h; carried = omega arith }
 
 -- One move, and one more counted.
-pub moving-turn : {job : Job} {p i from count at counted : ℕ} → Moving job p i from count at counted
-    → le (partBound job (suc p) at i) (tableValue job p at) ≡ false → Moving job p i from count (at + 1) (counted + 1)
-moving-turn {job} {p} {i} {from} {count} {at} {counted} w e =
+pub moving-turn : {job : Job} {p i from count at counted at′ counted′ : ℕ} → Moving job p i from count at counted
+    → le (partBound job (suc p) at i) (tableValue job p at) ≡ false → at′ ≡ at + 1 → counted′ ≡ counted + 1
+    → Moving job p i from count at′ counted′
+moving-turn {job} {p} {i} {from} {count} {at} {counted} w e f g =
     record { to = omega (arith, crossing-past job p i at (w .to) e); carried = omega (arith, w .carried) }
 
 pub moving-stop : {job : Job} {p i from count at counted : ℕ} → Moving job p i from count at counted
@@ -123,6 +126,10 @@ filling-end {job} {xs} {ys} {o} {p} {count} {i} {at} v w h =
     there : at ≡ crossing job p (tasks job)
     there = w .pointer ∙ ap (passed job p) (let e : i ≡ suc (tasks job) = omega (arith, w .writing .to) in e)
 
+sum-next : (f : ℕ → ℕ) (p : ℕ) → sumTo f (suc p) ≡ sumTo f p + f p
+unfolding sumTo
+sum-next f p = refl
+
 -- Row p stands whole, from row on; the next is to be written from other on.
 pub record Tabling (job : Job) (xs ys : List ℕ) (row other p counted : ℕ) : Type 0 where
   pub ready : Ready job ys
@@ -132,17 +139,17 @@ pub record Tabling (job : Job) (xs ys : List ℕ) (row other p counted : ℕ) : 
   pub kept : Kept (suc (tasks job)) (4 * suc (tasks job)) xs ys
   pub carried : counted ≡ sumTo (λ q. movesTo job q (tasks job)) p
 
-pub tabling-start : {job : Job} {xs ys : List ℕ} {row other : ℕ} → Ready job xs → Places (suc (tasks job)) row other (length xs)
-    → FirstRow job xs ys row → Tabling job ys ys row other 0 0
+pub tabling-start : {job : Job} {xs ys : List ℕ} {row other counted : ℕ} → Ready job xs → Places (suc (tasks job)) row other (length xs)
+    → FirstRow job xs ys row → counted ≡ 0 → Tabling job ys ys row other 0 counted
 unfolding sumTo
-tabling-start {job} {xs} {ys} {row} {other} r l f =
+tabling-start {job} {xs} {ys} {row} {other} r l f e =
     record {
       ready = kept-ready (f .kept) (l .a-low) r;
       current = f .row;
       places = subst (Places (suc (tasks job)) row other) (sym (f .kept .same)) l;
       below = r .valid .some-processor;
       kept = kept-refl (suc (tasks job)) (4 * suc (tasks job)) ys;
-      carried = refl;
+      carried = e;
     }
 
 -- What the next row is made from.
@@ -156,21 +163,29 @@ tabling-row w h =
       next = omega arith;
     }
 
-pub tabling-turn : {job : Job} {xs ys zs : List ℕ} {row other p count counted : ℕ} → Tabling job xs ys row other p count
-    → p + 1 < processors job → Filled job ys zs other p count counted → Tabling job xs zs other row (p + 1) counted
-unfolding sumTo
-tabling-turn {job} {xs} {ys} {zs} {row} {other} {p} {count} {counted} w h f =
-    record {
-      ready = kept-ready (f .kept) (w .places .b-low) (w .ready);
-      current = subst (λ (q : ℕ). RowAt job zs other q (suc (tasks job))) (sym (add-one p)) (f .row);
-      places = subst (Places (suc (tasks job)) other row) (sym (f .kept .same)) (places-swap (w .places));
-      below = h;
-      kept =
-          kept-trans (w .kept)
-          (kept-wider (suc (tasks job)) (4 * suc (tasks job)) (w .places .b-low) (omega (arith, w .places .b-high)) (f .kept));
-      carried =
-          f .carried ∙ ap (λ (n : ℕ). n + movesTo job p (tasks job)) (w .carried) ∙ sym (ap (sumTo (λ q. movesTo job q (tasks job))) (add-one p));
-    }
+-- The next row is whole, and the rows change places.
+pub tabling-turn : {job : Job} {xs ys zs : List ℕ} {row other row′ other′ p count counted : ℕ} → Tabling job xs ys row other p count
+    → p + 1 < processors job → Filled job ys zs other p count counted → other ≡ row′ → row ≡ other′
+    → Tabling job xs zs row′ other′ (p + 1) counted
+tabling-turn {job} {xs} {ys} {zs} {row} {other} {row′} {other′} {p} {count} {counted} w h f e g =
+    subst (λ (a : ℕ). Tabling job xs zs a other′ (p + 1) counted) e (subst (λ (b : ℕ). Tabling job xs zs other b (p + 1) counted) g swapped)
+  where
+    total : sumTo (λ q. movesTo job q (tasks job)) (suc p) ≡ sumTo (λ q. movesTo job q (tasks job)) p + movesTo job p (tasks job)
+    total = sum-next (λ q. movesTo job q (tasks job)) p
+
+    swapped : Tabling job xs zs other row (p + 1) counted
+    swapped =
+        record {
+          ready = kept-ready (f .kept) (w .places .b-low) (w .ready);
+          current = subst (λ (q : ℕ). RowAt job zs other q (suc (tasks job))) (sym (add-one p)) (f .row);
+          places = subst (Places (suc (tasks job)) other row) (sym (f .kept .same)) (places-swap (w .places));
+          below = h;
+          kept =
+              kept-trans (w .kept)
+              (kept-wider (suc (tasks job)) (4 * suc (tasks job)) (w .places .b-low) (omega (arith, w .places .b-high)) (f .kept));
+          carried =
+              omega (arith, f .carried, w .carried, total) ∙ sym (ap (sumTo (λ q. movesTo job q (tasks job))) (add-one p));
+        }
 
 pub tabling-end : {job : Job} {xs ys zs : List ℕ} {first row other p counted : ℕ} {B : Bound} → Tabling job ys zs row other p counted
     → processors job ≤ p + 1 → FirstRow job xs ys first → suc (tasks job) ≡ first → B ≡ entryAt zs row (tasks job)
@@ -193,3 +208,18 @@ tabling-end {job} {xs} {ys} {zs} {first} {row} {other} {p} {counted} {B} w h f g
 
     all-kept : Kept (suc n) (4 * suc n) xs zs
     all-kept = kept-trans (kept-wider (suc n) (4 * suc n) (omega arith) (omega arith) (f .kept)) (w .kept)
+
+-- What a caller reads off: the list still begins with the prefix sums, and the bound is small.
+pub tabled-ready : {job : Job} {xs ys : List ℕ} {B : Bound} {count : ℕ} → Tabled job xs ys B count → Ready job xs → Ready job ys
+tabled-ready {job} {xs} {ys} w r =
+    record {
+      valid = r .valid;
+      prefix = record { enough = omega (arith, w .same, r .prefix .enough); sums = λ i l. front i (omega arith) ∙ r .prefix .sums i l };
+    }
+  where
+    front : (i : ℕ) → i < suc (tasks job) → getD ys i 0 ≡ getD xs i 0
+    front i h =
+        sym (getD-take (suc (tasks job)) ys i 0 h) ∙ ap (λ (l : List ℕ). getD l i 0) (w .sums) ∙ getD-take (suc (tasks job)) xs i 0 h
+
+pub tabled-small : {job : Job} {xs ys : List ℕ} {B : Bound} {count : ℕ} → Tabled job xs ys B count → Valid job → Small B
+tabled-small {job} w v = small-same (w .value) (table-small v (last job) (tasks job))

@@ -1,18 +1,18 @@
 -- Rows in the scratch list: what a store changes and what it leaves.
 -- Assumes nothing.
-use Prim.Native.Nat.{ℕ, zero, suc, _+_, _-_, _*_, _≤_, _<_}
+use Prim.Native.Nat.{ℕ, suc, _+_, _*_, _≤_, _<_, min}
 use mathlib.Core.Path.{_≡_, refl, sym, ap, ap₂, subst, _∙_}
-use mathlib.Core.List.{List, [], _∷_}
+use mathlib.Core.List.{List}
 use native.Mathlib.Omega.{arith}
 use native.Mathlib.Decide.{decLe}
 use lib.ListN.{length, getD, set, take, drop, length-set, length-take, length-drop}
-use lib.Seq.{getD-set-same, getD-set-other, getD-take, getD-drop, ext-getD, length-take-le}
+use lib.Seq.{getD-set-same, getD-set-other, getD-take, getD-drop, ext-getD}
 use Rattle.bound.specs.declared.Bound.{Bound}
 use Rattle.bound.specs.Order.{over}
 use Rattle.chain.specs.Job.{Job, tasks}
 use Rattle.chain.specs.Dynamic.{tableValue}
-use Rattle.parts.specs.Prefix.{Prefix, Ready}
-use Rattle.dynamic.specs.Rows.{entryAt, stored, RowAt, Kept, RowReady, Places}
+use Rattle.parts.specs.Prefix.{Ready}
+use Rattle.dynamic.specs.Rows.{entryAt, stored, RowAt, Kept, Places}
 
 pub stored-length : (xs : List ℕ) (o i : ℕ) (B : Bound) → length (stored xs o i B) ≡ length xs
 unfolding stored
@@ -60,7 +60,7 @@ kept-stored {o} {m} {xs} {ys} i B h w =
 -- What is in front of them stays,
 pub kept-take : {o m : ℕ} {xs ys : List ℕ} (n : ℕ) → Kept o m xs ys → n ≤ o → take n ys ≡ take n xs
 kept-take {o} {m} {xs} {ys} n w h =
-    ext-getD 0 (take n ys) (take n xs) (simp length-take (ap (λ (l : ℕ). Prim.Native.Nat.min n l) (w .same))) each
+    ext-getD 0 (take n ys) (take n xs) (simp length-take (ap (λ (l : ℕ). min n l) (w .same))) each
   where
     each : (k : ℕ) → k < length (take n ys) → getD (take n ys) k 0 ≡ getD (take n xs) k 0
     each k l =
@@ -106,15 +106,15 @@ row-stored {job} {xs} {o} {p} {i} B r h e =
     new : (k : ℕ) → i ≡ k → entryAt (stored xs o i B) o k ≡ tableValue job p k
     new k x = subst (λ (n : ℕ). entryAt (stored xs o i B) o n ≡ tableValue job p n) x (stored-here xs o i B h ∙ e)
 
--- The places of the rows: the first behind the prefix sums, the second behind it; they may be swapped.
-pub places-start : {n a b size : ℕ} → a ≡ n → b ≡ 3 * n → 5 * n ≤ size → Places n a b size
-places-start e f h =
+-- The places of the rows: the first behind the prefix sums, the second behind the first; they may be swapped.
+pub places-start : {n a b size : ℕ} → n ≤ a → a + 2 * n ≤ b → b + 2 * n ≤ 5 * n → 5 * n ≤ size → Places n a b size
+places-start x y z h =
     record {
-      a-low = omega arith;
+      a-low = x;
       b-low = omega arith;
       a-high = omega arith;
-      b-high = omega arith;
-      apart = λ k x y u v. omega arith;
+      b-high = z;
+      apart = λ k p q u v. omega arith;
       enough = h;
     }
 

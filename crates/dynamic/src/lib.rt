@@ -18,9 +18,9 @@ pub struct Found {
 }
 
 // The pointer of a row, and the moves that pointers have made so far.
-pub struct Pointer {
-    pub at: usize,
-    pub moves: u32,
+struct Pointer {
+    at: usize,
+    moves: u32,
 }
 
 // Inner. Entry i of the row that begins at `row`.
@@ -95,9 +95,10 @@ fn value_at(
     }
     let part = part_bound(speeds, weights, scratch, p + 1, at - 1, i);
     if Bound::at_most(here, part) {
-        return here;
+        here
+    } else {
+        part
     }
-    part
 }
 
 // Inner. Fills the row after row p; the pointer starts at 0.

@@ -2,14 +2,10 @@
 -- Assumes nothing.
 use Prim.Native.Nat.{ℕ, suc, _+_, _-_}
 use mathlib.Core.Path.{_≡_, _∙_}
-use mathlib.Core.Bool.{Bool}
 use native.Mathlib.Omega.{arith}
-use Rattle.bound.specs.Order.{le}
 use Rattle.chain.specs.Job.{Job, jobOf, partBound}
 use Rattle.chain.specs.Dynamic.{tableValue}
 use Rattle.chain.proofs.Ranges.{part-small}
-use Rattle.chain.proofs.Parts.{valid-proper}
-use Rattle.chain.proofs.Table.{crossing-le}
 use Rattle.dynamic.proofs.Crossing.{table-small, tested, small-products, small-same, next-part}
 use Rattle.dynamic.proofs.Laws.{Moving, moving-start, moving-turn, moving-stop, moving-end}
 use Rattle.dynamic.proofs.advance.Statement.{statement}
@@ -58,8 +54,10 @@ at-most-requires c κs =
 
 returns : tie.Need-returns Inv-loop μ-loop
 returns c =
-    moving-stop (c .before .before .before .before .before .loop .inv)
-    (tested (part-is (c .before .before)) (value-is (c .before .before)) (c .before .at-most .ensures) (c .if1 .taken))
+    let i = c .before .before .before .before .before .loop .inv in
+    let t = tested (part-is (c .before .before)) (value-is (c .before .before)) (c .before .at-most .ensures) (c .if1 .taken) in
+    let w = moving-stop i t in
+    record { arrived = w .arrived; carried = omega (arith, w .carried) }
 
 add-at : tie.Need-add-at Inv-loop μ-loop
 add-at c = omega arith
@@ -74,6 +72,8 @@ loop-again : tie.Need-loop-again Inv-loop μ-loop
 loop-again c =
     moving-turn (c .before .before .before .before .before .loop .inv)
     (tested (part-is (c .before .before)) (value-is (c .before .before)) (c .before .at-most .ensures) (c .if1 .left))
+    (omega arith)
+    (omega arith)
 
 returns-2 : tie.Need-returns-2 Inv-loop μ-loop
 returns-2 c = moving-end (c .before .before .before .before .before .pre .0 .ready .valid) (c .before .loop .inv) (omega arith)

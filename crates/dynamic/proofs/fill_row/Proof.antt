@@ -1,24 +1,16 @@
 -- `fill_row` meets its contract: the loop keeps `Filling`.
 -- Assumes nothing.
-use Prim.Native.Nat.{ℕ, suc, _+_, _-_, _*_, _≤_}
-use mathlib.Core.Path.{_≡_, sym, subst, _∙_}
+use Prim.Native.Nat.{suc, _-_, _≤_}
 use native.Mathlib.Omega.{arith}
 use lib.ListN.{length}
 use Rattle.chain.specs.Job.{Job, jobOf}
 use Rattle.chain.specs.Dynamic.{crossing}
 use Rattle.chain.proofs.Ranges.{small-fits}
-use Rattle.chain.proofs.Parts.{valid-proper}
-use Rattle.chain.proofs.Table.{crossing-le}
 use Rattle.dynamic.specs.Rows.{RowReady}
 use Rattle.dynamic.proofs.Crossing.{table-small, small-same}
 use Rattle.dynamic.proofs.Laws.{Filling, filling-start, filling-turn, filling-end, writing-ready, passed-le}
 use Rattle.dynamic.proofs.fill_row.Statement.{statement}
 use Rattle.dynamic.proofs.fill_row.Tie as tie
-use Rattle.dynamic.proofs.fill_row.Reads as reads
-use Rattle.dynamic.proofs.fill_row.Lts as lts
-use Rattle.dynamic.proofs.advance.Reads as advance-reads
-use Rattle.dynamic.proofs.put.Reads as put-reads
-use Rattle.dynamic.proofs.value_at.Reads as value-at-reads
 
 abbrev Inv-loop : tie.InvT-loop
 Inv-loop speeds weights scratch₀ before row p pointer₀ i₀ scratch pointer i =

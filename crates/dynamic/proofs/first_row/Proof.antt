@@ -1,11 +1,9 @@
 -- `first_row` meets its contract: the loop keeps `Writing`.
 -- Assumes nothing.
-use Prim.Native.Nat.{ℕ, suc, _+_, _-_, _*_}
-use mathlib.Core.Path.{_≡_, sym, subst, _∙_}
-use mathlib.Core.List.{List}
+use Prim.Native.Nat.{suc, _-_}
 use native.Mathlib.Omega.{arith}
 use lib.ListN.{length}
-use Rattle.chain.specs.Job.{Job, jobOf, partBound}
+use Rattle.chain.specs.Job.{jobOf}
 use Rattle.chain.specs.Dynamic.{tableValue}
 use Rattle.chain.proofs.Ranges.{part-small, small-fits}
 use Rattle.dynamic.proofs.Crossing.{small-same}

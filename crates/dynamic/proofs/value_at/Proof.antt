@@ -4,8 +4,8 @@ use borrow.Author.Needs.{needs}
 use Prim.Native.Nat.{ℕ, suc, _+_, _-_, _≤_}
 use mathlib.Core.Path.{_≡_, sym, ap, _∙_}
 use native.Mathlib.Omega.{arith}
-use Rattle.chain.specs.Job.{Job, jobOf, tasks, partBound}
-use Rattle.chain.specs.Dynamic.{tableValue, crossing}
+use Rattle.chain.specs.Job.{Job, jobOf, partBound}
+use Rattle.chain.specs.Dynamic.{tableValue}
 use Rattle.chain.proofs.Ranges.{part-small}
 use Rattle.chain.proofs.Parts.{valid-proper}
 use Rattle.chain.proofs.Table.{crossing-le}
@@ -60,7 +60,8 @@ at-most-requires : tie.Need-at-most-requires
 at-most-requires c κs =
     let s = start c in
     let v = s .pre .0 .ready .valid in
-    small-products (small-same (here-is (c .before .before)) (table-small v (s .args .p) (s .args .at))) (small-same (part-is c) (part-small v (suc (s .args .p)) (s .args .at - 1) (s .args .i)))
+    let h = small-products (small-same (here-is (c .before .before)) (table-small v (s .args .p) (s .args .at))) (small-same (part-is c) (part-small v (suc (s .args .p)) (s .args .at - 1) (s .args .i))) in
+    search needs
 
 returns-2 : tie.Need-returns-2
 returns-2 c =
