@@ -8,14 +8,9 @@ ghost use Rattle.chain.specs.Dynamic.{tableValue, crossing};
 ghost use Rattle.parts.specs.Prefix.{Ready};
 ghost use Rattle.dynamic.specs.Rows.{entryAt, stored, RowReady, Places, Advanced, Filled, FirstRow, Tabled};
 use bound::Bound;
+use parts::Found;
 use parts::part_bound;
 use parts::wide;
-
-// The least bottleneck, and the pointer's moves.
-pub struct Found {
-    pub bound: Bound,
-    pub count: u32,
-}
 
 // The pointer of a row, and the moves that pointers have made so far.
 struct Pointer {
