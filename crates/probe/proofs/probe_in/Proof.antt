@@ -5,7 +5,7 @@ use mathlib.Core.Path.{sym, _∙_}
 use native.Mathlib.Omega.{arith}
 use lib.ListN.{length-set}
 use Rattle.chain.specs.Job.{jobOf}
-use Rattle.probe.proofs.Written.{Walked, walked-start, walked-turn, walked-end, answer-fits, answer-fails, index-fits, rest-products, end-after, end-inside}
+use Rattle.probe.proofs.Walked.{Walked, walked-start, walked-turn, walked-end, answer-fits, answer-fails, index-fits, rest-products, end-after, end-inside}
 use Rattle.probe.proofs.Bids.{part-narrow}
 use Rattle.probe.proofs.probe_in.Statement.{statement}
 use Rattle.probe.proofs.probe_in.Tie as tie
