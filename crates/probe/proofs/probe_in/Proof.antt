@@ -37,7 +37,8 @@ slice-write-separators c = omega (arith, c .before .before .loop .inv .front .sa
 part-end-requires : tie.Need-part-end-requires Inv-loop μ-loop
 part-end-requires c κs =
     let s = c .before .before .before .before .before .before .before in
-    (s .pre .0, (s .pre .1 .0, (omega arith, c .before .before .loop .inv .inside)))
+    let h = c .before .before .loop .inv .inside in
+    (s .pre .0, (s .pre .1 .0, (omega arith, omega arith)))
 
 least-bid-requires : tie.Need-least-bid-requires Inv-loop μ-loop
 least-bid-requires c κs =
@@ -81,7 +82,8 @@ slice-write-separators-3 c = simp length-set (omega (arith, c .before .before .b
 part-bound-requires : tie.Need-part-bound-requires Inv-loop μ-loop
 part-bound-requires c κs =
     let s = c .before .before .before .before .before .before .before .before in
-    (s .pre .0, (omega arith, c .before .before .before .loop .inv .inside, omega arith))
+    let h = c .before .before .before .loop .inv .inside in
+    (s .pre .0, (omega arith, omega arith, omega arith))
 
 at-most-requires : tie.Need-at-most-requires Inv-loop μ-loop
 at-most-requires c κs =
