@@ -1,4 +1,5 @@
 pub mod Search
 pub mod Reach
 pub mod Bids
-pub mod Written
+pub mod Answer
+pub mod Walked

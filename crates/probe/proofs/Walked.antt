@@ -1,75 +1,29 @@
--- What the probe writes and answers.
+-- What the probe's loop keeps, and what it comes to.
 -- Assumes nothing.
 use Prim.Native.Nat.{ℕ, suc, _+_, _*_, _^_, _≤_, _<_}
 use mathlib.Core.Path.{_≡_, refl, sym, ap, subst, _∙_}
-use mathlib.Core.Bool.{Bool, true, false, not}
+use mathlib.Core.Bool.{true, false}
 use mathlib.Core.List.{List, [], _∷_, _++_}
 use native.Mathlib.Omega.{arith}
 use native.Mathlib.Nat.{lt-of-le-of-lt, le-trans}
 use native.Mathlib.Numerals.{add-one}
-use lib.Dec.{T, lit<}
-use lib.ListN.{length, getD, set, take, drop, length-append, length-drop, List·getD-append}
-use lib.Seq.{take-at}
+use lib.Dec.{lit<}
+use lib.ListN.{length, set, drop}
 use Rattle.bound.specs.declared.Bound.{Bound}
 use Rattle.bound.specs.Order.{le, lesser}
 use Rattle.chain.specs.Limits.{maxTasks}
 use Rattle.chain.specs.Lists.{tabulate}
 use Rattle.chain.specs.Job.{Job, Valid, tasks, processors, last, partBound, within, at}
-use Rattle.chain.specs.Probe.{reach, separator, walk, fits, nextBid, probe, fitting, failing}
+use Rattle.chain.specs.Probe.{reach, separator, walk, fits}
 use Rattle.chain.proofs.Parts.{valid-proper}
 use Rattle.chain.proofs.Bottleneck.{processors-last}
-use Rattle.chain.proofs.Walk.{reach-from, reach-to, separator-to, walk-at, walk-end, walk-length}
+use Rattle.chain.proofs.Walk.{reach-from, reach-to, separator-to, walk-at, walk-end}
 use Rattle.chain.proofs.Ranges.{Small, Lendable, part-small, probe-products}
 use Rattle.parts.proofs.Front.{Front, front-start, front-store, front-end}
 use Rattle.probe.specs.declared.Outcome.the-variants.{Fits, Fails}
-use Rattle.probe.specs.Outcome.{Narrow, rendered, outcomeOf}
+use Rattle.probe.specs.Outcome.{Narrow, outcomeOf}
 use Rattle.probe.proofs.Bids.{small-narrow, lesser-narrow, none, none-narrow, leastBefore, least-turn, least-end}
-
--- What the answer says, case by case.
-module _ (job : Job) (B : Bound) where
-  pub outcome-fits : fits job B ≡ true → outcomeOf job B ≡ Fits
-  unfolding outcomeOf probe
-  outcome-fits e = ap (λ (t : Bool). rendered (elim t [ true ↦ fitting | false ↦ failing (nextBid job B) ])) e
-
-  pub outcome-fails : fits job B ≡ false → outcomeOf job B ≡ Fails (nextBid job B)
-  unfolding outcomeOf probe
-  outcome-fails e = ap (λ (t : Bool). rendered (elim t [ true ↦ fitting | false ↦ failing (nextBid job B) ])) e
-
-  pub fits-outcome : outcomeOf job B ≡ Fits → T (fits job B)
-  fits-outcome e = go (fits job B) refl
-    where
-      go : (t : Bool) → fits job B ≡ t → T t
-      go true f = tt
-      go false f = let z : _≡_ {A = ℕ} 0 1 = cc (outcome-fails f) in absurd (let y : ⊥ = omega arith in y)
-
-  pub fails-outcome : {C : Bound} → outcomeOf job B ≡ Fails C → T (not (fits job B)) × (C ≡ nextBid job B)
-  fails-outcome {C} e = go (fits job B) refl
-    where
-      go : (t : Bool) → fits job B ≡ t → T (not t) × (C ≡ nextBid job B)
-      go true f = let z : _≡_ {A = ℕ} 0 1 = cc (outcome-fits f) in absurd (let y : ⊥ = omega arith in y)
-      go false f = (tt, cc (outcome-fails f))
-
--- The list that is written: the walk, and behind it what was there.
-tabulate-at : (l : List ℕ) → tabulate (at l) (length l) ≡ l
-unfolding tabulate
-tabulate-at [] = refl
-tabulate-at (x ∷ l) = ap (λ (m : List ℕ). x ∷ m) (tabulate-at l)
-
-module _ {job : Job} (v : Valid job) (B : Bound) where
-  walk-count : length (walk job B) ≡ suc (processors job)
-  walk-count = walk-length job B ∙ ap suc (sym (processors-last (valid-proper v)))
-
-  -- Its first P + 1 entries are the walk,
-  pub written-take : (l : List ℕ) → take (suc (processors job)) (walk job B ++ l) ≡ walk job B
-  written-take l = take-at (walk job B) l (suc (processors job)) walk-count
-
-  pub written-at : (l : List ℕ) (p : ℕ) → p ≤ processors job → getD (walk job B ++ l) p 0 ≡ at (walk job B) p
-  written-at l p h = List·getD-append (walk job B) l 0 p (omega (arith, walk-count))
-
-  -- and its length stays.
-  pub written-length : (xs : List ℕ) → processors job < length xs → length (walk job B ++ drop (suc (processors job)) xs) ≡ length xs
-  written-length xs h =
-      omega (arith, length-append (walk job B) (drop (suc (processors job)) xs), walk-count, length-drop (suc (processors job)) xs)
+use Rattle.probe.proofs.Answer.{outcome-fits, outcome-fails, walk-count}
 
 -- Separators fit 32 bits.
 tasks-fit : maxTasks < 2 ^ 32
@@ -83,6 +37,12 @@ index-fits v h = lt-of-le-of-lt (le-trans h (v .tasks-limit)) tasks-fit
 pub rest-products : {job : Job} {B C : Bound} (p a b : ℕ) → Valid job → Lendable B → C ≡ partBound job p a b
     → (C .load * B .speed < 2 ^ 64) × (B .load * C .speed < 2 ^ 64)
 rest-products p a b v l e = probe-products (subst Small (sym e) (part-small v p a b)) l
+
+-- A list is the table of its entries.
+tabulate-at : (l : List ℕ) → tabulate (at l) (length l) ≡ l
+unfolding tabulate
+tabulate-at [] = refl
+tabulate-at (x ∷ l) = ap (λ (m : List ℕ). x ∷ m) (tabulate-at l)
 
 -- What the loop keeps: it stands at the separator of p, has the least bid of the processors below p, and has written the
 -- separators before p.
