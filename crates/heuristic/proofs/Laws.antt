@@ -1,35 +1,32 @@
 -- What the loops keep: the sum of the speeds, the search's index, the heuristic's separators and the bottleneck so far.
 -- Assumes nothing.
-use Prim.Native.Nat.{ℕ, zero, suc, _+_, _-_, _*_, _/_, _≤_, _<_, _^_}
+use Prim.Native.Nat.{ℕ, suc, _+_, _-_, _*_, _/_, _≤_, _<_, _^_}
 use mathlib.Core.Path.{_≡_, refl, sym, ap, ap₂, subst, _∙_}
-use mathlib.Core.Bool.{Bool, true, false}
-use mathlib.Core.List.{List, [], _∷_, _++_, append-nil}
+use mathlib.Core.Bool.{true, false}
+use mathlib.Core.List.{List, [], _++_, append-nil}
 use mathlib.Core.Logic.{_⊎_, inl, inr}
 use native.Mathlib.Omega.{arith}
 use native.Mathlib.Decide.{decLe}
 use native.Mathlib.Numerals.{add-one}
 use native.Mathlib.Nat.{lt-of-le-of-lt, le-trans, div-le-of-le-mul}
-use lib.Dec.{leb, ltb, lit<}
-use lib.ListN.{length, getD, set, take, drop, length-append, length-set, length-take}
-use lib.Seq.{getD-set-same, drop-set-lt, getD-take, ext-getD, length-take-le}
+use lib.Dec.{ltb, lit<}
+use lib.ListN.{length, getD, set, drop, length-set}
+use lib.Seq.{getD-set-same, drop-set-lt, ext-getD}
 use borrow.Author.Tests.{le-leb, lt-leb, ltb-true, ltb-false}
-use Rattle.bound.specs.declared.Bound.{Bound}
-use Rattle.bound.specs.Order.{greater}
 use Rattle.chain.specs.Limits.{maxTasks}
-use Rattle.chain.specs.Lists.{tabulate, sumTo, smallestFrom, distance}
-use Rattle.chain.specs.Job.{Job, Valid, tasks, processors, last, speedOf, partWeight, totalWeight, totalSpeed, partBound, at, Partition, boundAt, bottleneckTo, bottleneck}
+use Rattle.chain.specs.Lists.{tabulate, sumTo, distance}
+use Rattle.chain.specs.Job.{Job, Valid, tasks, processors, last, speedOf, partWeight, totalWeight, totalSpeed, at, bottleneck}
 use Rattle.chain.specs.Heuristic.{nearest, heuristic}
 use Rattle.chain.proofs.Parts.{Proper, valid-proper, weight-all}
-use Rattle.chain.proofs.Indices.{Smallest, length-tabulate, at-tabulate}
-use Rattle.chain.proofs.Bottleneck.{processors-last}
+use Rattle.chain.proofs.Indices.{length-tabulate, at-tabulate}
 use Rattle.chain.proofs.Ideal.{total-speed-is}
 use Rattle.chain.proofs.Heuristic.{nearest-le, nearest-first, nearest-grows, heuristic-at, heuristic-end, heuristic-partition}
 use Rattle.chain.proofs.Ranges.{speeds-to-limit, total-speed-fits, total-weight-limit, loads-fit, heuristic-products}
 use Rattle.parts.specs.Prefix.{Prefix, Ready}
-use Rattle.parts.proofs.Front.{Front, front-start, front-store, front-end}
+use Rattle.parts.proofs.Front.{Front, front-store, front-end}
 use Rattle.parts.proofs.Laws.{speed-read}
 use Rattle.heuristic.specs.Target.{firstAtLeast, off, nearestTo, Target, Behind, FirstPast}
-use Rattle.heuristic.proofs.Nearest.{smallest-unique, first-past-is, nearest-high, targetOf, nearest-to-target, target-grows, target-most, behind-first, behind-more}
+use Rattle.heuristic.proofs.Nearest.{smallest-unique, first-past-is, nearest-high, nearest-low, targetOf, nearest-to-target, target-grows, target-most, behind-first, behind-more}
 
 -- An index of a job fits 32 bits.
 tasks-fit : maxTasks < 2 ^ 32
@@ -142,6 +139,11 @@ module _ {job : Job} {xs : List ℕ} {g total target : ℕ} (ready : Ready job x
       (subst (λ (n : ℕ). distance n target ≤ distance (high * total) target) (low-is x)
       (ltb-false (distance (high * total) target) (distance (low * total) target) e))
 
+  -- And then the smallest index with its prefix sum is found from any index on that is not past the nearest.
+  pub choice-end : (a : ℕ) {low r : ℕ} → (g ≤ tasks job → off job target (g - 1) ≤ off job target g) → low ≡ at xs (g - 1)
+      → a ≤ nearestTo job target → r ≡ firstAtLeast xs a (g - 1) low → r ≡ nearestTo job target
+  choice-end a near x h e = e ∙ ap (firstAtLeast xs a (g - 1)) x ∙ nearest-low ready f near a h
+
 -- The heuristic's separators up to p: the speed so far, the first index not known to be past the target and the nearest index.
 pub record Placed (job : Job) (before now : List ℕ) (total weight p speed past s : ℕ) : Type 0 where
   pub room : processors job < length before
@@ -151,6 +153,7 @@ pub record Placed (job : Job) (before now : List ℕ) (total weight p speed past
   pub speeds : SpeedTo job p speed
   pub behind : Behind job (targetOf job p) past
   pub near : s ≡ nearest job p
+  pub narrow : s < 2 ^ 32
   pub front : Front (at (heuristic job)) (suc p) before now
 
 pub placed-start : {job : Job} {sums : List ℕ} (xs : List ℕ) {total weight : ℕ} → Prefix job sums → processors job < length xs → total ≡ totalSpeed job
@@ -165,6 +168,7 @@ placed-start {job} {sums} xs r h x y =
       speeds = speed-start;
       behind = behind-first job (targetOf job 0);
       near = sym (nearest-first job);
+      narrow = lit< tt;
       front = record { same = refl; done = first; rest = λ k l. refl };
     }
   where
@@ -218,6 +222,7 @@ module _ {job : Job} {xs ys : List ℕ} {total weight p speed past s e : ℕ} (v
             speeds = n;
             behind = subst (λ (t : ℕ). Behind job t r) placed-aim (f .behind);
             near = nearest-next;
+            narrow = placed-narrow;
             front = front-store i (w .front) (omega (arith, w .room)) (z ∙ nearest-next ∙ sym (heuristic-at job (suc p) h));
           }) next
 

@@ -1,26 +1,25 @@
 -- The smallest index nearest to a target: it is the first index past the target, or the smallest index with the same prefix
 -- sum as the one before that. And searches find one index only.
 -- Assumes nothing.
-use Prim.Native.Nat.{ℕ, zero, suc, _+_, _-_, _*_, _/_, _≤_, _<_, _^_}
-use mathlib.Core.Path.{_≡_, refl, sym, ap, ap₂, subst, _∙_}
+use Prim.Native.Nat.{ℕ, suc, _+_, _-_, _*_, _/_, _≤_, _<_}
+use mathlib.Core.Path.{_≡_, refl, sym, ap, subst}
 use mathlib.Core.Bool.{Bool, true, false}
 use mathlib.Core.List.{List}
-use mathlib.Core.Logic.{_⊎_, inl, inr}
+use mathlib.Core.Logic.{inl, inr}
 use native.Mathlib.Omega.{arith}
 use native.Mathlib.Decide.{decLe}
-use native.Mathlib.Nat.{mul-le-mul-left, mul-le-mul-right, mul-lt-mul-of-pos-right, le-of-mul-le-mul-right, le-div-iff-mul-le, div-lt-iff-lt-mul}
+use native.Mathlib.Nat.{mul-le-mul-left, mul-le-mul-right, mul-lt-mul-of-pos-right, le-div-iff-mul-le, div-lt-iff-lt-mul}
 use lib.Dec.{leb, ltb}
-use lib.ListN.{length}
-use borrow.Author.Tests.{leb-true, leb-false}
+use borrow.Author.Tests.{leb-true, leb-false, lt-ltb, le-ltb}
 use Rattle.chain.specs.Lists.{sumTo, smallestFrom, smallestLeast, distance}
-use Rattle.chain.specs.Job.{Job, Valid, tasks, processors, speedOf, partWeight, totalWeight, totalSpeed, at}
+use Rattle.chain.specs.Job.{Job, tasks, processors, speedOf, partWeight, totalWeight, totalSpeed, at}
 use Rattle.chain.specs.Heuristic.{miss, nearest}
-use Rattle.chain.proofs.Parts.{weight-split, weight-empty, weight-all}
+use Rattle.chain.proofs.Parts.{weight-split, weight-empty}
 use Rattle.chain.proofs.Indices.{Smallest, smallest-is, SmallestLeast, smallest-least-is}
 use Rattle.chain.proofs.Ideal.{total-speed-is, sum-grows}
 use Rattle.chain.proofs.Ranges.{total-speed-positive}
-use Rattle.parts.specs.Prefix.{Prefix, Ready}
-use Rattle.heuristic.specs.Target.{firstAtLeast, off, nearestTo, Target, Behind, FirstPast}
+use Rattle.parts.specs.Prefix.{Ready}
+use Rattle.heuristic.specs.Target.{firstAtLeast, off, nearestTo, Behind, FirstPast}
 
 -- There is only one smallest index at which a test holds,
 pub smallest-one : {f : ℕ → Bool} {a d r q : ℕ} → Smallest f a d r → Smallest f a d q → r ≤ q
@@ -56,10 +55,10 @@ below-strictly a b t h k = omega arith
 above : (a b t : ℕ) → t ≤ a → a ≤ b → distance a t ≤ distance b t
 above a b t h k = omega arith
 
--- Whether y, past the target, is nearer to it than x, not past it.
-pub nearer-test : (x y t : ℕ) → x ≤ t → t ≤ y → ltb (y - t) (t - x) ≡ ltb (distance y t) (distance x t)
-nearer-test x y t h k =
-    ap₂ ltb (let e : y - t ≡ distance y t = omega arith in e) (let e : t - x ≡ distance x t = omega arith in e)
+-- A test that says what `ltb` says.
+pub test-is : (b : Bool) (m n : ℕ) → (b ≡ true → m < n) → (b ≡ false → n ≤ m) → b ≡ ltb m n
+test-is true m n h k = sym (lt-ltb m n (h refl))
+test-is false m n h k = sym (le-ltb m n (k refl))
 
 -- A function that grows, a target t and the first index g past it.
 module _ (x : ℕ → ℕ) (up : (i j : ℕ) → i ≤ j → x i ≤ x j) (n t g : ℕ) (from : 1 ≤ g) (to : g ≤ suc n) (before : (k : ℕ) → k < g → x k ≤ t)

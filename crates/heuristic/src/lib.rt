@@ -1,9 +1,9 @@
 // The heuristic of Miguet and Pierson (document 01's quick plan) over prefix sums, and the bottleneck of a partition.
 // All functions here are inner: their callers have tested the job.
-ghost use Prim.Native.Nat.{ℕ, suc, _+_, _-_, _*_, _^_, _≤_, _<_};
+ghost use Prim.Native.Nat.{suc, _*_, _^_, _≤_, _<_};
 ghost use mathlib.Core.Path.{_≡_};
 ghost use mathlib.Core.List.{_++_};
-ghost use lib.Dec.{leb, ltb};
+ghost use lib.Dec.{ltb};
 ghost use lib.ListN.{length, take, drop};
 ghost use Rattle.bound.specs.Order.{greater};
 ghost use Rattle.chain.specs.Lists.{distance};
@@ -98,13 +98,14 @@ fn nearest_from(
     requires { ⌜ s ≤ nearestTo (jobOf (now weights) (now speeds)) target ⌝ }
     ensures { λ r. ⌜ r ≡ nearestTo (jobOf (now (weights .entry)) (now (speeds .entry))) target ⌝ }
 {
-    let low = parts::wide(sums[past - 1]);
+    let before = past - 1;
+    let low = parts::wide(sums[before]);
     if past <= weights.len() {
         if high_nearer(low, parts::wide(sums[past]), total, target) {
             return past;
         }
     }
-    first_at_least(sums, s, past - 1, low)
+    first_at_least(sums, s, before, low)
 }
 
 // Inner. Writes the heuristic's separators to the front of the list.
@@ -164,9 +165,10 @@ pub fn measure_in(speeds: &[u32], weights: &[u32], sums: &[u32], separators: &[u
     ensures { λ r. ⌜ r ≡ bottleneck (jobOf (now (weights .entry)) (now (speeds .entry))) (now (separators .entry)) ⌝ }
     ensures { λ r. ⌜ r ≡ bottleneck (jobOf (now (weights .entry)) (now (speeds .entry))) (take (suc (length (now (speeds .entry)))) (now (separators .entry))) ⌝ }
 {
+    let last = speeds.len() - 1;
     let mut greatest = bound_at(speeds, weights, sums, separators, 0);
     let mut p = 1;
-    while p < speeds.len() {
+    while p <= last {
         greatest = greater_of(greatest, bound_at(speeds, weights, sums, separators, p));
         p += 1;
     }

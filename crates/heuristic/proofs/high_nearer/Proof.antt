@@ -1,30 +1,31 @@
+-- `high_nearer` meets its contract: on either side of the target the differences are the distances.
+-- Assumes nothing.
 use Prim.Native.Nat.{_*_}
-use Rattle.heuristic.proofs.Nearest.{nearer-test}
+use native.Mathlib.Omega.{arith}
 use borrow.Author.Needs.{needs}
+use borrow.Author.Tests.{leb-true, leb-false, ltb-true, ltb-false}
+use Rattle.chain.specs.Lists.{distance}
+use Rattle.heuristic.proofs.Nearest.{test-is}
 use Rattle.heuristic.proofs.high_nearer.Statement.{statement}
 use Rattle.heuristic.proofs.high_nearer.Tie as tie
-use Rattle.heuristic.proofs.high_nearer.Reads as reads
-use Rattle.heuristic.proofs.high_nearer.Lts as lts
 
--- src/lib.rt:82:5
 mul-result : tie.Need-mul-result
 mul-result c = search needs
 
--- src/lib.rt:82:5
 sub-result : tie.Need-sub-result
 sub-result c = search needs
 
--- src/lib.rt:82:38
 mul-result-2 : tie.Need-mul-result-2
 mul-result-2 c = search needs
 
--- src/lib.rt:82:29
 sub-result-2 : tie.Need-sub-result-2
 sub-result-2 c = search needs
 
--- src/lib.rt:78:1
 returns : tie.Need-returns
-returns c = let a = c .args in nearer-test (a .low * a .total) (a .high * a .total) (a .target) (c .pre .0) (c .pre .1)
+returns c =
+    let a = c .args in
+    test-is _ (distance (a .high * a .total) (a .target)) (distance (a .low * a .total) (a .target)) (λ e. omega (arith, leb-true, ltb-true))
+    (λ e. omega (arith, leb-false, ltb-false))
 
 pub high-nearer-spec : {M : Type 1} → statement M
 high-nearer-spec = tie.close (tie.spec mul-result sub-result mul-result-2 sub-result-2 returns)
