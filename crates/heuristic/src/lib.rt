@@ -12,6 +12,7 @@ ghost use Rattle.chain.specs.Heuristic.{heuristic};
 ghost use Rattle.parts.specs.Prefix.{Ready};
 ghost use Rattle.heuristic.specs.Target.{firstAtLeast, nearestTo, Target, Behind, FirstPast};
 use bound::Bound;
+use figures::total_speed;
 
 // An index as a number of 32 bits. Inner: it fits.
 fn narrow(i: usize) -> u32
@@ -26,20 +27,6 @@ fn index(x: u32) -> usize
     ensures { λ r. ⌜ r ≡ x ⌝ }
 {
     x as usize
-}
-
-// Inner. All speed.
-pub fn total_speed(speeds: &[u32], weights: &[u32]) -> u64
-    requires { ⌜ Valid (jobOf (now weights) (now speeds)) ⌝ }
-    ensures { λ r. ⌜ r ≡ totalSpeed (jobOf (now (weights .entry)) (now (speeds .entry))) ⌝ }
-{
-    let mut total = 0u64;
-    let mut p = 0;
-    while p < speeds.len() {
-        total += parts::wide(speeds[p]);
-        p += 1;
-    }
-    total
 }
 
 // Inner. The smallest index from a to b whose entry is at least the limit, b if there is none.

@@ -21,8 +21,6 @@ use Rattle.chain.specs.Search.{Ends, bidding, firstEnds, narrow, ends, meet}
 use Rattle.chain.specs.Plan.{BiddingEnds, BisectionEnds, at-once, after, difference}
 use Rattle.chain.proofs.Parts.{valid-proper}
 use Rattle.chain.proofs.Indices.{first-of}
-use Rattle.chain.proofs.Bottleneck.{processors-last}
-use Rattle.chain.proofs.Walk.{walk-length}
 use Rattle.chain.proofs.Bidding.{failures-below}
 use Rattle.chain.proofs.Bisection.{Bracket, bracket-after, low-high, rounds-below}
 use Rattle.chain.proofs.Ranges.{Small, Lendable, small-lendable, ideal-lendable, bottleneck-small, next-bid-small}
@@ -32,10 +30,6 @@ use Rattle.figures.proofs.Laws.{count-fits, digits-fit}
 -- What holds at each index below k and at k holds below k + 1.
 below-next : {Q : ℕ → Type 0} {k : ℕ} → ((j : ℕ) → j < k → Q j) → Q k → (j : ℕ) → j < suc k → Q j
 below-next {Q} {k} h x j l = elim (decLe (suc j) k) [ yes m ↦ h j m | no m ↦ subst Q (let e : k ≡ j = omega arith in e) x ]
-
--- The walk has P + 1 separators.
-pub walk-count : {job : Job} → Valid job → (B : Bound) → length (walk job B) ≡ suc (processors job)
-walk-count {job} v B = walk-length job B ∙ ap suc (sym (processors-last (valid-proper v)))
 
 -- Bidding after k failures: the bound to try next, and the count of failures.
 pub record Bidden (job : Job) (bound : Bound) (count : ℕ) : Type 0 where

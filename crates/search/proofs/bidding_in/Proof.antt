@@ -8,8 +8,8 @@ use lib.ListN.{length}
 use Rattle.chain.specs.Job.{Job, jobOf, tasks, last}
 use Rattle.chain.specs.Probe.{walk}
 use Rattle.parts.proofs.Front.{Behind, behind-start, behind-written, behind-is}
-use Rattle.probe.proofs.Written.{fits-outcome, fails-outcome}
-use Rattle.search.proofs.Laws.{walk-count, Bidden, bidden-start, bidden-room, bidden-fits, bidden-next, bidden-end}
+use Rattle.probe.proofs.Answer.{walk-count, fits-outcome, fails-outcome}
+use Rattle.search.proofs.Laws.{Bidden, bidden-start, bidden-room, bidden-fits, bidden-next, bidden-end}
 use Rattle.search.proofs.bidding_in.Statement.{statement}
 use Rattle.search.proofs.bidding_in.Tie as tie
 

@@ -11,8 +11,8 @@ use Rattle.chain.specs.Job.{Job, jobOf}
 use Rattle.chain.specs.Probe.{walk, fits, nextBid}
 use Rattle.chain.proofs.Ranges.{Lendable, ideal-lendable}
 use Rattle.parts.proofs.Front.{behind-start, behind-written}
-use Rattle.probe.proofs.Written.{fits-outcome, fails-outcome}
-use Rattle.search.proofs.Laws.{walk-count, ended-at-once, behind-trans}
+use Rattle.probe.proofs.Answer.{walk-count, fits-outcome, fails-outcome}
+use Rattle.search.proofs.Laws.{ended-at-once, behind-trans}
 use borrow.Author.Needs.{needs}
 use Rattle.search.proofs.bisection_in.Statement.{statement}
 use Rattle.search.proofs.bisection_in.Tie as tie
