@@ -1,0 +1,61 @@
+-- What planning answers and leaves in the lent lists, refusals included. Document 01, "The three methods", "Who causes which
+-- number"; demand 3.
+use Prim.Native.Nat.{ℕ, zero, suc, _+_, _*_, _≤_, _<_}
+use mathlib.Core.Path.{_≡_}
+use mathlib.Core.List.{List, [], _∷_, _++_}
+use lib.ListN.{length, drop}
+use Rattle.chain.specs.Job.{Job, tasks, processors}
+use Rattle.chain.specs.Plan.{planOf, Best, Plan, PlanBy}
+use Rattle.chain.specs.Refusal.{Inputs, refusal}
+use Rattle.figures.specs.Methods.{methodOf}
+use Rattle.planner.specs.declared.Figures.{Figures}
+use Rattle.planner.specs.declared.Planned.{Planned}
+use Rattle.planner.specs.declared.Planned.the-variants.{Accepted, Refused}
+
+-- "5 × (N + 1) work numbers of 32 bits"
+abbrev pub scratchNeeded : Job → ℕ
+scratchNeeded job = 5 * suc (tasks job)
+
+-- What planning takes beside the job: a method, P + 1 separators and the work numbers, in lists of these lengths.
+unfoldable pub planInputs : Job → ℕ → ℕ → ℕ → Inputs
+planInputs job m separators scratch =
+    record {
+      methods = m ∷ [];
+      lists =
+        record { needed = suc (processors job); given = separators } ∷ record { needed = scratchNeeded job; given = scratch } ∷ [];
+      bounds = [];
+      divisions = []
+    }
+
+-- The number that planning is refused with, 0 where it is accepted.
+unfoldable pub planRefusal : Job → ℕ → ℕ → ℕ → ℕ
+planRefusal job m separators scratch = refusal job (planInputs job m separators scratch)
+
+-- The plan that an accepted call gives: the separators of the definition, with the figures that were answered.
+abbrev pub planWith : Job → Figures → Plan
+planWith job f =
+    record { separators = planOf job; count = f .count; allowed = f .allowance; bound = f .bottleneck; excess = f .imbalance }
+
+-- An accepted plan by method m. The lists s and t of separators and work numbers are s′ and t′ at exit.
+pub record PlanGiven (job : Job) (m : ℕ) (s t s′ t′ : List ℕ) (f : Figures) : Type 0 where
+  -- the method's own count, its allowance, bottleneck and imbalance, by their definitions
+  pub plan : PlanBy (methodOf m) job (planWith job f)
+  -- no division has a smaller bottleneck; of an equal one each separator is at or before
+  pub best : Best job (planOf job)
+  pub allowed : f .count ≤ f .allowance
+  -- the first P + 1 separators are the plan's, later ones stay
+  pub separators : s′ ≡ planOf job ++ drop (suc (processors job)) s
+  -- the first 5 × (N + 1) work numbers may hold anything, later ones stay
+  pub scratch : drop (scratchNeeded job) t′ ≡ drop (scratchNeeded job) t
+  pub same : length t′ ≡ length t
+
+-- The whole answer: accepted exactly where nothing refuses, else the number, and everything lent stays.
+abbrev pub PlanAnswer : Job → ℕ → List ℕ → List ℕ → List ℕ → List ℕ → Planned → Type 0
+PlanAnswer job m s t s′ t′ (Accepted f) = (planRefusal job m (length s) (length t) ≡ 0) × PlanGiven job m s t s′ t′ f
+PlanAnswer job m s t s′ t′ (Refused n) =
+    (planRefusal job m (length s) (length t) ≡ n) × (0 < n) × (s′ ≡ s) × (t′ ≡ t)
+
+-- Document 01's number of an answer.
+abbrev pub plannedNumber : Planned → ℕ
+plannedNumber (Accepted f) = 0
+plannedNumber (Refused n) = n
