@@ -2,28 +2,36 @@
 -- Assumes nothing.
 use Prim.Native.Nat.{ℕ, zero, suc, _+_, _-_, _*_, _≤_, _<_}
 use mathlib.Core.Path.{_≡_, refl, sym, ap, subst, _∙_}
-use mathlib.Core.List.{List, _++_}
+use mathlib.Core.Bool.{Bool, true, false, cond, _&&_}
+use mathlib.Core.List.{List, [], _∷_, _++_}
 use native.Mathlib.Omega.{arith}
-use lib.ListN.{length, take, drop}
+use lib.Dec.{leb}
+use borrow.Author.Tests.{le-leb, lt-leb}
+use lib.ListN.{length, take, drop, length-append, length-drop}
+use lib.Seq.{drop-append-add, drop-drop}
 use Rattle.bound.specs.declared.Bound.{Bound}
 use Rattle.bound.specs.Order.{_≼_}
 use Rattle.chain.specs.Lists.{sum}
-use Rattle.chain.specs.Job.{Job, Valid, Partition, tasks, processors, bottleneck, ideal, totalWeight}
+use Rattle.chain.specs.Job.{Job, Valid, Partition, partWeight, tasks, processors, bottleneck, ideal, totalWeight}
 use Rattle.chain.specs.Probe.{walk}
 use Rattle.chain.specs.Search.{bidding}
 use Rattle.chain.specs.Plan.{Method, MethodEnds, TableEnds, BiddingEnds, BisectionEnds, planOf, Best, PlanBy, allowance, imbalance}
+use Rattle.chain.specs.Refusal.{Test, between, methodTest, lengthTest, firstRefusal, jobTests, callTests, refusal}
+use Rattle.chain.proofs.Refusals.{first-refusal-append, first-refusal-before, job-numbered, job-accepted}
+use Rattle.chain.proofs.Indices.{length-tabulate}
 use Rattle.chain.proofs.Parts.{valid-proper, weight-all}
 use Rattle.chain.proofs.Ideal.{ideal-least}
 use Rattle.chain.proofs.Best.{Least, least-alike}
 use Rattle.chain.proofs.Demand.{least-bottleneck, method-least, method-allowed, plan-of-best}
 use Rattle.chain.proofs.Ranges.{Small, Lendable, small-lendable, ideal-lendable, next-bid-small, bottleneck-small}
-use Rattle.parts.specs.Prefix.{Ready, Prefix}
+use Rattle.parts.specs.Prefix.{Ready, Prefix, prefixes}
+use Rattle.parts.proofs.Laws.{prefixes-are}
 use Rattle.parts.proofs.Front.{Behind}
 use Rattle.figures.specs.Methods.{methodOf}
 use Rattle.figures.proofs.Laws.{method-table, method-bidding, method-bisection}
 use Rattle.dynamic.specs.Rows.{Tabled}
 use Rattle.planner.specs.declared.Figures.{Figures}
-use Rattle.planner.specs.Answers.{scratchNeeded, planWith, PlanGiven}
+use Rattle.planner.specs.Answers.{scratchNeeded, planInputs, planRefusal, planWith, PlanGiven}
 
 -- The three methods by their numbers.
 pub ends-table : {job : Job} {xs ys : List ℕ} {B : Bound} {n : ℕ} (m : ℕ) → m ≡ 1 → Tabled job xs ys B n → MethodEnds (methodOf m) job n B
@@ -79,8 +87,81 @@ plan-given {job} {m} {s} {t} {s′} {t′} {f} v p e b =
       plan = p;
       best = plan-of-best (valid-proper v);
       allowed =
-        subst (λ (n : ℕ). f .count ≤ n) (sym (p .allows)) (method-allowed (valid-proper v) (methodOf m) (f .count) (p .found) (p .ended));
+          subst (λ (n : ℕ). f .count ≤ n) (sym (p .allows)) (method-allowed (valid-proper v) (methodOf m) (f .count) (p .found) (p .ended));
       separators = e;
       scratch = b .rest;
-      same = b .same
+      same = b .same;
     }
+
+-- Prefix sums put in front of the work numbers: the job is ready, and what is behind all of them stays.
+pub summed-ready : {job : Job} (xs : List ℕ) {ys : List ℕ} → Valid job → ys ≡ prefixes job ++ drop (suc (tasks job)) xs → Ready job ys
+summed-ready {job} xs v e = record { valid = v; prefix = subst (Prefix job) (sym e) (prefixes-are job (drop (suc (tasks job)) xs)) }
+
+pub summed-behind : (job : Job) (xs : List ℕ) {ys : List ℕ} → ys ≡ prefixes job ++ drop (suc (tasks job)) xs → scratchNeeded job ≤ length xs
+    → Behind (scratchNeeded job) xs ys
+unfolding prefixes
+summed-behind job xs {ys} e h =
+    record {
+      same = omega (arith, ap length e, length-append (prefixes job) (drop n xs), count, length-drop n xs);
+      rest =
+          ap (drop (scratchNeeded job)) e
+          ∙ ap (λ (k : ℕ). drop k (prefixes job ++ drop n xs)) (let x : scratchNeeded job ≡ length (prefixes job) + 4 * n = omega (arith, count) in x)
+          ∙ drop-append-add (prefixes job) (drop n xs) (4 * n) ∙ drop-drop (4 * n) n xs
+          ∙ ap (λ (k : ℕ). drop k xs) (let x : n + 4 * n ≡ scratchNeeded job = omega arith in x);
+    }
+  where
+    n : ℕ
+    n = suc (tasks job)
+
+    count : length (prefixes job) ≡ suc (tasks job)
+    count = length-tabulate (partWeight job 0) (suc (tasks job))
+
+-- The order of the tests: the method, the job, the two lists.
+module _ (job : Job) (m a b : ℕ) where
+  lists : List Test
+  lists = lengthTest (suc (processors job)) a ∷ lengthTest (scratchNeeded job) b ∷ []
+
+  in-order : planRefusal job m a b ≡ cond (between 1 3 m) (firstRefusal (jobTests job ++ lists)) 1
+  unfolding planRefusal planInputs refusal callTests methodTest firstRefusal jobTests lists
+  in-order = refl
+
+  pub few-method : m < 1 → planRefusal job m a b ≡ 1
+  few-method h = in-order ∙ ap (λ (t : Bool). cond (t && leb m 3) (firstRefusal (jobTests job ++ lists)) 1) (lt-leb 1 m h)
+
+  pub many-method : 1 ≤ m → 3 < m → planRefusal job m a b ≡ 1
+  many-method h k =
+      in-order ∙ ap (λ (t : Bool). cond (t && leb m 3) (firstRefusal (jobTests job ++ lists)) 1) (le-leb 1 m h)
+      ∙ ap (λ (t : Bool). cond t (firstRefusal (jobTests job ++ lists)) 1) (lt-leb m 3 k)
+
+  module _ (low : 1 ≤ m) (high : m ≤ 3) where
+    tested-method : planRefusal job m a b ≡ firstRefusal (jobTests job ++ lists)
+    tested-method =
+        in-order ∙ ap (λ (t : Bool). cond (t && leb m 3) (firstRefusal (jobTests job ++ lists)) 1) (le-leb 1 m low)
+        ∙ ap (λ (t : Bool). cond t (firstRefusal (jobTests job ++ lists)) 1) (le-leb m 3 high)
+
+    pub refused-job : (n : ℕ) → n ≡ firstRefusal (jobTests job) → (n ≡ 0 → ⊥) → planRefusal job m a b ≡ n
+    refused-job n e h = tested-method ∙ first-refusal-before (jobTests job) lists (λ x. h (e ∙ x)) ∙ sym e
+
+    module _ (n : ℕ) (is : n ≡ firstRefusal (jobTests job)) (passed : n ≡ 0) where
+      tested-job : planRefusal job m a b ≡ firstRefusal lists
+      tested-job = tested-method ∙ first-refusal-append (jobTests job) lists (job-numbered job) (sym is ∙ passed)
+
+      pub job-valid : Valid job
+      job-valid = job-accepted .0 (sym is ∙ passed)
+
+      pub short-separators : a ≤ processors job → planRefusal job m a b ≡ 9
+      unfolding firstRefusal lists lengthTest
+      short-separators h =
+          tested-job ∙ ap (λ (t : Bool). cond t (firstRefusal (lengthTest (scratchNeeded job) b ∷ [])) 9) (lt-leb (suc (processors job)) a (omega arith))
+
+      pub short-scratch : processors job < a → b < scratchNeeded job → planRefusal job m a b ≡ 9
+      unfolding firstRefusal lists lengthTest
+      short-scratch h k =
+          tested-job ∙ ap (λ (t : Bool). cond t (firstRefusal (lengthTest (scratchNeeded job) b ∷ [])) 9) (le-leb (suc (processors job)) a h)
+          ∙ ap (λ (t : Bool). cond t 0 9) (lt-leb (scratchNeeded job) b k)
+
+      pub accepted : processors job < a → scratchNeeded job ≤ b → planRefusal job m a b ≡ 0
+      unfolding firstRefusal lists lengthTest
+      accepted h k =
+          tested-job ∙ ap (λ (t : Bool). cond t (firstRefusal (lengthTest (scratchNeeded job) b ∷ [])) 9) (le-leb (suc (processors job)) a h)
+          ∙ ap (λ (t : Bool). cond t 0 9) (le-leb (scratchNeeded job) b k)

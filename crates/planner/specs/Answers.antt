@@ -22,9 +22,9 @@ planInputs job m separators scratch =
     record {
       methods = m ∷ [];
       lists =
-        record { needed = suc (processors job); given = separators } ∷ record { needed = scratchNeeded job; given = scratch } ∷ [];
+          record { needed = suc (processors job); given = separators } ∷ record { needed = scratchNeeded job; given = scratch } ∷ [];
       bounds = [];
-      divisions = []
+      divisions = [];
     }
 
 -- The number that planning is refused with, 0 where it is accepted.

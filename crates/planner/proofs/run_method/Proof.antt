@@ -23,12 +23,15 @@ same-length : tie.Need-same-length
 same-length c = search needs
 
 returns : tie.Need-returns
-returns c = 
+returns c =
     let s = c .before .before .before .before .before .before .before .before .before in
-    let t = c .before .before .table-in .ensures in
-    (ends-table (s .args .method) (omega arith) t,
-    (small-lendable (tabled-small t (s .pre .0 .valid)),
-    (behind-start (suc (length (s .args .speeds .now))) (s .args .separators .now), (tabled-ready t (s .pre .0), tabled-behind t))))
+    let t = c .before .before .table-in .ensures in (
+      ends-table (s .args .method) (omega arith) t,
+      (
+        small-lendable (tabled-small t (s .pre .0 .valid)),
+        (behind-start (suc (length (s .args .speeds .now))) (s .args .separators .now), (tabled-ready t (s .pre .0), tabled-behind t)),
+      ),
+    )
 
 bidding-in-requires : tie.Need-bidding-in-requires
 bidding-in-requires c κs = search needs
@@ -40,15 +43,20 @@ same-length-3 : tie.Need-same-length-3
 same-length-3 c = search needs
 
 returns-2 : tie.Need-returns-2
-returns-2 c = 
+returns-2 c =
     let s = c .before .before .before .before .before .before .before .before .before .before .before in
     let job : Job = jobOf (s .args .weights .now) (s .args .speeds .now) in
     let r = c .before .before .bidding-in in
-    let b = behind-start (suc (length (s .args .speeds .now))) (s .args .separators .now) in
-    (ends-bidding (s .args .method) (omega arith) (r .ensures .0),
-    (ended-lendable (s .pre .0 .valid) (r .ensures .0),
-    (behind-written (walk job (r .result .bound)) _ b (s .pre .1 .0) (walk-count (s .pre .0 .valid) (r .result .bound)) (r .ensures .1),
-    (s .pre .0, behind-start (scratchNeeded job) (s .args .scratch .now)))))
+    let b = behind-start (suc (length (s .args .speeds .now))) (s .args .separators .now) in (
+      ends-bidding (s .args .method) (omega arith) (r .ensures .0),
+      (
+        ended-lendable (s .pre .0 .valid) (r .ensures .0),
+        (
+          behind-written (walk job (r .result .bound)) _ b (s .pre .1 .0) (walk-count (s .pre .0 .valid) (r .result .bound)) (r .ensures .1),
+          (s .pre .0, behind-start (scratchNeeded job) (s .args .scratch .now)),
+        ),
+      ),
+    )
 
 bisection-in-requires : tie.Need-bisection-in-requires
 bisection-in-requires c κs = search needs
@@ -60,12 +68,13 @@ same-length-5 : tie.Need-same-length-5
 same-length-5 c = search needs
 
 returns-3 : tie.Need-returns-3
-returns-3 c = 
+returns-3 c =
     let s = c .before .before .before .before .before .before .before .before .before .before .before in
     let job : Job = jobOf (s .args .weights .now) (s .args .speeds .now) in
-    let r = c .before .before .bisection-in .ensures in
-    (ends-bisection (s .args .method) (omega arith) (omega arith) (r .0),
-    (r .1 .0, (r .1 .1, (s .pre .0, behind-start (scratchNeeded job) (s .args .scratch .now)))))
+    let r = c .before .before .bisection-in .ensures in (
+      ends-bisection (s .args .method) (omega arith) (omega arith) (r .0),
+      (r .1 .0, (r .1 .1, (s .pre .0, behind-start (scratchNeeded job) (s .args .scratch .now)))),
+    )
 
 pub run-method-spec : {M : Type 1} → statement M
 run-method-spec =

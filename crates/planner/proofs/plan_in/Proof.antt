@@ -1,0 +1,62 @@
+-- `plan_in` meets its contract: prefix sums, the method, the closing walk.
+-- Assumes nothing.
+use Prim.Native.Nat.{ℕ, suc}
+use mathlib.Core.Path.{_≡_, sym, ap, _∙_}
+use native.Mathlib.Omega.{arith}
+use lib.ListN.{length, drop}
+use Rattle.chain.specs.Job.{Job, jobOf}
+use Rattle.chain.specs.Plan.{planOf}
+use Rattle.parts.proofs.Front.{behind-is}
+use Rattle.search.proofs.Laws.{behind-trans}
+use Rattle.planner.proofs.Laws.{summed-ready, summed-behind, plan-given}
+use borrow.Author.Needs.{needs}
+use Rattle.planner.proofs.plan_in.Statement.{statement}
+use Rattle.planner.proofs.plan_in.Tie as tie
+
+prefix-sums-requires : tie.Need-prefix-sums-requires
+prefix-sums-requires c κs = search needs
+
+run-method-requires : tie.Need-run-method-requires
+run-method-requires c κs =
+    let s = c .before .before .before .before .before .before .before .before .before .before in
+    let job : Job = jobOf (s .args .weights .now) (s .args .speeds .now) in
+    let v = s .pre .0 in
+    let e = c .before .before .before .before .prefix-sums .ensures in
+    (summed-ready (s .args .scratch .now) v e, (s .pre .1 .0, omega (arith, s .pre .1 .1, summed-behind job (s .args .scratch .now) e (s .pre .1 .1) .same)))
+
+close-plan-requires : tie.Need-close-plan-requires
+close-plan-requires c κs =
+    let s = c .before .before .before .before .before .before .before .before .before .before .before .before .before .before .before .before .before in
+    let job : Job = jobOf (s .args .weights .now) (s .args .speeds .now) in
+    let v = s .pre .0 in
+    let r = c .before .before .before .before .before .before .run-method .ensures in
+    (r .1 .1 .1 .0, (omega (arith, s .pre .1 .0, r .1 .1 .0 .same), (r .0, r .1 .0)))
+
+same-length : tie.Need-same-length
+same-length c = search needs
+
+same-length-2 : tie.Need-same-length-2
+same-length-2 c = search needs
+
+returns : tie.Need-returns
+returns c =
+    let s = c .before .before .before .before .before .before .before .before .before .before .before .before .before .before .before .before .before .before .before .before in
+    let job : Job = jobOf (s .args .weights .now) (s .args .speeds .now) in
+    let v = s .pre .0 in
+    let r = c .before .before .before .before .before .before .before .before .before .run-method .ensures in
+    let p = c .before .before .close-plan .ensures in (
+      plan-given v (p .0) (behind-is (planOf job) (r .1 .1 .0) (p .1))
+          (behind-trans (summed-behind job (s .args .scratch .now) (c .before .before .before .before .before .before .before .before .before .before .before .before .before .before .prefix-sums .ensures) (s .pre .1 .1)) (r .1 .1 .1 .1)),
+      r .1 .1 .1 .0,
+    )
+
+pub plan-in-spec : {M : Type 1} → statement M
+plan-in-spec =
+    tie.close
+    (tie.spec
+    prefix-sums-requires
+    run-method-requires
+    close-plan-requires
+    same-length
+    same-length-2
+    returns)
