@@ -1,15 +1,15 @@
 -- A plan file read back, field by field.
 -- Assumes nothing.
-use Prim.Native.Nat.{ℕ, zero, suc, _+_, _-_, _*_, _/_, _%_, _≤_, _<_, _^_}
-use mathlib.Core.Path.{_≡_, refl, sym, ap, _∙_}
-use mathlib.Core.List.{List, [], _∷_, _++_, append-assoc, append-nil}
+use Prim.Native.Nat.{ℕ, zero, suc, _+_, _-_, _*_, _/_, _%_, _<_, _^_}
+use mathlib.Core.Path.{_≡_, sym, ap, _∙_}
+use mathlib.Core.List.{List, [], _++_, append-assoc, append-nil}
 use native.Mathlib.Omega.{arith}
-use lib.ListN.{length, getD, length-append}
+use lib.ListN.{length, getD}
 use lib.Seq.{getD-append-add}
 use Rattle.chain.specs.Job.{Job, Valid, processors, speedOf, partLoad, at, Partition}
 use Rattle.jobs.specs.JobFile.{fieldBytes}
 use Rattle.planfile.specs.PlanFile.{planRecord, planBytesTo, planBytes, fieldAt}
-use Rattle.planfile.proofs.Records.{length-field, length-plan-to}
+use Rattle.planfile.proofs.Records.{length-plan-to}
 use Rattle.planfile.proofs.Parts.{FieldsFit, fields-fit}
 
 -- Four digits of base 256.

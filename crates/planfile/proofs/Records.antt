@@ -2,10 +2,10 @@
 -- Assumes nothing.
 use Prim.Native.Nat.{ℕ, zero, suc, _+_, _*_, _/_, _%_, _≤_, _<_}
 use mathlib.Core.Path.{_≡_, refl, sym, ap, ap₂, _∙_}
-use mathlib.Core.List.{List, [], _∷_, _++_, append-assoc}
+use mathlib.Core.List.{List, _++_, append-assoc}
 use native.Mathlib.Omega.{arith}
 use native.Mathlib.Numerals.{add-one}
-use lib.ListN.{length, getD, take, drop, set, length-append, length-drop, take-append-drop}
+use lib.ListN.{length, take, drop, set, length-append, length-drop, take-append-drop}
 use lib.Seq.{take-at, length-take-le, drop-drop, drop-append-add, sets-eq, getD-take}
 use Rattle.chain.specs.Job.{Job, processors, speedOf, partLoad, at}
 use Rattle.jobs.specs.JobFile.{fieldBytes}
@@ -123,3 +123,19 @@ pub plan-all : {job : Job} {s before now : List ℕ} {p : ℕ} → PuttingPlan j
 unfolding planBytes
 plan-all {job} {s} {before} {now} {p} w h =
     w .held ∙ ap (λ (n : ℕ). planBytesTo job s n ++ drop (16 * n) before) (let e : p ≡ processors job = omega (arith, w .done) in e)
+
+-- The record of processor p, field by field.
+pub record-put : (job : Job) (s : List ℕ) (p load speed : ℕ) (l : List ℕ) {l₁ l₂ l₃ l₄ : List ℕ} → 16 * p + 16 ≤ length l
+    → load ≡ partLoad job (at s p) (at s (p + 1)) → speed ≡ speedOf job p
+    → l₁ ≡ take (16 * p) l ++ fieldBytes (at s p) ++ drop (16 * p + 4) l
+    → l₂ ≡ take (16 * p + 4) l₁ ++ fieldBytes (at s (p + 1)) ++ drop (16 * p + 4 + 4) l₁
+    → l₃ ≡ take (16 * p + 8) l₂ ++ fieldBytes load ++ drop (16 * p + 8 + 4) l₂
+    → l₄ ≡ take (16 * p + 12) l₃ ++ fieldBytes speed ++ drop (16 * p + 12 + 4) l₃
+    → l₄ ≡ take (16 * p) l ++ planRecord job s p ++ drop (16 * p + 16) l
+unfolding planRecord
+record-put job s p load speed l {l₁} {l₂} {l₃} {l₄} h e f e₁ e₂ e₃ e₄ =
+    four-fields l (16 * p) (at s p) (at s (p + 1)) load speed h e₁ e₂ e₃ e₄ ∙ ap₂ (λ (x y : ℕ). fields (at s (p + 1)) x y) e f
+    ∙ ap (λ (q : ℕ). fields (at s q) (partLoad job (at s p) (at s q)) (speedOf job p)) (add-one p)
+  where
+    fields : ℕ → ℕ → ℕ → List ℕ
+    fields b c d = take (16 * p) l ++ (fieldBytes (at s p) ++ fieldBytes b ++ fieldBytes c ++ fieldBytes d) ++ drop (16 * p + 16) l

@@ -1,6 +1,6 @@
 -- What writing a plan file answers, and what it leaves in the lent buffer, on the whole input, refusals included.
 use Prim.Native.Nat.{ℕ, suc, _*_}
-use mathlib.Core.Bool.{Bool, cond}
+use mathlib.Core.Bool.{cond}
 use mathlib.Core.List.{List, [], _∷_}
 use lib.ListN.{length, take}
 use lib.Dec.{eqb}

@@ -9,7 +9,8 @@ ghost use Rattle.parts.specs.Prefix.{Ready};
 ghost use Rattle.planfile.specs.PlanFile.{planRecord, planBytes};
 ghost use Rattle.planfile.specs.Answers.{writePlanRefusal, writePlanAnswer, writePlanBytes};
 use calls::is_partition;
-use jobs::{MAX_TASKS, test_job};
+use jobs::MAX_TASKS;
+use jobs::test_job;
 use parts::prefix_sums;
 
 // What writing a plan file answers: the count of bytes, or the refusal's number.
@@ -62,13 +63,7 @@ fn put_plan_record(
 }
 
 // Inner. The records of all processors to the front of the buffer. Later bytes stay.
-pub fn put_plan(
-    speeds: &[u32],
-    weights: &[u32],
-    sums: &[u32],
-    separators: &[u32],
-    plan: &mut [u8],
-)
+pub fn put_plan(speeds: &[u32], weights: &[u32], sums: &[u32], separators: &[u32], plan: &mut [u8])
     requires { ⌜ Ready (jobOf (now weights) (now speeds)) (now sums) ⌝ }
     requires { ⌜ Partition (jobOf (now weights) (now speeds)) (take (suc (length (now speeds))) (now separators)) ⌝ }
     requires { ⌜ 16 * length (now speeds) ≤ length (now plan) ⌝ }
@@ -90,12 +85,14 @@ fn test_plan(speeds: &[u32], weights: &[u32], separators: &[u32], lent: usize) -
         return found;
     }
     if separators.len() <= speeds.len() {
-        return 9;
+        return 9; // too few separators
     }
-    if lent < 16 * speeds.len() {
-        return 9;
+    let needed = 16 * speeds.len();
+    let divided = is_partition(speeds, weights, separators);
+    if lent < needed {
+        return 9; // too few bytes
     }
-    if !is_partition(speeds, weights, separators) {
+    if !divided {
         return 11;
     }
     0

@@ -1,42 +1,48 @@
+-- `put_plan` meets its contract: after p turns the first p records stand in the buffer.
+-- Assumes nothing.
+use Prim.Native.Nat.{_-_}
+use mathlib.Core.Path.{_≡_}
+use native.Mathlib.Omega.{arith}
+use lib.ListN.{length}
+use Rattle.chain.specs.Job.{jobOf}
+use Rattle.planfile.proofs.Records.{PuttingPlan, plan-none, plan-next, plan-all}
 use Rattle.planfile.proofs.put_plan.Statement.{statement}
 use Rattle.planfile.proofs.put_plan.Tie as tie
-use Rattle.planfile.proofs.put_plan.Reads as reads
-use Rattle.planfile.proofs.put_plan.Lts as lts
-use Rattle.planfile.proofs.put_plan_record.Reads as put-plan-record-reads
 
 abbrev Inv-loop : tie.InvT-loop
-Inv-loop speeds weights sums separators plan₀ p₀ plan p = ?
+Inv-loop speeds weights sums separators plan₀ p₀ plan p = PuttingPlan (jobOf weights speeds) separators plan₀ plan p
 
 abbrev μ-loop : tie.MeasureT-loop
-μ-loop speeds weights sums separators plan₀ p₀ plan p = ?
+μ-loop speeds weights sums separators plan₀ p₀ plan p = length speeds - p
 
--- src/lib.rt:78:5
 loop-holds : tie.Need-loop-holds Inv-loop μ-loop
-loop-holds c = ?
+loop-holds c =
+    let s = c .before .before .before .before .before in
+    plan-none (jobOf (s .args .weights .now) (s .args .speeds .now)) (s .args .separators .now) (s .args .plan .now)
 
--- src/lib.rt:79:9
 put-plan-record-requires : tie.Need-put-plan-record-requires Inv-loop μ-loop
-put-plan-record-requires c κs = ?
+put-plan-record-requires c κs =
+    let s = c .before .before .before .before .before .before .before .before in
+    let room : length (c .before .before .loop .plan) ≡ length (s .args .plan .now) = c .before .before .loop .inv .room in
+    (s .pre .0, (s .pre .1 .0, (c .before .loop-test .taken, omega (arith, s .pre .1 .1))))
 
--- src/lib.rt:80:9
 add-p : tie.Need-add-p Inv-loop μ-loop
-add-p c = ?
+add-p c = omega arith
 
--- src/lib.rt:78:5
 loop-less : tie.Need-loop-less Inv-loop μ-loop
-loop-less c = ?
+loop-less c = omega arith
 
--- src/lib.rt:78:5
 loop-again : tie.Need-loop-again Inv-loop μ-loop
-loop-again c = ?
+loop-again c =
+    let l = c .before .before .before .before .before in
+    let s = l .before .before .before .before .before .before in
+    plan-next (s .pre .1 .1) (l .loop .inv) (c .before .before .before .before .loop-test .taken) (c .before .before .put-plan-record .ensures)
 
--- src/lib.rt:65:1
 same-length : tie.Need-same-length Inv-loop μ-loop
-same-length c = ?
+same-length c = c .before .loop .inv .room
 
--- src/lib.rt:65:1
 returns : tie.Need-returns Inv-loop μ-loop
-returns c = ?
+returns c = plan-all (c .before .loop .inv) (c .loop-test .left)
 
 pub put-plan-spec : {M : Type 1} → statement M
 put-plan-spec =

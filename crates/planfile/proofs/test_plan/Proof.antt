@@ -1,52 +1,69 @@
+-- `test_plan` meets its contract: the job's tests, the two lengths, then the division.
+-- Assumes nothing.
+use mathlib.Core.Path.{_≡_, sym, _∙_}
+use native.Mathlib.Omega.{arith}
+use borrow.Author.Tests.{not-true, not-false}
+use Rattle.chain.specs.Job.{jobOf, Valid}
+use Rattle.chain.specs.Refusal.{firstRefusal, jobTests}
+use Rattle.chain.proofs.Refusals.{job-accepted}
+use Rattle.jobs.proofs.Limits.{processors-limit}
+use Rattle.planfile.proofs.Writing.{refused-job, few-separators, few-bytes, no-division, division}
 use borrow.Author.Needs.{needs}
 use Rattle.planfile.proofs.test_plan.Statement.{statement}
 use Rattle.planfile.proofs.test_plan.Tie as tie
-use Rattle.planfile.proofs.test_plan.Reads as reads
-use Rattle.planfile.proofs.test_plan.Lts as lts
-use Rattle.calls.proofs.is_partition.Reads as is-partition-reads
-use Rattle.jobs.proofs.test_job.Reads as test-job-reads
 
--- src/lib.rt:88:9
+-- Past the job's tests they are all passed.
+abbrev Passed : tie.Start → Type 0
+Passed s = firstRefusal (jobTests (jobOf (s .args .weights .now) (s .args .speeds .now))) ≡ 0
+
+passed : (c : tie.Else1) → Passed (c .before .before .before .before .before)
+passed c = sym (c .before .test-job .ensures) ∙ c .if1 .left
+
 test-job-requires : tie.Need-test-job-requires
 test-job-requires c κs = search needs
 
--- src/lib.rt:90:9
 returns : tie.Need-returns
-returns c = ?
+returns c =
+    let a = c .before .before .before .before .before .args in
+    refused-job (jobOf (a .weights .now) (a .speeds .now)) (a .separators .now) (a .lent) (c .before .test-job .ensures) (c .if1 .taken)
 
--- src/lib.rt:93:9
 returns-2 : tie.Need-returns-2
-returns-2 c = ?
+returns-2 c =
+    let a = c .before .before .before .before .before .before .args in
+    sym (few-separators (jobOf (a .weights .now) (a .speeds .now)) (a .separators .now) (a .lent) (passed (c .before)) (c .if2 .taken))
 
--- src/lib.rt:95:15
-mul-if3 : tie.Need-mul-if3
-mul-if3 c = ?
+mul-needed : tie.Need-mul-needed
+mul-needed c =
+    let a = c .before .before .before .before .before .before .args in
+    let v : Valid (jobOf (a .weights .now) (a .speeds .now)) = job-accepted .0 (passed (c .before)) in
+    omega (arith, v .processors-limit, processors-limit)
 
--- src/lib.rt:96:9
-returns-3 : tie.Need-returns-3
-returns-3 c = ?
-
--- src/lib.rt:98:9
 is-partition-requires : tie.Need-is-partition-requires
 is-partition-requires c κs = search needs
 
--- src/lib.rt:99:9
-returns-4 : tie.Need-returns-4
-returns-4 c = ?
+returns-3 : tie.Need-returns-3
+returns-3 c =
+    let two = c .before .before in
+    let a = two .before .before .before .before .before .before .args in
+    sym (few-bytes (jobOf (a .weights .now) (a .speeds .now)) (a .separators .now) (a .lent) (passed (two .before)) (two .if2 .left) (c .if3 .taken))
 
--- src/lib.rt:85:1
+returns-4 : tie.Need-returns-4
+returns-4 c =
+    let test = c .before .before in
+    let two = test .before in
+    let a = two .before .before .before .before .before .before .args in
+    sym (no-division (jobOf (a .weights .now) (a .speeds .now)) (a .separators .now) (a .lent) (passed (two .before)) (two .if2 .left) (c .before .if3 .left)
+    (sym (test .is-partition .ensures) ∙ not-true (test .is-partition .result) (c .if4 .taken)))
+
 returns-5 : tie.Need-returns-5
-returns-5 c = ?
+returns-5 c =
+    let test = c .before .before in
+    let two = test .before in
+    let a = two .before .before .before .before .before .before .args in
+    sym (division (jobOf (a .weights .now) (a .speeds .now)) (a .separators .now) (a .lent) (passed (two .before)) (two .if2 .left) (c .before .if3 .left)
+    (sym (test .is-partition .ensures) ∙ not-false (test .is-partition .result) (c .if4 .left)))
 
 pub test-plan-spec : {M : Type 1} → statement M
 test-plan-spec =
     tie.close
-    (tie.spec
-    test-job-requires
-    returns
-    returns-2
-    mul-if3
-    returns-3
-    is-partition-requires
-    returns-4
-    returns-5)
+    (tie.spec test-job-requires returns returns-2 mul-needed is-partition-requires returns-3 returns-4 returns-5)
