@@ -24,7 +24,7 @@ put-plan-record-requires : tie.Need-put-plan-record-requires Inv-loop μ-loop
 put-plan-record-requires c κs =
     let s = c .before .before .before .before .before .before .before .before in
     let room : length (c .before .before .loop .plan) ≡ length (s .args .plan .now) = c .before .before .loop .inv .room in
-    (s .pre .0, (s .pre .1 .0, (c .before .loop-test .taken, omega (arith, s .pre .1 .1))))
+    (s .pre .0, (s .pre .1 .0, (omega arith, omega (arith, s .pre .1 .1))))
 
 add-p : tie.Need-add-p Inv-loop μ-loop
 add-p c = omega arith
