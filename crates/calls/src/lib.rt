@@ -23,7 +23,7 @@ pub enum Probed {
 }
 
 // Whether the first P + 1 separators are a partition of the job. Inner: there are so many.
-fn is_partition(speeds: &[u32], weights: &[u32], separators: &[u32]) -> bool
+pub fn is_partition(speeds: &[u32], weights: &[u32], separators: &[u32]) -> bool
     requires { ⌜ length (now speeds) < length (now separators) ⌝ }
     ensures { λ r. ⌜ r ≡ isPartition (jobOf (now (weights .entry)) (now (speeds .entry))) (take (suc (length (now (speeds .entry)))) (now (separators .entry))) ⌝ }
 {

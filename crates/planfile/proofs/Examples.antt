@@ -1,0 +1,28 @@
+-- Job A of document 01: its plan file, byte by byte, and the order of 9 and 11.
+-- Assumes nothing.
+use Prim.Native.Nat.{ℕ}
+use mathlib.Core.Path.{_≡_, refl}
+use mathlib.Core.List.{List, [], _∷_, _++_}
+use Rattle.chain.specs.Limits.{maxTasks, maxWeight, maxProcessors, maxSpeed}
+use Rattle.chain.specs.Lists.{sum, all}
+use Rattle.chain.specs.Job.{Job, jobOf, speedOf, partWeight, partLoad}
+use Rattle.chain.specs.Refusal.{eachBetween, speedsTest, weightsTest, processorsTest, tasksTest, lengthTest, isPartition, partitionTest, firstRefusal, jobTests, callTests, refusal}
+use Rattle.jobs.specs.JobFile.{fieldBytes}
+use Rattle.planfile.specs.PlanFile.{planRecord, planBytesTo, planBytes}
+use Rattle.planfile.specs.Answers.{writePlanInputs, writePlanRefusal}
+
+abbrev A : Job
+A = jobOf (1 ∷ 3 ∷ 8 ∷ []) (1 ∷ 3 ∷ [])
+
+-- Records 0, 1, 1, 1 and 1, 3, 11, 3.
+pub plan-of-A : planBytes A (0 ∷ 1 ∷ 3 ∷ [])
+    ≡ (0 ∷ 0 ∷ 0 ∷ 0 ∷ 1 ∷ 0 ∷ 0 ∷ 0 ∷ 1 ∷ 0 ∷ 0 ∷ 0 ∷ 1 ∷ 0 ∷ 0 ∷ 0 ∷ [])
+    ++ (1 ∷ 0 ∷ 0 ∷ 0 ∷ 3 ∷ 0 ∷ 0 ∷ 0 ∷ 11 ∷ 0 ∷ 0 ∷ 0 ∷ 3 ∷ 0 ∷ 0 ∷ 0 ∷ [])
+unfolding planBytes planBytesTo planRecord fieldBytes partLoad partWeight speedOf sum
+plan-of-A = refl
+
+-- The separators 0 2 2 are no division: 9 with a byte too few, 11 with enough, and 9 with a separator too few.
+pub refusals-of-A : (writePlanRefusal A (0 ∷ 2 ∷ 2 ∷ []) 31 ≡ 9) × (writePlanRefusal A (0 ∷ 2 ∷ 2 ∷ []) 32 ≡ 11) × (writePlanRefusal A (0 ∷ 3 ∷ []) 32 ≡ 9)
+    × (writePlanRefusal A (0 ∷ 1 ∷ 3 ∷ 7 ∷ []) 32 ≡ 0)
+unfolding writePlanRefusal writePlanInputs refusal callTests jobTests firstRefusal speedsTest weightsTest processorsTest tasksTest lengthTest partitionTest isPartition eachBetween all maxTasks maxWeight maxProcessors maxSpeed
+refusals-of-A = (refl, refl, refl, refl)

@@ -1,0 +1,2 @@
+pub mod PlanFile
+pub mod Answers

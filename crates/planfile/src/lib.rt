@@ -1,0 +1,119 @@
+// Writing a plan file: one record of 16 bytes a processor.
+ghost use Prim.Native.Nat.{suc, _+_, _*_, _≤_, _<_};
+ghost use mathlib.Core.Path.{_≡_};
+ghost use mathlib.Core.List.{_++_};
+ghost use lib.ListN.{length, take, drop};
+ghost use Rattle.chain.specs.Job.{jobOf, Partition, partLoad};
+ghost use Rattle.jobs.specs.JobFile.{fieldBytes};
+ghost use Rattle.parts.specs.Prefix.{Ready};
+ghost use Rattle.planfile.specs.PlanFile.{planRecord, planBytes};
+ghost use Rattle.planfile.specs.Answers.{writePlanRefusal, writePlanAnswer, writePlanBytes};
+use calls::is_partition;
+use jobs::MAX_TASKS;
+use jobs::test_job;
+use parts::prefix_sums;
+
+// What writing a plan file answers: the count of bytes, or the refusal's number.
+pub enum PlanWritten {
+    Written(usize),
+    Refused(u32),
+}
+
+// Inner. The load of the part from a to b.
+fn part_load(speeds: &[u32], weights: &[u32], sums: &[u32], a: u32, b: u32) -> u32
+    requires { ⌜ Ready (jobOf (now weights) (now speeds)) (now sums) ⌝ }
+    requires { ⌜ (a ≤ b) × (b ≤ length (now weights)) ⌝ }
+    ensures { λ r. ⌜ r ≡ partLoad (jobOf (now (weights .entry)) (now (speeds .entry))) a b ⌝ }
+{
+    sums[b as usize] - sums[a as usize]
+}
+
+// Inner. One 32-bit field at its place, the least byte first.
+fn put_field(value: u32, place: usize, plan: &mut [u8])
+    requires { ⌜ place + 4 ≤ length (now plan) ⌝ }
+    ensures { λ _. ⌜ now (plan .exit) ≡ take place (now (plan .entry)) ++ fieldBytes value ++ drop (place + 4) (now (plan .entry)) ⌝ }
+{
+    plan[place] = (value % 256) as u8;
+    plan[place + 1] = (value / 256 % 256) as u8;
+    plan[place + 2] = (value / 65536 % 256) as u8;
+    plan[place + 3] = (value / 16777216 % 256) as u8;
+}
+
+// Inner. The record of processor p at its place.
+fn put_plan_record(
+    speeds: &[u32],
+    weights: &[u32],
+    sums: &[u32],
+    separators: &[u32],
+    p: usize,
+    plan: &mut [u8],
+)
+    requires { ⌜ Ready (jobOf (now weights) (now speeds)) (now sums) ⌝ }
+    requires { ⌜ Partition (jobOf (now weights) (now speeds)) (take (suc (length (now speeds))) (now separators)) ⌝ }
+    requires { ⌜ (p < length (now speeds)) × (16 * p + 16 ≤ length (now plan)) ⌝ }
+    ensures { λ _. ⌜ now (plan .exit) ≡ take (16 * p) (now (plan .entry)) ++ planRecord (jobOf (now (weights .entry)) (now (speeds .entry))) (now (separators .entry)) p ++ drop (16 * p + 16) (now (plan .entry)) ⌝ }
+{
+    let place = 16 * p;
+    let a = separators[p];
+    let b = separators[p + 1];
+    put_field(a, place, plan);
+    put_field(b, place + 4, plan);
+    put_field(part_load(speeds, weights, sums, a, b), place + 8, plan);
+    put_field(speeds[p], place + 12, plan);
+}
+
+// Inner. The records of all processors to the front of the buffer. Later bytes stay.
+pub fn put_plan(speeds: &[u32], weights: &[u32], sums: &[u32], separators: &[u32], plan: &mut [u8])
+    requires { ⌜ Ready (jobOf (now weights) (now speeds)) (now sums) ⌝ }
+    requires { ⌜ Partition (jobOf (now weights) (now speeds)) (take (suc (length (now speeds))) (now separators)) ⌝ }
+    requires { ⌜ 16 * length (now speeds) ≤ length (now plan) ⌝ }
+    ensures { λ _. ⌜ now (plan .exit) ≡ planBytes (jobOf (now (weights .entry)) (now (speeds .entry))) (now (separators .entry)) ++ drop (16 * length (now (speeds .entry))) (now (plan .entry)) ⌝ }
+{
+    let mut p = 0;
+    while p < speeds.len() {
+        put_plan_record(speeds, weights, sums, separators, p, plan);
+        p += 1;
+    }
+}
+
+// Inner. The tests of writing a plan file: 0, or the refusal: 5, 6, 7, 8, 9 or 11, in this order.
+fn test_plan(speeds: &[u32], weights: &[u32], separators: &[u32], lent: usize) -> u32
+    ensures { λ r. ⌜ r ≡ writePlanRefusal (jobOf (now (weights .entry)) (now (speeds .entry))) (now (separators .entry)) lent ⌝ }
+{
+    let found = test_job(speeds, weights);
+    if found != 0 {
+        return found;
+    }
+    if separators.len() <= speeds.len() {
+        return 9; // too few separators
+    }
+    let needed = 16 * speeds.len();
+    let divided = is_partition(speeds, weights, separators);
+    if lent < needed {
+        return 9; // too few bytes
+    }
+    if !divided {
+        return 11;
+    }
+    0
+}
+
+// Writes a plan file: the count of its bytes, or the refusal: 5, 6, 7, 8, 9 or 11, in this order. Later bytes stay.
+pub fn write_plan(
+    speeds: &[u32],
+    weights: &[u32],
+    separators: &[u32],
+    plan: &mut [u8],
+) -> PlanWritten
+    ensures answer { λ r. ⌜ r ≡ writePlanAnswer (jobOf (now (weights .entry)) (now (speeds .entry))) (now (separators .entry)) (length (now (plan .entry))) ⌝ }
+    ensures bytes { λ _. ⌜ now (plan .exit) ≡ writePlanBytes (jobOf (now (weights .entry)) (now (speeds .entry))) (now (separators .entry)) (now (plan .entry)) ⌝ }
+{
+    let found = test_plan(speeds, weights, separators, plan.len());
+    if found != 0 {
+        return PlanWritten::Refused(found);
+    }
+    let mut sums = [0u32; MAX_TASKS + 1];
+    prefix_sums(speeds, weights, &mut sums);
+    put_plan(speeds, weights, &sums, separators, plan);
+    PlanWritten::Written(16 * speeds.len())
+}
