@@ -6,3 +6,6 @@ pub mod ByLists
 pub mod Records
 pub mod Lent
 pub mod Writing
+pub mod OneRecord
+pub mod AllRecords
+pub mod Copying
