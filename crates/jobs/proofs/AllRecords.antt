@@ -15,6 +15,7 @@ use Rattle.chain.specs.Refusal.{Test, firstRefusal}
 use Rattle.jobs.specs.JobFile.{processorKind, taskKind}
 use Rattle.jobs.specs.Parse.{recordCount, kindAt, valueAt, isKind, multipleTest, formTest, orderTest, speedTest, weightTest, recordTests, recordsTests, valuesOf, speedsOf, weightsOf}
 use Rattle.jobs.specs.Answers.{answerOf}
+use Rattle.jobs.specs.Inner.{recordsRefusal}
 use Rattle.jobs.specs.declared.JobRead.{JobRead}
 use Rattle.jobs.proofs.Tests.{Numbered, numbered-nil, numbered-cons, numbered-append, first-refusal-append, first-refusal-before}
 use Rattle.jobs.proofs.Steps.{fails, passes}
@@ -125,15 +126,12 @@ module _ {file : List ℕ} where
 
 -- What testing the records answers.
 module _ (file : List ℕ) where
-  abbrev pub recordsRefusal : ℕ
-  recordsRefusal = firstRefusal (multipleTest file ∷ recordsTests file (recordCount file))
-
-  pub multiple-fails : length file % 8 ≢ 0 → recordsRefusal ≡ 2
-  unfolding multipleTest
+  pub multiple-fails : length file % 8 ≢ 0 → recordsRefusal file ≡ 2
+  unfolding recordsRefusal multipleTest
   multiple-fails h = fails 2 (recordsTests file (recordCount file)) (ne-eqb (length file % 8) 0 h)
 
-  pub multiple-passes : length file % 8 ≡ 0 → recordsRefusal ≡ firstRefusal (recordsTests file (recordCount file))
-  unfolding multipleTest
+  pub multiple-passes : length file % 8 ≡ 0 → recordsRefusal file ≡ firstRefusal (recordsTests file (recordCount file))
+  unfolding recordsRefusal multipleTest
   multiple-passes e = passes 2 (recordsTests file (recordCount file)) (eq-eqb (length file % 8) 0 e)
 
   pub answer-refused : {n m : ℕ} → m ≡ n → n ≢ 0 → JobRead.Refused n ≡ answerOf m file
@@ -149,13 +147,13 @@ module _ (file : List ℕ) where
       ∙ sym (ap (λ (k : ℕ). cond (eqb k 0) (JobRead.Read (length (speedsOf file)) (length (weightsOf file))) (JobRead.Refused k)) e)
 
   pub tested-refused : {processors tasks i : ℕ} → Tested file processors tasks i → i < recordCount file → {found : ℕ}
-      → found ≡ firstRefusal (recordTests file i) → found ≢ 0 → JobRead.Refused found ≡ answerOf recordsRefusal file
+      → found ≡ firstRefusal (recordTests file i) → found ≢ 0 → JobRead.Refused found ≡ answerOf (recordsRefusal file) file
   tested-refused {i = i} t h {found} f r = answer-refused (multiple-passes (t .multiple) ∙ records-stop file (recordCount file) (suc i) h (λ z. r (sym here ∙ z)) ∙ here) r
     where
       here : firstRefusal (recordsTests file (suc i)) ≡ found
       here = records-next file i (t .passed) ∙ sym f
 
-  pub tested-all : {processors tasks i : ℕ} → Tested file processors tasks i → recordCount file ≤ i → JobRead.Read processors tasks ≡ answerOf recordsRefusal file
+  pub tested-all : {processors tasks i : ℕ} → Tested file processors tasks i → recordCount file ≤ i → JobRead.Read processors tasks ≡ answerOf (recordsRefusal file) file
   unfolding speedsOf weightsOf
   tested-all {processors} {tasks} {i} t h =
       answer-read (multiple-passes (t .multiple) ∙ ap (λ (n : ℕ). firstRefusal (recordsTests file n)) end ∙ t .passed)

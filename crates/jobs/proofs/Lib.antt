@@ -9,3 +9,5 @@ pub mod Writing
 pub mod OneRecord
 pub mod AllRecords
 pub mod Copying
+pub mod Passed
+pub mod Reading

@@ -7,7 +7,7 @@ use lib.Dec.{eqb}
 use Rattle.chain.specs.Job.{Job, tasks, processors}
 use Rattle.chain.specs.Refusal.{Test, lengthTest, firstRefusal, refusal}
 use Rattle.jobs.specs.JobFile.{jobBytes}
-use Rattle.jobs.specs.Parse.{speedsOf, weightsOf, fileTests, fileRefusal}
+use Rattle.jobs.specs.Parse.{speedsOf, weightsOf, fileTests}
 use Rattle.jobs.specs.declared.JobRead.{JobRead}
 use Rattle.jobs.specs.declared.JobWritten.{JobWritten}
 

@@ -9,8 +9,9 @@ ghost use Rattle.chain.specs.Job.{jobOf};
 ghost use Rattle.chain.specs.Refusal.{test, between, eachBetween, firstRefusal, jobTests};
 ghost use Rattle.chain.specs.Lists.{tabulate};
 ghost use Rattle.jobs.specs.JobFile.{taskKind, recordBytes, recordsBytes};
-ghost use Rattle.jobs.specs.Parse.{recordCount, byteAt, kindAt, valueAt, blank, multipleTest, recordTests, recordsTests, valuesOf};
+ghost use Rattle.jobs.specs.Parse.{recordCount, byteAt, kindAt, valueAt, blank, recordTests, valuesOf};
 ghost use Rattle.jobs.specs.Answers.{answerOf, readAnswer, readSpeeds, readWeights, writeAnswer, writeBytes};
+ghost use Rattle.jobs.specs.Inner.{recordsRefusal, Accepted, Reads};
 
 // The limits of a job.
 pub const MAX_TASKS: usize = 2048;
@@ -207,7 +208,7 @@ fn test_record(file: &[u8], i: usize, tasks: usize) -> u32
 
 // The tests of the file's length and of its records: their counts, or the refusal: 2 to 6. Inner.
 fn test_records(file: &[u8]) -> JobRead
-    ensures { λ r. ⌜ r ≡ answerOf (firstRefusal (multipleTest (now (file .entry)) ∷ recordsTests (now (file .entry)) (recordCount (now (file .entry))))) (now (file .entry)) ⌝ }
+    ensures { λ r. ⌜ r ≡ answerOf (recordsRefusal (now (file .entry))) (now (file .entry)) ⌝ }
 {
     if file.len() % 8 != 0 {
         return JobRead::Refused(2);
@@ -244,6 +245,32 @@ fn copy_values(file: &[u8], from: usize, count: usize, out: &mut [u32])
     }
 }
 
+// The rest of reading, where the file's length and records are accepted: 7, 8 or 9. Inner: the counts are the file's.
+fn read_tested(
+    file: &[u8],
+    processors: usize,
+    tasks: usize,
+    speeds: &mut [u32],
+    weights: &mut [u32],
+) -> JobRead
+    requires { ⌜ Accepted (now file) processors tasks ⌝ }
+    ensures { λ r. ⌜ Reads (now (file .entry)) (now (speeds .entry)) (now (weights .entry)) r (now (speeds .exit)) (now (weights .exit)) ⌝ }
+{
+    let found = test_counts(processors, tasks);
+    if found != 0 {
+        return JobRead::Refused(found);
+    }
+    if weights.len() < tasks {
+        return JobRead::Refused(9);
+    }
+    if speeds.len() < processors {
+        return JobRead::Refused(9);
+    }
+    copy_values(file, 0, processors, speeds);
+    copy_values(file, processors, tasks, weights);
+    JobRead::Read { processors, tasks }
+}
+
 // Reads a job file: the counts of processors and tasks, or the refusal: 2; 3 to 6, record by record; 7, 8 or 9. Later entries
 // stay.
 pub fn read_job(file: &[u8], speeds: &mut [u32], weights: &mut [u32]) -> JobRead
@@ -255,19 +282,7 @@ pub fn read_job(file: &[u8], speeds: &mut [u32], weights: &mut [u32]) -> JobRead
     match records {
         JobRead::Refused(number) => JobRead::Refused(number),
         JobRead::Read { processors, tasks } => {
-            let found = test_counts(processors, tasks);
-            if found != 0 {
-                return JobRead::Refused(found);
-            }
-            if weights.len() < tasks {
-                return JobRead::Refused(9);
-            }
-            if speeds.len() < processors {
-                return JobRead::Refused(9);
-            }
-            copy_values(file, 0, processors, speeds);
-            copy_values(file, processors, tasks, weights);
-            JobRead::Read { processors, tasks }
+            read_tested(file, processors, tasks, speeds, weights)
         }
     }
 }
