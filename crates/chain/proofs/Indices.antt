@@ -168,3 +168,27 @@ after-tabulate f zero l i = ap (λ (j : ℕ). getD l j 0) (let e : 0 + i ≡ i =
 after-tabulate f (suc n) l i =
     ap (λ (j : ℕ). getD (f 0 ∷ (tabulate (λ i. f (suc i)) n ++ l)) j 0) (let e : suc n + i ≡ suc (n + i) = omega arith in e)
     ∙ after-tabulate (λ j. f (suc j)) n l i
+
+-- Where f cannot fail at every index up to d, there is a first index, up to d, at which it holds.
+pub first-exists : (f : ℕ → Bool) (d : ℕ) → (((j : ℕ) → j ≤ d → T (not (f j))) → ⊥) → (k : ℕ) × (k ≤ d) × T (isFirst f k)
+first-exists f d h = go (smallestFrom f 0 d) (smallest-is f 0 d)
+  where
+    fails : (j : ℕ) → f j ≡ false → T (not (f j))
+    fails j e = subst (λ (b : Bool). T (not b)) (sym e) tt
+
+    go : (r : ℕ) → Smallest f 0 d r → (k : ℕ) × (k ≤ d) × T (isFirst f k)
+    go r s = cases (f r) refl
+      where
+        earlier : (j : ℕ) → j < r → T (not (f j))
+        earlier j l = fails j (s .before j (omega arith) l)
+
+        cases : (t : Bool) → f r ≡ t → (k : ℕ) × (k ≤ d) × T (isFirst f k)
+        cases true e = (r, omega (arith, s .to), first-of f r (subst T (sym e) tt) earlier)
+        cases false e = absurd (h (λ j l. elim (decLe (suc j) r) [ yes m ↦ earlier j m | no m ↦ late j l m ]))
+          where
+            late : (j : ℕ) → j ≤ d → (suc j ≤ r → ⊥) → T (not (f j))
+            late j l m =
+                elim (s .found) [
+                  | inl x ↦ subst (λ (i : ℕ). T (not (f i))) (let z : r ≡ j = omega arith in z) (fails r e)
+                  | inr x ↦ absurd (T-not (f r) (fails r e) (subst T (sym x) tt))
+                ]

@@ -1,5 +1,6 @@
--- The marked jobs of document 01 hold of the definitions: the checker computes the whole table.
+-- The marked jobs of document 01, and three more, hold of the definitions: the checker computes the whole table.
 -- Assumes nothing.
+use mathlib.Core.List.{_++_}
 use lib.Dec.{T}
 use Rattle.bound.specs.Order.{le, greater, lesser}
 use Rattle.chain.specs.Limits.{maxTasks, maxWeight, maxProcessors, maxSpeed, maxBoundLoad, maxBoundSpeed}
@@ -11,8 +12,8 @@ use Rattle.chain.specs.Dynamic.{candidate, crossingOf, lesserAt, tableVa
 use Rattle.chain.specs.Search.{bidding, firstEnds, narrow, ends, meet}
 use Rattle.chain.specs.Plan.{spread, onward, partitions, leastBound, leastBottleneck, planOf, difference, allowance, imbalance}
 use Rattle.chain.specs.Refusal.{eachBetween, methodTest, speedsTest, weightsTest, processorsTest, tasksTest, lengthTest, boundTest, isPartition, partitionTest, firstRefusal, jobTests, callTests, refusal}
-use Rattle.chain.specs.Marked.{sameList, samePair, endsAt, measureRefusal, isFailing, isFitting, holds, everyHolds, marked}
+use Rattle.chain.specs.Marked.{sameList, samePair, endsAt, measureRefusal, isFailing, isFitting, holds, everyHolds, marked, worked}
 
-pub marked-jobs : T (everyHolds marked)
-unfolding le greater lesser maxTasks maxWeight maxProcessors maxSpeed maxBoundLoad maxBoundSpeed sum greatestOf leastOf tabulate sumTo all isFirst greatestFrom smallestFrom smallestLeast digitsWithin digits speedOf partWeight partLoad slowestOf partBound within boundAt bottleneckTo bottleneck ideal reach separator walk fits bid leastBidTo nextBid probe miss nearest heuristic candidate crossingOf lesserAt tableValue crossing movesTo moves bidding firstEnds narrow ends meet spread onward partitions leastBound leastBottleneck planOf difference allowance imbalance eachBetween methodTest speedsTest weightsTest processorsTest tasksTest lengthTest boundTest isPartition partitionTest firstRefusal jobTests callTests refusal sameList samePair endsAt measureRefusal isFailing isFitting holds everyHolds marked
+pub marked-jobs : T (everyHolds (marked ++ worked))
+unfolding le greater lesser maxTasks maxWeight maxProcessors maxSpeed maxBoundLoad maxBoundSpeed sum greatestOf leastOf tabulate sumTo all isFirst greatestFrom smallestFrom smallestLeast digitsWithin digits speedOf partWeight partLoad slowestOf partBound within boundAt bottleneckTo bottleneck ideal reach separator walk fits bid leastBidTo nextBid probe miss nearest heuristic candidate crossingOf lesserAt tableValue crossing movesTo moves bidding firstEnds narrow ends meet spread onward partitions leastBound leastBottleneck planOf difference allowance imbalance eachBetween methodTest speedsTest weightsTest processorsTest tasksTest lengthTest boundTest isPartition partitionTest firstRefusal jobTests callTests refusal sameList samePair endsAt measureRefusal isFailing isFitting holds everyHolds marked worked
 marked-jobs = tt

@@ -212,3 +212,7 @@ module _ {job : Job} (ok : Proper job) where
   -- Demand 2: a trial at a bound fits exactly when some division stays within it.
   pub fits-exactly : (B : Bound) → Real B → T (fits job B) ↔ ((s : List ℕ) × Partition job s × Within job s B)
   fits-exactly B r = (λ t. (walk job B, walk-partition B, walk-within B t), λ x. partition-fits r (x .1) (x .2))
+
+  -- What fits at a bound fits at every greater one.
+  pub fits-raise : {B C : Bound} → Real B → Real C → B ≼ C → T (fits job B) → T (fits job C)
+  fits-raise {B} {C} r t h f = cover-fits C t (cover-raise r h (suc (last job)) (tasks job) (fits-cover B f))

@@ -117,3 +117,11 @@ marked =
     ∷ planned jobD (0 ∷ 2 ∷ 2 ∷ []) (over 0 1) 0 (three 0 1 1) (three 2 3 1)
     ∷ planned jobE (0 ∷ 1 ∷ 1 ∷ []) (over 6 1) 1000 (three 1 2 1) (three 1 2 4)
     ∷ []
+
+-- Beside the marked jobs: two bids that tie, 3/1 and 6/2; two indices equally near; a midpoint that fails.
+unfoldable pub worked : List Row
+worked =
+    failsWith (jobOf (3 ∷ 3 ∷ []) (1 ∷ 2 ∷ [])) (over 0 1) (over 3 1)
+    ∷ quick (jobOf (1 ∷ 1 ∷ []) (1 ∷ 3 ∷ [])) (0 ∷ 0 ∷ 2 ∷ []) (over 2 3)
+    ∷ planned (jobOf (6 ∷ 3 ∷ 4 ∷ 1 ∷ []) (2 ∷ 3 ∷ 3 ∷ [])) (0 ∷ 0 ∷ 1 ∷ 4 ∷ []) (over 8 3) 523 (three 3 3 3) (three 8 9 6)
+    ∷ []

@@ -1,0 +1,66 @@
+-- What measuring, the probe and the heuristic answer, and what they leave in the lent list of separators: each one definition
+-- on the whole input, refusals included. Document 01, "Trial at a bound", "Quick plan", "Who causes which number".
+use Prim.Native.Nat.{ℕ, zero, suc}
+use mathlib.Core.Bool.{Bool, true, false, cond}
+use mathlib.Core.List.{List, [], _∷_}
+use lib.ListN.{length, take}
+use lib.Dec.{eqb}
+use Rattle.bound.specs.declared.Bound.{Bound}
+use Rattle.chain.specs.Job.{Job, processors, bottleneck}
+use Rattle.chain.specs.Probe.{walk, fits, nextBid}
+use Rattle.chain.specs.Heuristic.{heuristic}
+use Rattle.chain.specs.Refusal.{Lent, Inputs, refusal}
+use Rattle.jobs.specs.Answers.{lentAfter}
+use Rattle.calls.specs.declared.Measured.{Measured}
+use Rattle.calls.specs.declared.Measured.the-variants.{Bottleneck, Refused}
+use Rattle.calls.specs.declared.Probed.{Probed}
+use Rattle.calls.specs.declared.Probed.the-variants.{Fits, Fails, Refused as ProbeRefused}
+
+-- Document 01's number of an answer: 0 where the call is accepted.
+abbrev pub measuredNumber : Measured → ℕ
+measuredNumber (Bottleneck B) = 0
+measuredNumber (Refused n) = n
+
+abbrev pub probedNumber : Probed → ℕ
+probedNumber Fits = 0
+probedNumber (Fails B) = 0
+probedNumber (ProbeRefused n) = n
+
+-- "P + 1 separators": the lent list of them.
+abbrev pub separatorsLent : Job → List ℕ → Lent
+separatorsLent job s = record { needed = suc (processors job); given = length s }
+
+-- What each call takes beside the job: measuring a division; a probe a bound and a list; the heuristic a list.
+unfoldable pub measureInputs : Job → List ℕ → Inputs
+measureInputs job s = record { methods = []; lists = separatorsLent job s ∷ []; bounds = []; divisions = s ∷ [] }
+
+unfoldable pub probeInputs : Job → Bound → List ℕ → Inputs
+probeInputs job B s = record { methods = []; lists = separatorsLent job s ∷ []; bounds = B ∷ []; divisions = [] }
+
+unfoldable pub heuristicInputs : Job → List ℕ → Inputs
+heuristicInputs job s = record { methods = []; lists = separatorsLent job s ∷ []; bounds = []; divisions = [] }
+
+-- "Measuring a division gives its bottleneck."
+unfoldable pub measureAnswer : Job → List ℕ → Measured
+measureAnswer job s =
+    let number = refusal job (measureInputs job s) in
+    cond (eqb number 0) (Bottleneck (bottleneck job (take (suc (processors job)) s))) (Refused number)
+
+-- "If that is within the bound the trial fits .. A trial that fails answers with the least next bid"
+unfoldable pub probeAnswer : Job → Bound → List ℕ → Probed
+probeAnswer job B s =
+    let number = refusal job (probeInputs job B s) in
+    cond (eqb number 0) (cond (fits job B) Fits (Fails (nextBid job B))) (ProbeRefused number)
+
+-- "the trial fits and the separators are written. A trial that fails .. leaves the separators untouched."
+unfoldable pub probeWrites : Job → Bound → List ℕ → List ℕ
+probeWrites job B s = cond (fits job B) (lentAfter (refusal job (probeInputs job B s)) (walk job B) s) s
+
+-- "The separators are written and their bottleneck is given."
+unfoldable pub heuristicAnswer : Job → List ℕ → Measured
+heuristicAnswer job s =
+    let number = refusal job (heuristicInputs job s) in
+    cond (eqb number 0) (Bottleneck (bottleneck job (heuristic job))) (Refused number)
+
+unfoldable pub heuristicWrites : Job → List ℕ → List ℕ
+heuristicWrites job s = lentAfter (refusal job (heuristicInputs job s)) (heuristic job) s

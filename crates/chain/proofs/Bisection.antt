@@ -1,0 +1,210 @@
+-- Bisection: the ends never cross, their gap is at least halved by each round, and unequal ends are at least 1/fastest² apart;
+-- so it ends at the least bound that fits, after at most digits(D) rounds.
+-- Assumes nothing.
+use Prim.Native.Nat.{ℕ, zero, suc, _+_, _-_, _*_, _/_, _^_, _≤_, _<_}
+use mathlib.Core.Path.{_≡_, refl, sym, ap, subst, _∙_}
+use mathlib.Core.Bool.{Bool, true, false, not, _&&_}
+use mathlib.Core.List.{List}
+use mathlib.Core.Logic.{_⊎_, inl, inr}
+use native.Mathlib.Omega.{arith}
+use native.Mathlib.Nat.{mul-le-mul, mul-le-mul-right, mul-le-mul-left, le-of-mul-le-mul-right, one-le-mul, le-div-iff-mul-le, le-trans as ≤-trans}
+use lib.Dec.{T, T-not, ltb}
+use Rattle.bound.specs.declared.Bound.{Bound}
+use Rattle.bound.specs.Order.{over, le, _≼_, _≺_, _≈_, plus, times, half, middle, pick, Real}
+use Rattle.bound.proofs.Order.{open-le, make-le, open-lt, le-or-lt, lt-le, le-trans, not-both, speed-real}
+use Rattle.bound.proofs.Algebra.{plus-mono, plus-left, middle-above, middle-below}
+use Rattle.chain.specs.Lists.{isFirst, digits}
+use Rattle.chain.specs.Job.{Job, tasks, processors, last, speedOf, heaviest, fastest, slowest, partBound, boundAt, bottleneck, ideal}
+use Rattle.chain.specs.Probe.{separator, walk, fits, bid, nextBid}
+use Rattle.chain.specs.Heuristic.{heuristic}
+use Rattle.chain.specs.Search.{Ends, firstEnds, narrow, ends, meet}
+use Rattle.chain.specs.Plan.{difference}
+use Rattle.chain.proofs.Parts.{Proper}
+use Rattle.chain.proofs.Indices.{first-holds, first-fails, first-exists}
+use Rattle.chain.proofs.Bottleneck.{processors-last, bottleneck-real, bottleneck-le, bottleneck-cases}
+use Rattle.chain.proofs.Walk.{walk-partition, walk-within, fits-raise}
+use Rattle.chain.proofs.NextBid.{next-cases, next-above, next-least}
+use Rattle.chain.proofs.Best.{Least, bottleneck-fits}
+use Rattle.chain.proofs.Extremes.{slowest-positive, speed-fastest}
+use Rattle.chain.proofs.Ideal.{total-speed-positive}
+use Rattle.chain.proofs.Heuristic.{heuristic-partition, heuristic-bound}
+use Rattle.chain.proofs.Digits.{digits-least}
+
+-- n times the gap between low and high is at most the width.
+pub record Gap (n : ℕ) (low high width : Bound) : Type 0 where
+  pub closes : times n high ≼ plus (times n low) width
+
+-- The gap at the start; it is halved when the high end comes to the middle or below, and when the low end comes there or above.
+pub gap-start : {low high ideal width : Bound} → 0 < ideal .speed → 0 < width .speed → ideal ≼ low → high ≼ plus ideal width → Gap 1 low high width
+gap-start {low} {high} {ideal} {width} p q h k =
+    record {
+      closes =
+          let x : high ≼ plus low width = le-trans (speed-real (one-le-mul p q)) k (plus-mono h (make-le (omega arith))) in
+          make-le (omega (arith, open-le x));
+    }
+
+pub gap-high : {n : ℕ} {low high new width : Bound} → 0 < low .speed → 0 < high .speed → new ≼ middle low high → Gap n low high width
+    → Gap (2 * n) low new width
+gap-high {n} {low} {high} {new} {width} p q h g =
+    record {
+      closes =
+          make-le
+          (le-of-mul-le-mul-right {k = high .speed}
+          (omega
+          (arith, mul-le-mul-right (n * width .speed) (open-le h), mul-le-mul-right (new .speed) (open-le (g .closes))))
+          q);
+    }
+
+pub gap-low : {n : ℕ} {low high new width : Bound} → 0 < low .speed → 0 < high .speed → middle low high ≼ new → Gap n low high width
+    → Gap (2 * n) new high width
+gap-low {n} {low} {high} {new} {width} p q h g =
+    record {
+      closes =
+          make-le
+          (le-of-mul-le-mul-right {k = low .speed}
+          (omega
+          (arith, mul-le-mul-right (n * width .speed) (open-le h), mul-le-mul-right (new .speed) (open-le (g .closes))))
+          p);
+    }
+
+-- Ends that are apart, with speeds of at most f, are at least 1/f² apart.
+pub gap-apart : {n h s f : ℕ} {low high : Bound} → low .speed ≤ f → high .speed ≤ f → low ≺ high → Gap n low high (over h s) → n * s ≤ h * (f * f)
+gap-apart {n} {h} {s} {f} {low} {high} p q l g =
+    omega
+    (arith, mul-le-mul-right (n * s) (open-lt l), open-le (g .closes), mul-le-mul-left h (mul-le-mul p q))
+
+-- A bound with the speed of a processor.
+pub record OfProcessor (job : Job) (B : Bound) : Type 0 where
+  pub positive : 0 < B .speed
+  pub limited : B .speed ≤ fastest job
+
+-- What holds of the ends: they are bounds of parts, low is at most every bound that fits, high fits, and the gap.
+pub record Bracket (job : Job) (n : ℕ) (E : Ends) : Type 0 where
+  pub low-speed : OfProcessor job (E .low)
+  pub high-speed : OfProcessor job (E .high)
+  pub low-below : (C : Bound) → Real C → T (fits job C) → E .low ≼ C
+  pub high-fits : T (fits job (E .high))
+  pub gap : Gap n (E .low) (E .high) (over (heaviest job) (slowest job))
+
+module _ {job : Job} (ok : Proper job) where
+  part-speed : (p a b : ℕ) → p < processors job → OfProcessor job (partBound job p a b)
+  unfolding partBound
+  part-speed p a b h = record { positive = ok .positive p; limited = speed-fastest job p h }
+
+  pub bottleneck-speed : (s : List ℕ) → OfProcessor job (bottleneck job s)
+  unfolding boundAt
+  bottleneck-speed s = bottleneck-cases ok (OfProcessor job) s (λ p h. part-speed p _ _ h)
+
+  pub next-speed : (B : Bound) → OfProcessor job (nextBid job B)
+  unfolding bid
+  next-speed B = next-cases job B (OfProcessor job) (λ p h. go p (omega (arith, ok .some)) (ltb p (last job)))
+    where
+      go : (p : ℕ) → p < processors job → (t : Bool)
+          → OfProcessor job (pick t (partBound job p (separator job B p) (suc (separator job B (suc p)))) (partBound job p (separator job B p) (tasks job)))
+      go p h true = part-speed p _ _ h
+      go p h false = part-speed p _ _ h
+
+  -- The ends never cross.
+  pub low-high : {n : ℕ} {E : Ends} → Bracket job n E → E .low ≼ E .high
+  low-high {n} {E} b = b .low-below (E .high) (speed-real ((b .high-speed) .positive)) (b .high-fits)
+
+  pub bracket-start : T (not (fits job (ideal job))) → Bracket job 1 (firstEnds job)
+  unfolding firstEnds ideal
+  bracket-start t =
+      record {
+        low-speed = next-speed (ideal job);
+        high-speed = bottleneck-speed (heuristic job);
+        low-below = λ C r f. next-least ok (ideal job) C t r f;
+        high-fits = bottleneck-fits ok (heuristic job) (heuristic-partition ok);
+        gap = gap-start (total-speed-positive ok) (slowest-positive job ok) (lt-le (next-above ok (ideal job) t)) (heuristic-bound ok);
+      }
+
+  -- A round keeps all that, and halves the gap.
+  pub bracket-turn : {n : ℕ} {E : Ends} → Bracket job n E → Bracket job (2 * n) (narrow job E)
+  unfolding narrow
+  bracket-turn {n} {E} b = go (fits job M) refl
+    where
+      M : Bound
+      M = middle (E .low) (E .high)
+
+      real : Real M
+      real = speed-real (one-le-mul {a = 2} (omega arith) (one-le-mul ((b .low-speed) .positive) ((b .high-speed) .positive)))
+
+      go : (t : Bool) → fits job M ≡ t
+          → Bracket job (2 * n)
+          (elim t
+          [ true ↦ record { low = E .low; high = bottleneck job (walk job M) } | false ↦ record { low = nextBid job M; high = E .high } ])
+      go true e =
+          let f : T (fits job M) = subst T (sym e) tt in
+          record {
+            low-speed = b .low-speed;
+            high-speed = bottleneck-speed (walk job M);
+            low-below = b .low-below;
+            high-fits = bottleneck-fits ok (walk job M) (walk-partition ok M);
+            gap =
+                gap-high ((b .low-speed) .positive) ((b .high-speed) .positive) (bottleneck-le ok (walk-within ok M f)) (b .gap);
+          }
+      go false e =
+          let f : T (not (fits job M)) = subst (λ (x : Bool). T (not x)) (sym e) tt in
+          record {
+            low-speed = next-speed M;
+            high-speed = b .high-speed;
+            low-below = λ C r g. next-least ok M C f r g;
+            high-fits = b .high-fits;
+            gap = gap-low ((b .low-speed) .positive) ((b .high-speed) .positive) (lt-le (next-above ok M f)) (b .gap);
+          }
+
+  pub bracket-after : T (not (fits job (ideal job))) → (k : ℕ) → Bracket job (2 ^ k) (ends job k)
+  unfolding ends
+  bracket-after t zero = bracket-start t
+  bracket-after t (suc k) =
+      subst (λ (n : ℕ). Bracket job n (narrow job (ends job k))) (let e : 2 * 2 ^ k ≡ 2 ^ suc k = omega arith in e)
+      (bracket-turn (bracket-after t k))
+
+  -- Ends that do not meet are apart.
+  pub apart : {n : ℕ} {E : Ends} → Bracket job n E → T (not (meet E)) → E .low ≺ E .high
+  unfolding meet
+  apart {n} {E} b t = record { fails = second (le (E .low) (E .high)) (le (E .high) (E .low)) ((low-high b) .holds) t }
+    where
+      second : (x y : Bool) → T x → T (not (x && y)) → T (not y)
+      second true y u v = v
+      second false y u v = absurd u
+
+  pub met : {E : Ends} → T (meet E) → E .high ≼ E .low
+  unfolding meet
+  met {E} t = record { holds = second (le (E .low) (E .high)) (le (E .high) (E .low)) t }
+    where
+      second : (x y : Bool) → T (x && y) → T y
+      second true y u = u
+      second false y u = absurd u
+
+  -- Round k + 1 is made only where 2ᵏ is at most D, so k is below digits(D).
+  pub rounds-below : T (not (fits job (ideal job))) → (k : ℕ) → T (not (meet (ends job k))) → k < digits (difference job)
+  unfolding difference
+  rounds-below t k m =
+      let b : Bracket job (2 ^ k) (ends job k) = bracket-after t k in
+      digits-least (difference job) k
+      ((le-div-iff-mul-le (slowest-positive job ok)) .1
+      (gap-apart ((b .low-speed) .limited) ((b .high-speed) .limited) (apart b m) (b .gap)))
+
+  -- Bisection ends, within digits(D) rounds.
+  pub bisection-ends : T (not (fits job (ideal job))) → (k : ℕ) × (k ≤ digits (difference job)) × T (isFirst (λ j. meet (ends job j)) k)
+  bisection-ends t =
+      first-exists (λ j. meet (ends job j)) (digits (difference job))
+      (λ h.
+      let x : digits (difference job) < digits (difference job) = rounds-below t (digits (difference job)) (h (digits (difference job)) (omega arith)) in
+      omega arith)
+
+  pub bisection-allowed : T (not (fits job (ideal job))) → (k : ℕ) → T (isFirst (λ j. meet (ends job j)) k) → k ≤ digits (difference job)
+  bisection-allowed t zero f = omega arith
+  bisection-allowed t (suc k) f = rounds-below t k (first-fails (λ j. meet (ends job j)) (suc k) f k (omega arith))
+
+  -- Where the ends meet, they are at the least bound that fits.
+  pub bisection-least : T (not (fits job (ideal job))) → (k : ℕ) → T (meet (ends job k)) → Least job ((ends job k) .low)
+  bisection-least t k m =
+      let b : Bracket job (2 ^ k) (ends job k) = bracket-after t k in
+      record {
+        real = speed-real ((b .low-speed) .positive);
+        fitting = fits-raise ok (speed-real ((b .high-speed) .positive)) (speed-real ((b .low-speed) .positive)) (met m) (b .high-fits);
+        least = b .low-below;
+      }

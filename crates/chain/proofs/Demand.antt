@@ -1,0 +1,154 @@
+-- Demand 3 whole, at the level of definitions: every method ends, at the least bottleneck, within its allowance; every plan of
+-- a job has the separators of the one best partition, whichever method made it.
+-- Assumes nothing.
+use Prim.Native.Nat.{ℕ, zero, suc, _+_, _*_, _≤_}
+use mathlib.Core.Path.{_≡_, refl, sym, ap, subst, _∙_}
+use mathlib.Core.Bool.{Bool, true, false, not}
+use mathlib.Core.List.{List}
+use native.Mathlib.Omega.{arith}
+use lib.Dec.{T, T-not}
+use Rattle.bound.specs.declared.Bound.{Bound}
+use Rattle.bound.specs.Order.{_≼_, _≈_, Real}
+use Rattle.bound.proofs.Order.{le-refl, le-trans}
+use Rattle.chain.specs.Lists.{digits, isFirst}
+use Rattle.chain.specs.Job.{Job, tasks, last, at, Partition, bottleneck, ideal, Valid}
+use Rattle.chain.specs.Probe.{walk, fits}
+use Rattle.chain.specs.Dynamic.{tableValue, moves}
+use Rattle.chain.specs.Search.{bidding, ends, meet}
+use Rattle.chain.specs.Plan.{leastBottleneck, planOf, Best, Method, table, biddings, bisection, TableEnds, BiddingEnds, BisectionEnds, at-once, after, MethodEnds, difference, allowance, imbalance, Plan, PlanBy}
+use Rattle.chain.proofs.Parts.{Proper, valid-proper}
+use Rattle.chain.proofs.Indices.{first-holds, first-unique}
+use Rattle.chain.proofs.Bottleneck.{bottleneck-real, bottleneck-le, within-bottleneck}
+use Rattle.chain.proofs.Walk.{fits-cover, cover-fits, walk-partition, walk-within, partition-fits}
+use Rattle.chain.proofs.Best.{Least, least-best, least-alike, least-met, best-unique}
+use Rattle.chain.proofs.Table.{table-real, table-cover, moves-allowed}
+use Rattle.chain.proofs.Ideal.{ideal-real}
+use Rattle.chain.proofs.Bidding.{ideal-below, bidding-least, bidding-allowed, bidding-ends}
+use Rattle.chain.proofs.Bisection.{bisection-least, bisection-allowed, bisection-ends}
+use Rattle.chain.proofs.Enumeration.{least-is-least, least-attained, least-real}
+
+module _ {job : Job} (ok : Proper job) where
+  -- The least bottleneck of all partitions is the least bound that fits.
+  pub least-bottleneck : Least job (leastBottleneck job)
+  least-bottleneck =
+      record { real = least-real ok; fitting = attained (least-attained ok); least = least }
+    where
+      attained : (s : List ℕ) × Partition job s × (leastBottleneck job ≡ bottleneck job s) → T (fits job (leastBottleneck job))
+      attained (s, pa, e) =
+          subst (λ (B : Bound). T (fits job B)) (sym e) (partition-fits ok (bottleneck-real ok s) pa (within-bottleneck ok s))
+
+      least : (C : Bound) → Real C → T (fits job C) → leastBottleneck job ≼ C
+      least C r t =
+          le-trans (bottleneck-real ok (walk job C)) (least-is-least ok (walk job C) (walk-partition ok C))
+          (bottleneck-le ok (walk-within ok C t))
+
+  -- The table ends at the least bound that fits: B(P,N) is the least bottleneck.
+  pub table-least-bound : Least job (tableValue job (last job) (tasks job))
+  table-least-bound =
+      record {
+        real = table-real ok (last job) (tasks job);
+        fitting =
+            cover-fits ok value (table-real ok (last job) (tasks job)) ((table-cover ok (last job) (tasks job) value) .0 (le-refl value));
+        least = λ C r t. (table-cover ok (last job) (tasks job) C) .1 (fits-cover ok C t);
+      }
+    where
+      value : Bound
+      value = tableValue job (last job) (tasks job)
+
+  -- Where the trial at the ideal fits, the ideal is the least bound.
+  pub ideal-least-bound : T (fits job (ideal job)) → Least job (ideal job)
+  ideal-least-bound t = record { real = ideal-real ok; fitting = t; least = λ C r u. ideal-below ok C u }
+
+  -- Every method ends at the least bound that fits.
+  pub method-least : (m : Method) (n : ℕ) (B : Bound) → MethodEnds m job n B → Least job B
+  method-least table n B x = subst (Least job) (sym (x .yields)) table-least-bound
+  method-least biddings n B x = subst (Least job) (sym (x .yields)) (bidding-least ok (x .failures) (x .first-fit))
+  method-least bisection n B x = bisection-bound x
+    where
+      bisection-bound : {n : ℕ} {B : Bound} → BisectionEnds job n B → Least job B
+      bisection-bound (at-once t c e) = subst (Least job) (sym e) (ideal-least-bound t)
+      bisection-bound (after k t f c e) =
+          subst (Least job) (sym e) (bisection-least ok t k (first-holds (λ j. meet (ends job j)) k f))
+
+  -- So the bottleneck found is the least bottleneck of all partitions.
+  pub method-finds : (m : Method) (n : ℕ) (B : Bound) → MethodEnds m job n B → B ≈ leastBottleneck job
+  method-finds m n B x =
+      let b : Least job B = method-least m n B x in
+      let l : Least job (leastBottleneck job) = least-bottleneck in
+      record { to = b .least (leastBottleneck job) (l .real) (l .fitting); from = l .least B (b .real) (b .fitting) }
+
+  -- Every method's count is within its allowance.
+  pub method-allowed : (m : Method) (n : ℕ) (B : Bound) → MethodEnds m job n B → n ≤ allowance m job
+  unfolding allowance
+  method-allowed table n B x = subst (λ (n : ℕ). n ≤ last job * tasks job) (sym (x .counted)) (moves-allowed ok)
+  method-allowed biddings n B x = omega (arith, x .counted, bidding-allowed ok (x .failures) (x .first-fit))
+  method-allowed bisection n B x = bisection-count x
+    where
+      bisection-count : {n : ℕ} {B : Bound} → BisectionEnds job n B → n ≤ 1 + digits (difference job)
+      bisection-count (at-once t c e) = omega arith
+      bisection-count (after k t f c e) = omega (arith, bisection-allowed ok t k f)
+
+  -- Every method ends.
+  pub method-ends : (m : Method) → (n : ℕ) × (B : Bound) × MethodEnds m job n B
+  method-ends table = (moves job, tableValue job (last job) (tasks job), record { counted = refl; yields = refl })
+  method-ends biddings =
+      let e = bidding-ends ok in
+      (suc (e .0), bidding job (e .0), record { failures = e .0; first-fit = e .2; counted = refl; yields = refl })
+  method-ends bisection = go (fits job (ideal job)) refl
+    where
+      go : (t : Bool) → fits job (ideal job) ≡ t → (n : ℕ) × (B : Bound) × MethodEnds bisection job n B
+      go true e = (1, ideal job, at-once (subst T (sym e) tt) refl refl)
+      go false e =
+          let t : T (not (fits job (ideal job))) = subst (λ (x : Bool). T (not x)) (sym e) tt in
+          let r = bisection-ends ok t in
+          (suc (r .0), ends job (r .0) .low, after (r .0) t (r .2) refl refl)
+
+  -- The count of a method is one number.
+  pub method-counts : (m : Method) (n k : ℕ) (B C : Bound) → MethodEnds m job n B → MethodEnds m job k C → n ≡ k
+  method-counts table n k B C x y = x .counted ∙ sym (y .counted)
+  method-counts biddings n k B C x y =
+      x .counted ∙ ap suc (first-unique (λ j. fits job (bidding job j)) (x .failures) (y .failures) (x .first-fit) (y .first-fit)) ∙ sym (y .counted)
+  method-counts bisection n k B C x y = same x y
+    where
+      same : {n k : ℕ} {B C : Bound} → BisectionEnds job n B → BisectionEnds job k C → n ≡ k
+      same (at-once t c e) (at-once u d f) = c ∙ sym d
+      same (at-once t c e) (after k u g d f) = absurd (T-not (fits job (ideal job)) u t)
+      same (after k t g c e) (at-once u d f) = absurd (T-not (fits job (ideal job)) t u)
+      same (after k t g c e) (after l u h d f) = c ∙ ap suc (first-unique (λ j. meet (ends job j)) k l g h) ∙ sym d
+
+  -- Every plan has the separators of the definition, which is the best partition.
+  pub plan-separators : (m : Method) {plan : Plan} → PlanBy m job plan → plan .separators ≡ planOf job
+  unfolding planOf
+  plan-separators m {plan} x = x .walked ∙ least-alike ok (method-least m (plan .count) (x .found) (x .ended)) least-bottleneck
+
+  pub plan-of-best : Best job (planOf job)
+  unfolding planOf
+  plan-of-best = least-best ok least-bottleneck
+
+  -- No partition has a smaller bottleneck; of an equal one each separator is at or before the plan's.
+  pub plan-best : (m : Method) {plan : Plan} → PlanBy m job plan → Best job (plan .separators)
+  plan-best m x = subst (Best job) (sym (plan-separators m x)) plan-of-best
+
+  -- Every plan, by whichever methods, has the same separators.
+  pub plans-agree : (m k : Method) {plan other : Plan} → PlanBy m job plan → PlanBy k job other → plan .separators ≡ other .separators
+  plans-agree m k x y = best-unique (plan-best m x) (plan-best k y)
+
+  -- The count that a plan carries is within the allowance that it carries.
+  pub plan-allowed : (m : Method) {plan : Plan} → PlanBy m job plan → plan .count ≤ plan .allowed
+  plan-allowed m {plan} x = subst (λ (n : ℕ). plan .count ≤ n) (sym (x .allows)) (method-allowed m (plan .count) (x .found) (x .ended))
+
+  -- Every method has a plan.
+  pub plan-exists : (m : Method) → (plan : Plan) × PlanBy m job plan
+  plan-exists m = go (method-ends m)
+    where
+      go : (n : ℕ) × (B : Bound) × MethodEnds m job n B → (plan : Plan) × PlanBy m job plan
+      go (n, B, e) = (
+        record {
+          separators = walk job B;
+          count = n;
+          allowed = allowance m job;
+          bound = bottleneck job (walk job B);
+          excess = imbalance job (bottleneck job (walk job B));
+        },
+        record { found = B; ended = e; walked = refl; allows = refl; measured = refl; exceeds = refl },
+      )

@@ -1,0 +1,323 @@
+-- Every number of a valid job's bounds is small, and every product that the code forms fits 64 bits.
+-- Only the lemmas of the first part open the limits; the others cite them by name.
+-- Assumes nothing.
+use Prim.Native.Nat.{ℕ, zero, suc, _+_, _-_, _*_, _^_, _≤_, _<_}
+use mathlib.Core.Path.{ap}
+use mathlib.Core.Bool.{Bool, true, false, cond, _&&_}
+use mathlib.Core.List.{List, [], _∷_}
+use native.Mathlib.Omega.{arith}
+use native.Mathlib.Nat.{le-trans, lt-of-le-of-lt, mul-le-mul, mul-le-mul-left, mul-le-mul-right, one-le-mul, add-le-add}
+use lib.Dec.{T, leb, ltb, leb→le, le→leb, lit<, lit≤}
+use lib.ListN.{length, getD, take, drop, take-append-drop}
+use Rattle.bound.specs.declared.Bound.{Bound}
+use Rattle.bound.specs.Order.{pick, middle}
+use Rattle.bound.proofs.Order.{lesser-cases}
+use Rattle.chain.specs.Limits.{maxTasks, maxWeight, maxProcessors, maxSpeed, maxBoundLoad, maxBoundSpeed}
+use Rattle.chain.specs.Lists.{sum, greatestOf, leastOf, sumTo}
+use Rattle.chain.specs.Job.{Job, tasks, processors, last, speedOf, Valid, partWeight, partLoad, totalWeight, totalSpeed, heaviest, fastest, slowestOf, slowest, partBound, at, boundAt, bottleneck, ideal}
+use Rattle.chain.specs.Probe.{separator, bid, leastBidTo, nextBid}
+use Rattle.chain.specs.Refusal.{boundTest}
+use Rattle.chain.proofs.Parts.{valid-proper, sum-append}
+use Rattle.chain.proofs.Bottleneck.{bottleneck-cases}
+use Rattle.chain.proofs.Refusals.{and-left, and-right, and-both}
+
+-- The limits: what their numbers come to. Loads fit 32 bits,
+pub loads-fit : maxTasks * maxWeight < 2 ^ 32
+unfolding maxTasks maxWeight
+loads-fit = lit< tt
+
+-- and so do speeds,
+pub speeds-fit : maxSpeed < 2 ^ 32
+unfolding maxSpeed
+speeds-fit = lit< tt
+
+-- and all speed together.
+pub total-speed-fits : maxProcessors * maxSpeed < 2 ^ 32
+unfolding maxProcessors maxSpeed
+total-speed-fits = lit< tt
+
+lent-load-fits : maxBoundLoad < 2 ^ 64
+unfolding maxBoundLoad
+lent-load-fits = lit< tt
+
+lent-speed-fits : maxBoundSpeed < 2 ^ 64
+unfolding maxBoundSpeed
+lent-speed-fits = lit< tt
+
+load-lendable : maxTasks * maxWeight ≤ maxBoundLoad
+unfolding maxTasks maxWeight maxBoundLoad
+load-lendable = lit≤ tt
+
+speed-lendable : maxSpeed ≤ maxBoundSpeed
+unfolding maxSpeed maxBoundSpeed
+speed-lendable = lit≤ tt
+
+total-speed-lendable : maxProcessors * maxSpeed ≤ maxBoundSpeed
+unfolding maxProcessors maxSpeed maxBoundSpeed
+total-speed-lendable = lit≤ tt
+
+middle-load-lendable : maxTasks * maxWeight * maxSpeed + maxTasks * maxWeight * maxSpeed ≤ maxBoundLoad
+unfolding maxTasks maxWeight maxSpeed maxBoundLoad
+middle-load-lendable = lit≤ tt
+
+middle-speed-lendable : 2 * (maxSpeed * maxSpeed) ≤ maxBoundSpeed
+unfolding maxSpeed maxBoundSpeed
+middle-speed-lendable = lit≤ tt
+
+load-by-lent-speed : maxTasks * maxWeight * maxBoundSpeed < 2 ^ 64
+unfolding maxTasks maxWeight maxBoundSpeed
+load-by-lent-speed = lit< tt
+
+lent-load-by-speed : maxBoundLoad * maxSpeed < 2 ^ 64
+unfolding maxBoundLoad maxSpeed
+lent-load-by-speed = lit< tt
+
+load-by-speed : maxTasks * maxWeight * maxSpeed < 2 ^ 64
+unfolding maxTasks maxWeight maxSpeed
+load-by-speed = lit< tt
+
+load-by-total-speed : maxTasks * maxWeight * (maxProcessors * maxSpeed) < 2 ^ 64
+unfolding maxTasks maxWeight maxProcessors maxSpeed
+load-by-total-speed = lit< tt
+
+thousand-loads : 1000 * (maxTasks * maxWeight * (maxProcessors * maxSpeed)) < 2 ^ 64
+unfolding maxTasks maxWeight maxProcessors maxSpeed
+thousand-loads = lit< tt
+
+weight-by-speeds : maxWeight * (maxSpeed * maxSpeed) < 2 ^ 64
+unfolding maxWeight maxSpeed
+weight-by-speeds = lit< tt
+
+-- Lists whose entries have a limit.
+sum-limit : (m d : ℕ) (xs : List ℕ) → ((i : ℕ) → getD xs i d ≤ m) → sum xs ≤ length xs * m
+unfolding sum
+sum-limit m d [] h = omega arith
+sum-limit m d (x ∷ xs) h = omega (arith, h 0, sum-limit m d xs (λ i. h (suc i)))
+
+sum-to-limit : (m : ℕ) (f : ℕ → ℕ) (n : ℕ) → ((i : ℕ) → f i ≤ m) → sumTo f n ≤ n * m
+unfolding sumTo
+sum-to-limit m f zero h = omega arith
+sum-to-limit m f (suc n) h = omega (arith, h n, sum-to-limit m f n h)
+
+sum-take : (n : ℕ) (xs : List ℕ) → sum (take n xs) ≤ sum xs
+sum-take n xs = omega (arith, sum-append (take n xs) (drop n xs), ap sum (take-append-drop n xs))
+
+sum-drop : (n : ℕ) (xs : List ℕ) → sum (drop n xs) ≤ sum xs
+sum-drop n xs = omega (arith, sum-append (take n xs) (drop n xs), ap sum (take-append-drop n xs))
+
+greatest-limit : (m d : ℕ) (xs : List ℕ) → ((i : ℕ) → getD xs i d ≤ m) → greatestOf xs ≤ m
+unfolding greatestOf
+greatest-limit m d [] h = omega arith
+greatest-limit m d (x ∷ xs) h = go (leb (greatestOf xs) x) (h 0) (greatest-limit m d xs (λ i. h (suc i)))
+  where
+    go : (t : Bool) → x ≤ m → greatestOf xs ≤ m → cond t x (greatestOf xs) ≤ m
+    go true k l = k
+    go false k l = l
+
+least-positive : (x : ℕ) (xs : List ℕ) → 1 ≤ x → ((i : ℕ) → 1 ≤ getD xs i 1) → 1 ≤ leastOf x xs
+unfolding leastOf
+least-positive x [] h k = h
+least-positive x (y ∷ ys) h k = go (leb x (leastOf y ys)) (least-positive y ys (k 0) (λ i. k (suc i)))
+  where
+    go : (t : Bool) → 1 ≤ leastOf y ys → 1 ≤ cond t x (leastOf y ys)
+    go true l = h
+    go false l = l
+
+slowest-positive-of : (xs : List ℕ) → ((i : ℕ) → 1 ≤ getD xs i 1) → 1 ≤ slowestOf xs
+unfolding slowestOf
+slowest-positive-of [] h = omega arith
+slowest-positive-of (x ∷ xs) h = least-positive x xs (h 0) (λ i. h (suc i))
+
+sum-positive : (xs : List ℕ) → 1 ≤ length xs → ((i : ℕ) → 1 ≤ getD xs i 1) → 1 ≤ sum xs
+unfolding sum
+sum-positive [] l h = absurd (let z : ⊥ = omega arith in z)
+sum-positive (x ∷ xs) l h = omega (arith, h 0)
+
+-- A bound as parts, bottlenecks and bids have it.
+pub record Small (B : Bound) : Type 0 where
+  pub load-small : B .load ≤ maxTasks * maxWeight
+  pub speed-positive : 1 ≤ B .speed
+  pub speed-small : B .speed ≤ maxSpeed
+
+-- "A lent bound has a load of at most 100,000,000,000,000 and a speed of 1 to 1,000,000,000".
+pub record Lendable (B : Bound) : Type 0 where
+  pub load-lent : B .load ≤ maxBoundLoad
+  pub speed-positive : 1 ≤ B .speed
+  pub speed-lent : B .speed ≤ maxBoundSpeed
+
+module _ {job : Job} (v : Valid job) where
+  -- All weight is within the limit of a load.
+  pub total-weight-limit : totalWeight job ≤ maxTasks * maxWeight
+  total-weight-limit = le-trans (sum-limit maxWeight 0 (job .weights) (v .weights-limit)) (mul-le-mul-right maxWeight (v .tasks-limit))
+
+  -- No part weighs more than all tasks.
+  pub weight-limit : (a b : ℕ) → partWeight job a b ≤ totalWeight job
+  unfolding partWeight
+  weight-limit a b = le-trans (sum-take (b - a) (drop a (job .weights))) (sum-drop a (job .weights))
+
+  -- Every load is within the limit of a load.
+  pub load-limit : (a b : ℕ) → partLoad job a b ≤ maxTasks * maxWeight
+  unfolding partLoad
+  load-limit a b = le-trans (weight-limit a b) total-weight-limit
+
+  -- All speed is within its limit.
+  pub total-speed-limit : totalSpeed job ≤ maxProcessors * maxSpeed
+  unfolding speedOf
+  total-speed-limit = le-trans (sum-limit maxSpeed 1 (job .speeds) (v .speeds-limit)) (mul-le-mul-right maxSpeed (v .processors-limit))
+
+  -- All speed is above 0.
+  pub total-speed-positive : 1 ≤ totalSpeed job
+  unfolding speedOf
+  total-speed-positive = sum-positive (job .speeds) (v .some-processor) (v .speeds-positive)
+
+  -- The speeds of the first p processors together.
+  pub speeds-to-limit : (p : ℕ) → p ≤ processors job → sumTo (speedOf job) p ≤ maxProcessors * maxSpeed
+  speeds-to-limit p h =
+      le-trans (sum-to-limit maxSpeed (speedOf job) p (v .speeds-limit)) (mul-le-mul-right maxSpeed (le-trans h (v .processors-limit)))
+
+  -- The heaviest task is within the limit of a weight.
+  pub heaviest-limit : heaviest job ≤ maxWeight
+  heaviest-limit = greatest-limit maxWeight 0 (job .weights) (v .weights-limit)
+
+  -- The fastest processor is within the limit of a speed.
+  pub fastest-limit : fastest job ≤ maxSpeed
+  unfolding speedOf
+  fastest-limit = greatest-limit maxSpeed 1 (job .speeds) (v .speeds-limit)
+
+  -- The slowest speed is above 0.
+  pub slowest-positive : 1 ≤ slowest job
+  unfolding speedOf
+  slowest-positive = slowest-positive-of (job .speeds) (v .speeds-positive)
+
+  -- Every part's bound is small.
+  pub part-small : (p a b : ℕ) → Small (partBound job p a b)
+  unfolding partBound
+  part-small p a b = record { load-small = load-limit a b; speed-positive = v .speeds-positive p; speed-small = v .speeds-limit p }
+
+  -- Every bound of a partition's part is small.
+  pub bound-small : (s : List ℕ) (p : ℕ) → Small (boundAt job s p)
+  unfolding boundAt
+  bound-small s p = part-small p (at s p) (at s (suc p))
+
+  -- Every bottleneck is small.
+  pub bottleneck-small : (s : List ℕ) → Small (bottleneck job s)
+  bottleneck-small s = bottleneck-cases (valid-proper v) Small s (λ p h. bound-small s p)
+
+  -- Every bid is small.
+  pub bid-small : (B : Bound) (p : ℕ) → Small (bid job B p)
+  unfolding bid
+  bid-small B p = go (ltb p (last job))
+    where
+      a : ℕ
+      a = separator job B p
+
+      go : (t : Bool) → Small (pick t (partBound job p a (suc (separator job B (suc p)))) (partBound job p a (tasks job)))
+      go true = part-small p a (suc (separator job B (suc p)))
+      go false = part-small p a (tasks job)
+
+  least-bid-small : (B : Bound) (p : ℕ) → Small (leastBidTo job B p)
+  unfolding leastBidTo
+  least-bid-small B zero = bid-small B 0
+  least-bid-small B (suc p) =
+      lesser-cases Small (leastBidTo job B p) (bid job B (suc p)) (least-bid-small B p) (bid-small B (suc p))
+
+  -- Every next bid is small.
+  pub next-bid-small : (B : Bound) → Small (nextBid job B)
+  unfolding nextBid
+  next-bid-small B = least-bid-small B (last job)
+
+  -- The ideal can be lent.
+  pub ideal-lendable : Lendable (ideal job)
+  unfolding ideal
+  ideal-lendable =
+      record {
+        load-lent = le-trans total-weight-limit load-lendable;
+        speed-positive = total-speed-positive;
+        speed-lent = le-trans total-speed-limit total-speed-lendable;
+      }
+
+  -- The products of the heuristic, for every index i and every p up to the number of processors.
+  pub heuristic-products : (i p : ℕ) → p ≤ processors job
+      → (partWeight job 0 i * totalSpeed job < 2 ^ 64) × (totalWeight job * sumTo (speedOf job) p < 2 ^ 64)
+  heuristic-products i p h = (
+    lt-of-le-of-lt (mul-le-mul (le-trans (weight-limit 0 i) total-weight-limit) total-speed-limit) load-by-total-speed,
+    lt-of-le-of-lt (mul-le-mul total-weight-limit (speeds-to-limit p h)) load-by-total-speed,
+  )
+
+  -- The product of bisection's allowance.
+  pub difference-product : heaviest job * (fastest job * fastest job) < 2 ^ 64
+  difference-product = lt-of-le-of-lt (mul-le-mul heaviest-limit (mul-le-mul fastest-limit fastest-limit)) weight-by-speeds
+
+-- The dividend of the imbalance of a small bound fits.
+pub imbalance-product : {B : Bound} {job : Job} → Small B → Valid job → 1000 * (B .load * totalSpeed job) < 2 ^ 64
+imbalance-product s v = lt-of-le-of-lt (mul-le-mul-left 1000 (mul-le-mul (s .load-small) (total-speed-limit v))) thousand-loads
+
+-- The divisor of the imbalance of a small bound fits.
+pub imbalance-divisor : {B : Bound} {job : Job} → Small B → Valid job → totalWeight job * B .speed < 2 ^ 64
+imbalance-divisor s v = lt-of-le-of-lt (mul-le-mul (total-weight-limit v) (s .speed-small)) load-by-speed
+
+-- A small bound's numbers fit 32 bits.
+pub small-fits : {B : Bound} → Small B → (B .load < 2 ^ 32) × (B .speed < 2 ^ 32)
+small-fits s = (lt-of-le-of-lt (s .load-small) loads-fit, lt-of-le-of-lt (s .speed-small) speeds-fit)
+
+-- A lent bound's numbers fit 64 bits.
+pub lendable-fits : {B : Bound} → Lendable B → (B .load < 2 ^ 64) × (B .speed < 2 ^ 64)
+lendable-fits s = (lt-of-le-of-lt (s .load-lent) lent-load-fits, lt-of-le-of-lt (s .speed-lent) lent-speed-fits)
+
+-- A small bound can be lent.
+pub small-lendable : {B : Bound} → Small B → Lendable B
+small-lendable s =
+    record {
+      load-lent = le-trans (s .load-small) load-lendable;
+      speed-positive = s .speed-positive;
+      speed-lent = le-trans (s .speed-small) speed-lendable;
+    }
+
+-- The midpoint of two small bounds can be lent.
+pub middle-lendable : {B C : Bound} → Small B → Small C → Lendable (middle B C)
+middle-lendable s t =
+    record {
+      load-lent = le-trans (add-le-add (mul-le-mul (s .load-small) (t .speed-small)) (mul-le-mul (t .load-small) (s .speed-small))) middle-load-lendable;
+      speed-positive = one-le-mul (omega arith) (one-le-mul (s .speed-positive) (t .speed-positive));
+      speed-lent = le-trans (mul-le-mul-left 2 (mul-le-mul (s .speed-small) (t .speed-small))) middle-speed-lendable;
+    }
+
+-- The products of a comparison of a small bound with one that can be lent.
+pub probe-products : {B C : Bound} → Small B → Lendable C → (B .load * C .speed < 2 ^ 64) × (C .load * B .speed < 2 ^ 64)
+probe-products s t = (
+  lt-of-le-of-lt (mul-le-mul (s .load-small) (t .speed-lent)) load-by-lent-speed,
+  lt-of-le-of-lt (mul-le-mul (t .load-lent) (s .speed-small)) lent-load-by-speed,
+)
+
+-- The midpoint's load and speed, as they are computed.
+pub middle-products : {B C : Bound} → Small B → Small C
+    → (B .load * C .speed + C .load * B .speed < 2 ^ 64) × (2 * (B .speed * C .speed) < 2 ^ 64)
+middle-products s t = lendable-fits (middle-lendable s t)
+
+-- A lent bound passes its test exactly when it is within the limits.
+pub lendable-test : (B : Bound) → (T ((boundTest B) .passes) → Lendable B) × (Lendable B → T ((boundTest B) .passes))
+unfolding boundTest
+lendable-test B = (from, to)
+  where
+    load : Bool
+    load = leb (B .load) maxBoundLoad
+
+    low : Bool
+    low = leb 1 (B .speed)
+
+    high : Bool
+    high = leb (B .speed) maxBoundSpeed
+
+    from : T (load && (low && high)) → Lendable B
+    from t =
+        let u : T (low && high) = and-right load (low && high) t in
+        record {
+          load-lent = leb→le (B .load) maxBoundLoad (and-left load (low && high) t);
+          speed-positive = leb→le 1 (B .speed) (and-left low high u);
+          speed-lent = leb→le (B .speed) maxBoundSpeed (and-right low high u);
+        }
+
+    to : Lendable B → T (load && (low && high))
+    to l =
+        and-both load (low && high) (le→leb (B .load) maxBoundLoad (l .load-lent))
+        (and-both low high (le→leb 1 (B .speed) (l .speed-positive)) (le→leb (B .speed) maxBoundSpeed (l .speed-lent)))

@@ -1,0 +1,286 @@
+-- A refusal's number is that of the first test that fails; lists are accepted exactly when they make a valid job, and a list of
+-- separators exactly when it is a partition.
+-- Assumes nothing.
+use Prim.Native.Nat.{ℕ, zero, suc, _≤_, _<_}
+use mathlib.Core.Path.{_≡_, refl, sym, ap, subst, _∙_}
+use mathlib.Core.Bool.{Bool, true, false, cond, _&&_}
+use mathlib.Core.List.{List, [], _∷_, _++_, map, List·Memᴰ, List·Memᴰ·head, List·Memᴰ·tail, List·Memᴰ·not-nil, List·Memᴰ·cases-cons, List·Memᴰ·append-cases, Memᴰ·append-left, Memᴰ·append-right, Memᴰ·of-map}
+use mathlib.Core.Logic.{_≢_, inl, inr}
+use native.Mathlib.Omega.{arith}
+use lib.Dec.{T, leb, eqb, leb→le, le→leb, eqb→eq, eqb-refl, lit≤}
+use lib.ListN.{length, getD}
+use Rattle.chain.specs.Limits.{maxTasks, maxWeight, maxProcessors, maxSpeed}
+use Rattle.chain.specs.Lists.{all}
+use Rattle.chain.specs.Job.{Job, tasks, processors, speedOf, Valid, at, Partition}
+use Rattle.chain.specs.Refusal.{Test, between, eachBetween, methodTest, speedsTest, weightsTest, processorsTest, tasksTest, lengthTest, boundTest, isPartition, partitionTest, firstRefusal, jobTests, Inputs, callTests, refusal}
+use Rattle.chain.proofs.Indices.{all-at, all-of}
+
+-- Two tests at once pass exactly when both do: the first,
+pub and-left : (x y : Bool) → T (x && y) → T x
+and-left true y t = tt
+and-left false y t = t
+
+-- the second,
+pub and-right : (x y : Bool) → T (x && y) → T y
+and-right true y t = t
+and-right false y t = absurd t
+
+-- and back.
+pub and-both : (x y : Bool) → T x → T y → T (x && y)
+and-both true y t u = u
+and-both false y t u = t
+
+eq-test : (m n : ℕ) → m ≡ n → T (eqb m n)
+eq-test m n e = subst (λ (k : ℕ). T (eqb m k)) e (eqb-refl m)
+
+-- Every test of the list has a number above 0, so that 0 means accepted.
+pub record Numbered (ts : List Test) : Type 0 where
+  pub positive : (t : Test) → List·Memᴰ t ts → 0 < t .number
+
+-- A list of no tests is numbered so.
+pub numbered-nil : Numbered []
+numbered-nil = record { positive = λ t m. absurd (List·Memᴰ·not-nil m) }
+
+-- One test more.
+pub numbered-cons : {t : Test} {ts : List Test} → 0 < t .number → Numbered ts → Numbered (t ∷ ts)
+numbered-cons {t} {ts} h n =
+    record { positive = λ u m. elim (List·Memᴰ·cases-cons m) [ inl e ↦ subst (λ (x : Test). 0 < x .number) (sym e) h | inr k ↦ n .positive u k ] }
+
+-- Two lists of tests one after the other.
+pub numbered-append : {ts us : List Test} → Numbered ts → Numbered us → Numbered (ts ++ us)
+numbered-append {ts} {us} n k =
+    record { positive = λ t m. elim (List·Memᴰ·append-cases ts m) [ inl h ↦ n .positive t h | inr h ↦ k .positive t h ] }
+
+-- One kind of test, made of every input.
+pub numbered-map : {A : Type 0} (f : A → Test) → ((a : A) → 0 < (f a) .number) → (l : List A) → Numbered (map f l)
+numbered-map f h l =
+    record { positive = λ t m. let r = Memᴰ·of-map f l m in subst (λ (x : Test). 0 < x .number) (r .2) (h (r .0)) }
+
+numbered-tail : {t : Test} {ts : List Test} → Numbered (t ∷ ts) → Numbered ts
+numbered-tail n = record { positive = λ u m. n .positive u (List·Memᴰ·tail m) }
+
+-- The first test of a list passes and the others decide, or its number is given.
+pass-head : (t : Test) (ts : List Test) → 0 < t .number → firstRefusal (t ∷ ts) ≡ 0 → T (t .passes)
+unfolding firstRefusal
+pass-head t ts h e = go (t .passes) e
+  where
+    go : (b : Bool) → cond b (firstRefusal ts) (t .number) ≡ 0 → T b
+    go true x = tt
+    go false x = absurd (let z : ⊥ = omega arith in z)
+
+pass-skip : (t : Test) (ts : List Test) → T (t .passes) → firstRefusal (t ∷ ts) ≡ firstRefusal ts
+unfolding firstRefusal
+pass-skip t ts p = go (t .passes) p
+  where
+    go : (b : Bool) → T b → cond b (firstRefusal ts) (t .number) ≡ firstRefusal ts
+    go true u = refl
+    go false u = absurd u
+
+fail-head : (t : Test) (ts : List Test) → t .passes ≡ false → firstRefusal (t ∷ ts) ≡ t .number
+unfolding firstRefusal
+fail-head t ts e = ap (λ (b : Bool). cond b (firstRefusal ts) (t .number)) e
+
+-- Where all tests pass, nothing is refused.
+pub passes-accepted : (ts : List Test) → ((t : Test) → List·Memᴰ t ts → T (t .passes)) → firstRefusal ts ≡ 0
+unfolding firstRefusal
+passes-accepted [] h = refl
+passes-accepted (t ∷ ts) h =
+    pass-skip t ts (h t (List·Memᴰ·head refl)) ∙ passes-accepted ts (λ u m. h u (List·Memᴰ·tail m))
+
+-- Where nothing is refused, all tests pass.
+pub accepted-passes : (ts : List Test) → Numbered ts → firstRefusal ts ≡ 0 → (t : Test) → List·Memᴰ t ts → T (t .passes)
+accepted-passes [] n e u m = absurd (List·Memᴰ·not-nil m)
+accepted-passes (t ∷ ts) n e u m =
+    let p : T (t .passes) = pass-head t ts (n .positive t (List·Memᴰ·head refl)) e in
+    elim (List·Memᴰ·cases-cons m) [
+      | inl h ↦ subst (λ (x : Test). T (x .passes)) (sym h) p
+      | inr h ↦ accepted-passes ts (numbered-tail n) (sym (pass-skip t ts p) ∙ e) u h
+    ]
+
+-- Where the first tests pass, the others decide.
+pub passed-append : (ts us : List Test) → ((t : Test) → List·Memᴰ t ts → T (t .passes)) → firstRefusal (ts ++ us) ≡ firstRefusal us
+passed-append [] us h = refl
+passed-append (t ∷ ts) us h =
+    pass-skip t (ts ++ us) (h t (List·Memᴰ·head refl)) ∙ passed-append ts us (λ u m. h u (List·Memᴰ·tail m))
+
+-- Where nothing of the first tests is refused, the others decide.
+pub first-refusal-append : (ts us : List Test) → Numbered ts → firstRefusal ts ≡ 0 → firstRefusal (ts ++ us) ≡ firstRefusal us
+first-refusal-append ts us n e = passed-append ts us (accepted-passes ts n e)
+
+-- Where one of the first tests fails, it decides.
+pub first-refusal-before : (ts us : List Test) → firstRefusal ts ≢ 0 → firstRefusal (ts ++ us) ≡ firstRefusal ts
+unfolding firstRefusal
+first-refusal-before [] us h = absurd (h refl)
+first-refusal-before (t ∷ ts) us h = go (t .passes) h (first-refusal-before ts us)
+  where
+    go : (b : Bool) → cond b (firstRefusal ts) (t .number) ≢ 0 → (firstRefusal ts ≢ 0 → firstRefusal (ts ++ us) ≡ firstRefusal ts)
+        → cond b (firstRefusal (ts ++ us)) (t .number) ≡ cond b (firstRefusal ts) (t .number)
+    go true k below = below k
+    go false k below = refl
+
+-- A test that fails after others that pass gives its number.
+pub refused-first : (ts : List Test) (t : Test) (us : List Test) → Numbered ts → firstRefusal ts ≡ 0 → t .passes ≡ false
+    → firstRefusal (ts ++ t ∷ us) ≡ t .number
+refused-first ts t us n e f = first-refusal-append ts (t ∷ us) n e ∙ fail-head t us f
+
+-- The test that is the first to fail in a list, with the number n.
+pub record FirstFailing (ts : List Test) (n : ℕ) : Type 0 where
+  pub before : List Test
+  pub failed : Test
+  pub after : List Test
+  pub whole : before ++ failed ∷ after ≡ ts
+  pub passed : (t : Test) → List·Memᴰ t before → T (t .passes)
+  pub fails : failed .passes ≡ false
+  pub gives : failed .number ≡ n
+
+-- A number is given where its test is the first to fail,
+pub failing-refused : {ts : List Test} {n : ℕ} → FirstFailing ts n → firstRefusal ts ≡ n
+failing-refused r =
+    ap firstRefusal (sym (r .whole)) ∙ passed-append (r .before) (r .failed ∷ r .after) (r .passed) ∙ fail-head (r .failed) (r .after) (r .fails)
+    ∙ r .gives
+
+-- and only there.
+pub refused-failing : (ts : List Test) → firstRefusal ts ≢ 0 → FirstFailing ts (firstRefusal ts)
+unfolding firstRefusal
+refused-failing [] h = absurd (h refl)
+refused-failing (t ∷ ts) h = go (t .passes) refl h (refused-failing ts)
+  where
+    go : (b : Bool) → t .passes ≡ b → cond b (firstRefusal ts) (t .number) ≢ 0 → (firstRefusal ts ≢ 0 → FirstFailing ts (firstRefusal ts))
+        → FirstFailing (t ∷ ts) (cond b (firstRefusal ts) (t .number))
+    go true e k below =
+        let r = below k in
+        record {
+          before = t ∷ r .before;
+          failed = r .failed;
+          after = r .after;
+          whole = ap (λ (l : List Test). t ∷ l) (r .whole);
+          passed = λ u m. elim (List·Memᴰ·cases-cons m) [ inl x ↦ subst (λ (y : Test). T (y .passes)) (sym x) (subst T (sym e) tt) | inr x ↦ r .passed u x ];
+          fails = r .fails;
+          gives = r .gives;
+        }
+    go false e k below =
+        record { before = []; failed = t; after = ts; whole = refl; passed = λ u m. absurd (List·Memᴰ·not-nil m); fails = e; gives = refl }
+
+-- The tests of a job have numbers above 0.
+pub job-numbered : (job : Job) → Numbered (jobTests job)
+unfolding jobTests speedsTest weightsTest processorsTest tasksTest
+job-numbered job =
+    numbered-cons (omega arith) (numbered-cons (omega arith) (numbered-cons (omega arith) (numbered-cons (omega arith) numbered-nil)))
+
+-- The tests of a call have numbers above 0.
+pub call-numbered : (job : Job) (inputs : Inputs) → Numbered (callTests job inputs)
+unfolding callTests methodTest lengthTest boundTest partitionTest
+call-numbered job inputs =
+    numbered-append
+    (numbered-append
+    (numbered-append (numbered-append (numbered-map methodTest (λ m. omega arith) (inputs .methods)) (job-numbered job))
+    (numbered-map (λ l. lengthTest (l .needed) (l .given)) (λ l. omega arith) (inputs .lists)))
+    (numbered-map boundTest (λ B. omega arith) (inputs .bounds))) (numbered-map (partitionTest job) (λ s. omega arith) (inputs .divisions))
+
+-- Every number of the list is in range exactly when every index reads one that is, the default included.
+each-at : (lo hi d : ℕ) (xs : List ℕ) → lo ≤ d → d ≤ hi → T (eachBetween lo hi xs) → (i : ℕ) → (lo ≤ getD xs i d) × (getD xs i d ≤ hi)
+unfolding eachBetween
+each-at lo hi d [] h k t i = (h, k)
+each-at lo hi d (x ∷ xs) h k t zero =
+    let u : T (between lo hi x) = and-left (between lo hi x) (eachBetween lo hi xs) t in
+    (leb→le lo x (and-left (leb lo x) (leb x hi) u), leb→le x hi (and-right (leb lo x) (leb x hi) u))
+each-at lo hi d (x ∷ xs) h k t (suc i) = each-at lo hi d xs h k (and-right (between lo hi x) (eachBetween lo hi xs) t) i
+
+each-of : (lo hi d : ℕ) (xs : List ℕ) → ((i : ℕ) → lo ≤ getD xs i d) → ((i : ℕ) → getD xs i d ≤ hi) → T (eachBetween lo hi xs)
+unfolding eachBetween
+each-of lo hi d [] h k = tt
+each-of lo hi d (x ∷ xs) h k =
+    and-both (between lo hi x) (eachBetween lo hi xs) (and-both (leb lo x) (leb x hi) (le→leb lo x (h 0)) (le→leb x hi (k 0)))
+    (each-of lo hi d xs (λ i. h (suc i)) (λ i. k (suc i)))
+
+module _ {job : Job} where
+  accepted-valid : firstRefusal (jobTests job) ≡ 0 → Valid job
+  unfolding jobTests speedsTest weightsTest processorsTest tasksTest speedOf maxSpeed
+  accepted-valid e =
+      record {
+        some-processor = leb→le 1 (processors job) (and-left (leb 1 (processors job)) (leb (processors job) maxProcessors) count);
+        processors-limit = leb→le (processors job) maxProcessors (and-right (leb 1 (processors job)) (leb (processors job) maxProcessors) count);
+        tasks-limit = leb→le (tasks job) maxTasks (passes (tasksTest (job .weights)) (List·Memᴰ·tail (List·Memᴰ·tail (List·Memᴰ·tail (List·Memᴰ·head refl)))));
+        weights-limit = λ i. each-at 0 maxWeight 0 (job .weights) (omega arith) (omega arith) weights i .1;
+        speeds-positive = λ p. speed p .0;
+        speeds-limit = λ p. speed p .1;
+      }
+    where
+      passes : (t : Test) → List·Memᴰ t (jobTests job) → T (t .passes)
+      passes = accepted-passes (jobTests job) (job-numbered job) e
+
+      weights : T (eachBetween 0 maxWeight (job .weights))
+      weights = passes (weightsTest (job .weights)) (List·Memᴰ·tail (List·Memᴰ·head refl))
+
+      count : T (between 1 maxProcessors (processors job))
+      count = passes (processorsTest (job .speeds)) (List·Memᴰ·tail (List·Memᴰ·tail (List·Memᴰ·head refl)))
+
+      speed : (p : ℕ) → (1 ≤ getD (job .speeds) p 1) × (getD (job .speeds) p 1 ≤ maxSpeed)
+      speed = each-at 1 maxSpeed 1 (job .speeds) (omega arith) (lit≤ tt) (passes (speedsTest (job .speeds)) (List·Memᴰ·head refl))
+
+  valid-accepted : Valid job → firstRefusal (jobTests job) ≡ 0
+  unfolding jobTests speedsTest weightsTest processorsTest tasksTest speedOf firstRefusal
+  valid-accepted v =
+      pass-skip (speedsTest es) (weightsTest ws ∷ processorsTest es ∷ tasksTest ws ∷ []) (each-of 1 maxSpeed 1 es (v .speeds-positive) (v .speeds-limit))
+      ∙ pass-skip (weightsTest ws) (processorsTest es ∷ tasksTest ws ∷ []) (each-of 0 maxWeight 0 ws (λ i. omega arith) (v .weights-limit))
+      ∙ pass-skip (processorsTest es) (tasksTest ws ∷ []) (and-both (leb 1 (length es)) (leb (length es) maxProcessors) (le→leb 1 (length es) (v .some-processor)) (le→leb (length es) maxProcessors (v .processors-limit)))
+      ∙ pass-skip (tasksTest ws) [] (le→leb (length ws) maxTasks (v .tasks-limit))
+    where
+      ws : List ℕ
+      ws = job .weights
+
+      es : List ℕ
+      es = job .speeds
+
+-- The lists are accepted exactly when they make a valid job.
+pub job-accepted : {job : Job} → (firstRefusal (jobTests job) ≡ 0 → Valid job) × (Valid job → firstRefusal (jobTests job) ≡ 0)
+job-accepted {job} = (accepted-valid {job = job}, valid-accepted)
+
+-- A call is accepted exactly when all its tests pass.
+pub call-accepted : (job : Job) (inputs : Inputs)
+    → (refusal job inputs ≡ 0 → (t : Test) → List·Memᴰ t (callTests job inputs) → T (t .passes))
+    × (((t : Test) → List·Memᴰ t (callTests job inputs) → T (t .passes)) → refusal job inputs ≡ 0)
+unfolding refusal
+call-accepted job inputs =
+    (accepted-passes (callTests job inputs) (call-numbered job inputs), passes-accepted (callTests job inputs))
+
+-- An accepted call has a valid job.
+pub call-valid : (job : Job) (inputs : Inputs) → refusal job inputs ≡ 0 → Valid job
+unfolding callTests
+call-valid job inputs e =
+    accepted-valid (passes-accepted (jobTests job) (λ t m. call-accepted job inputs .0 e t (Memᴰ·append-left (map (partitionTest job) (inputs .divisions)) (Memᴰ·append-left (map boundTest (inputs .bounds)) (Memᴰ·append-left (map (λ l. lengthTest (l .needed) (l .given)) (inputs .lists)) (Memᴰ·append-right (map methodTest (inputs .methods)) m))))))
+
+-- The test of a list of separators passes exactly when it is a partition.
+pub partition-test : (job : Job) (s : List ℕ) → (T (isPartition job s) → Partition job s) × (Partition job s → T (isPartition job s))
+unfolding isPartition
+partition-test job s = (from, to)
+  where
+    len : Bool
+    len = eqb (length s) (suc (processors job))
+
+    zeroth : Bool
+    zeroth = eqb (at s 0) 0
+
+    grow : Bool
+    grow = all (λ p. leb (at s p) (at s (suc p))) (processors job)
+
+    final : Bool
+    final = eqb (at s (processors job)) (tasks job)
+
+    from : T (len && zeroth && grow && final) → Partition job s
+    from t =
+        let u : T (len && zeroth && grow) = and-left (len && zeroth && grow) final t in
+        let v : T (len && zeroth) = and-left (len && zeroth) grow u in
+        record {
+          count = eqb→eq (length s) (suc (processors job)) (and-left len zeroth v);
+          first = eqb→eq (at s 0) 0 (and-right len zeroth v);
+          grows = λ p h. leb→le (at s p) (at s (suc p)) (all-at (λ p. leb (at s p) (at s (suc p))) (processors job) (and-right (len && zeroth) grow u) p h);
+          end = eqb→eq (at s (processors job)) (tasks job) (and-right (len && zeroth && grow) final t);
+        }
+
+    to : Partition job s → T (len && zeroth && grow && final)
+    to w =
+        and-both (len && zeroth && grow) final
+        (and-both (len && zeroth) grow (and-both len zeroth (eq-test (length s) (suc (processors job)) (w .count)) (eq-test (at s 0) 0 (w .first)))
+        (all-of (λ p. leb (at s p) (at s (suc p))) (processors job) (λ p h. le→leb (at s p) (at s (suc p)) (w .grows p h))))
+        (eq-test (at s (processors job)) (tasks job) (w .end))

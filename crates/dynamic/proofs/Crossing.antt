@@ -1,0 +1,145 @@
+-- Crossings, values and moves of the table, in the words of the code.
+-- Assumes nothing.
+use Prim.Native.Nat.{ℕ, zero, suc, _+_, _-_, _*_, _^_, _≤_, _<_}
+use mathlib.Core.Path.{_≡_, refl, sym, ap, ap₂, subst, _∙_}
+use mathlib.Core.Bool.{Bool, true, false}
+use mathlib.Core.Logic.{inl, inr}
+use native.Mathlib.Omega.{arith}
+use native.Mathlib.Decide.{decLe}
+use native.Mathlib.Nat.{mul-le-mul}
+use native.Mathlib.Numerals.{add-one}
+use lib.Dec.{lit<}
+use Rattle.bound.specs.declared.Bound.{Bound}
+use Rattle.bound.specs.Order.{le, pick, greater, lesser}
+use Rattle.bound.proofs.Order.{le-true, greater-cases}
+use Rattle.chain.specs.Limits.{maxTasks, maxProcessors}
+use Rattle.chain.specs.Lists.{sumTo}
+use Rattle.chain.specs.Job.{Job, Valid, tasks, processors, partBound}
+use Rattle.chain.specs.Dynamic.{candidate, crossingOf, lesserAt, tableValue, crossing, movesTo}
+use Rattle.chain.proofs.Indices.{Smallest, smallest-is}
+use Rattle.chain.proofs.Parts.{Proper, valid-proper, part-empty}
+use Rattle.chain.proofs.Ranges.{Small, part-small, small-lendable, probe-products}
+use Rattle.chain.proofs.Table.{crossing-le, table-attained, moves-to-crossing}
+
+-- The greater and the lesser of two bounds, by the test's answer.
+greater-first : (B C : Bound) → le C B ≡ true → greater B C ≡ B
+unfolding greater
+greater-first B C e = ap (λ (t : Bool). pick t B C) e
+
+greater-second : (B C : Bound) → le C B ≡ false → greater B C ≡ C
+unfolding greater
+greater-second B C e = ap (λ (t : Bool). pick t B C) e
+
+lesser-first : (B C : Bound) → le B C ≡ true → lesser B C ≡ B
+unfolding lesser
+lesser-first B C e = ap (λ (t : Bool). pick t B C) e
+
+lesser-second : (B C : Bound) → le B C ≡ false → lesser B C ≡ C
+unfolding lesser
+lesser-second B C e = ap (λ (t : Bool). pick t B C) e
+
+-- What the code's test of two bounds says of the bounds that they are.
+pub tested : {B C X Y : Bound} {r t : Bool} → B ≡ X → C ≡ Y → r ≡ le B C → r ≡ t → le X Y ≡ t
+tested e f h k = sym (ap₂ le e f) ∙ sym h ∙ k
+
+-- Two small bounds can be compared.
+pub small-products : {B C : Bound} → Small B → Small C → (B .load * C .speed < 2 ^ 64) × (C .load * B .speed < 2 ^ 64)
+small-products s t = probe-products s (small-lendable t)
+
+pub small-same : {B C : Bound} → B ≡ C → Small C → Small B
+small-same e s = subst Small (sym e) s
+
+-- The code's p + 1 is the processor after p.
+pub next-part : (job : Job) (p a b : ℕ) → partBound job (p + 1) a b ≡ partBound job (suc p) a b
+next-part job p a b = ap (λ (q : ℕ). partBound job q a b) (add-one p)
+
+-- Pointers of all rows make no more moves than 32 bits count.
+moves-limit : maxProcessors * maxTasks < 2 ^ 32
+unfolding maxProcessors maxTasks
+moves-limit = lit< tt
+
+module _ {job : Job} (v : Valid job) where
+  -- Every value of the table is small.
+  pub table-small : (p i : ℕ) → Small (tableValue job p i)
+  unfolding tableValue candidate
+  table-small zero i = part-small v 0 0 i
+  table-small (suc p) i = go (table-small p) (table-attained (valid-proper v) p i)
+    where
+      go : ((j : ℕ) → Small (tableValue job p j)) → (j : ℕ) × (j ≤ i) × (tableValue job (suc p) i ≡ candidate job (tableValue job p) (suc p) i j)
+          → Small (tableValue job (suc p) i)
+      go row (j, l, e) =
+          subst Small (sym e) (greater-cases Small (tableValue job p j) (partBound job (suc p) j i) (row j) (part-small v (suc p) j i))
+
+  -- The moves of the first p rows, and what one row more can add, fit 32 bits.
+  moves-so-far : (p : ℕ) → sumTo (λ q. movesTo job q (tasks job)) p ≤ p * tasks job
+  unfolding sumTo
+  moves-so-far zero = omega arith
+  moves-so-far (suc p) =
+      omega (arith, moves-so-far p, moves-to-crossing (valid-proper v) p (tasks job), crossing-le (valid-proper v) p (tasks job))
+
+  pub moves-fit : (p : ℕ) → p < processors job → sumTo (λ q. movesTo job q (tasks job)) p + tasks job < 2 ^ 32
+  moves-fit p h =
+      let m : suc p * tasks job ≤ maxProcessors * maxTasks = mul-le-mul (omega (arith, v .processors-limit)) (v .tasks-limit) in
+      omega (arith, moves-so-far p, moves-limit)
+
+module _ (job : Job) (p i : ℕ) where
+  -- The test by which the pointer stops at k.
+  abbrev stops : ℕ → Bool
+  stops k = le (partBound job (suc p) k i) (tableValue job p k)
+
+  crossing-is : Smallest stops 0 i (crossing job p i)
+  unfolding crossing crossingOf
+  crossing-is = smallest-is stops 0 i
+
+  -- It holds at the crossing,
+  crossing-stops : stops (crossing job p i) ≡ true
+  crossing-stops =
+      elim (crossing-is .found) [ inl e ↦ subst (λ (k : ℕ). stops k ≡ true) (let z : i ≡ crossing job p i = omega arith in z) (le-true (part-empty job (suc p) i (tableValue job p i))) | inr e ↦ e ]
+
+  -- so a pointer at or before the crossing that stops is there,
+  pub crossing-here : (k : ℕ) → k ≤ crossing job p i → stops k ≡ true → k ≡ crossing job p i
+  crossing-here k h e = elim (decLe (crossing job p i) k) [ yes m ↦ omega arith | no m ↦ before (crossing-is .before k (omega arith) (omega arith)) ]
+    where
+      before : stops k ≡ false → k ≡ crossing job p i
+      before f = let z : _≡_ {A = ℕ} 0 1 = cc in absurd (let w : ⊥ = omega arith in w)
+
+  -- and one that does not has a move to make.
+  pub crossing-past : (k : ℕ) → k ≤ crossing job p i → stops k ≡ false → suc k ≤ crossing job p i
+  crossing-past k h e = elim (decLe (suc k) (crossing job p i)) [ yes m ↦ m | no m ↦ same (let z : crossing job p i ≡ k = omega arith in z) ]
+    where
+      same : crossing job p i ≡ k → suc k ≤ crossing job p i
+      same x =
+          let f : stops k ≡ true = subst (λ (n : ℕ). stops n ≡ true) x crossing-stops in
+          let z : _≡_ {A = ℕ} 0 1 = cc in
+          absurd (let w : ⊥ = omega arith in w)
+
+  -- The value of the next row: at the crossing the row before is the greater, before it the part is.
+  pub value-first : crossing job p i ≡ 0 → tableValue job p 0 ≡ tableValue job (suc p) i
+  unfolding tableValue crossing lesserAt candidate
+  value-first e =
+      sym (ap (lesserAt (candidate job (tableValue job p) (suc p) i)) e ∙ greater-first (tableValue job p 0) (partBound job (suc p) 0 i) (subst (λ (k : ℕ). stops k ≡ true) e crossing-stops))
+
+  value-later : (c : ℕ) → crossing job p i ≡ suc c
+      → tableValue job (suc p) i ≡ lesser (tableValue job p (suc c)) (partBound job (suc p) c i)
+  unfolding tableValue crossing lesserAt candidate
+  value-later c e =
+      ap (lesserAt (candidate job (tableValue job p) (suc p) i)) e
+      ∙ ap₂ lesser
+      (greater-first (tableValue job p (suc c)) (partBound job (suc p) (suc c) i) (subst (λ (k : ℕ). stops k ≡ true) e crossing-stops))
+      (greater-second (tableValue job p c) (partBound job (suc p) c i) (crossing-is .before c (omega arith) (omega arith)))
+
+  value-here : (at : ℕ) → at ≡ crossing job p i → (at ≡ 0 → ⊥)
+      → tableValue job (suc p) i ≡ lesser (tableValue job p at) (partBound job (suc p) (at - 1) i)
+  value-here at e n =
+      let s : suc (at - 1) ≡ at = omega arith in
+      value-later (at - 1) (sym e ∙ sym s) ∙ ap (λ (k : ℕ). lesser (tableValue job p k) (partBound job (suc p) (at - 1) i)) s
+
+  pub value-at-crossing : (at : ℕ) → at ≡ crossing job p i → (at ≡ 0 → ⊥)
+      → le (tableValue job p at) (partBound job (suc p) (at - 1) i) ≡ true → tableValue job p at ≡ tableValue job (suc p) i
+  value-at-crossing at e n t =
+      sym (value-here at e n ∙ lesser-first (tableValue job p at) (partBound job (suc p) (at - 1) i) t)
+
+  pub value-before-crossing : (at : ℕ) → at ≡ crossing job p i → (at ≡ 0 → ⊥)
+      → le (tableValue job p at) (partBound job (suc p) (at - 1) i) ≡ false → partBound job (suc p) (at - 1) i ≡ tableValue job (suc p) i
+  value-before-crossing at e n t =
+      sym (value-here at e n ∙ lesser-second (tableValue job p at) (partBound job (suc p) (at - 1) i) t)

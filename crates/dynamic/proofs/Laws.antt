@@ -1,0 +1,195 @@
+-- What the loops of the table keep: each invariant at the start, after a turn and at the end.
+-- Assumes nothing.
+use Prim.Native.Nat.{ℕ, zero, suc, _+_, _-_, _*_, _^_, _≤_, _<_}
+use mathlib.Core.Path.{_≡_, refl, sym, ap, subst, _∙_}
+use mathlib.Core.Bool.{Bool, true, false}
+use mathlib.Core.List.{List}
+use native.Mathlib.Omega.{arith}
+use native.Mathlib.Numerals.{add-one}
+use lib.ListN.{length, getD, take, drop}
+use Rattle.bound.specs.declared.Bound.{Bound}
+use Rattle.bound.specs.Order.{le, lesser}
+use Rattle.chain.specs.Lists.{sumTo}
+use Rattle.chain.specs.Job.{Job, Valid, tasks, processors, last, partBound}
+use Rattle.chain.specs.Dynamic.{tableValue, crossing, movesTo, moves}
+use Rattle.chain.proofs.Parts.{Proper, valid-proper}
+use Rattle.chain.proofs.Table.{crossing-le, crossing-grows, moves-to-crossing}
+use Rattle.parts.specs.Prefix.{Ready}
+use Rattle.dynamic.specs.Rows.{entryAt, stored, RowAt, Kept, RowReady, Places, Advanced, Filled, FirstRow, Tabled}
+use Rattle.dynamic.proofs.Crossing.{crossing-here, crossing-past}
+use Rattle.dynamic.proofs.Scratch.{kept-refl, kept-trans, kept-wider, kept-stored, kept-take, kept-drop, kept-ready, row-kept, row-none, row-stored, places-swap}
+
+-- The pointer on its way to the crossing of i.
+pub record Moving (job : Job) (p i from count at counted : ℕ) : Type 0 where
+  pub to : at ≤ crossing job p i
+  pub carried : counted + from ≡ count + at
+
+pub moving-start : {job : Job} {p i from count : ℕ} → from ≤ crossing job p i → Moving job p i from count from count
+moving-start h = record { to = h; carried = omega arith }
+
+-- One move, and one more counted.
+pub moving-turn : {job : Job} {p i from count at counted : ℕ} → Moving job p i from count at counted
+    → le (partBound job (suc p) at i) (tableValue job p at) ≡ false → Moving job p i from count (at + 1) (counted + 1)
+moving-turn {job} {p} {i} {from} {count} {at} {counted} w e =
+    record { to = omega (arith, crossing-past job p i at (w .to) e); carried = omega (arith, w .carried) }
+
+pub moving-stop : {job : Job} {p i from count at counted : ℕ} → Moving job p i from count at counted
+    → le (partBound job (suc p) at i) (tableValue job p at) ≡ true → Advanced job p i from count at counted
+moving-stop {job} {p} {i} {from} {count} {at} w e = record { arrived = crossing-here job p i at (w .to) e; carried = w .carried }
+
+pub moving-end : {job : Job} {p i from count at counted : ℕ} → Valid job → Moving job p i from count at counted → i ≤ at
+    → Advanced job p i from count at counted
+moving-end {job} {p} {i} v w h = record { arrived = omega (arith, w .to, crossing-le (valid-proper v) p i); carried = w .carried }
+
+-- A row that is being written from o on, with i entries so far.
+pub record Writing (job : Job) (xs ys : List ℕ) (o q i : ℕ) : Type 0 where
+  pub to : i ≤ suc (tasks job)
+  pub row : RowAt job ys o q i
+  pub kept : Kept o (2 * suc (tasks job)) xs ys
+
+pub writing-start : (job : Job) (xs : List ℕ) (o q : ℕ) → Writing job xs xs o q 0
+writing-start job xs o q =
+    record { to = omega arith; row = row-none job xs o q; kept = kept-refl o (2 * suc (tasks job)) xs }
+
+pub writing-turn : {job : Job} {xs ys zs : List ℕ} {o q i : ℕ} {B : Bound} → Writing job xs ys o q i → o + 2 * suc (tasks job) ≤ length xs
+    → i ≤ tasks job → zs ≡ stored ys o i B → B ≡ tableValue job q i → Writing job xs zs o q (i + 1)
+writing-turn {job} {xs} {ys} {zs} {o} {q} {i} {B} w h l f e =
+    subst (λ (l : List ℕ). Writing job xs l o q (i + 1)) (sym f)
+    (record {
+      to = omega arith;
+      row =
+          subst (RowAt job (stored ys o i B) o q) (sym (add-one i)) (row-stored B (w .row) (omega (arith, w .kept .same)) e);
+      kept = kept-stored i B (omega arith) (w .kept);
+    })
+
+pub writing-row : {job : Job} {xs ys : List ℕ} {o q i : ℕ} → Writing job xs ys o q i → tasks job < i → RowAt job ys o q (suc (tasks job))
+writing-row {job} {xs} {ys} {o} {q} {i} w h =
+    subst (RowAt job ys o q) (let e : i ≡ suc (tasks job) = omega (arith, w .to) in e) (w .row)
+
+-- While the next row is written, what it is made from stays.
+pub writing-ready : {job : Job} {xs ys : List ℕ} {a o p q i : ℕ} → RowReady job xs a p → Places (suc (tasks job)) a o (length xs)
+    → Writing job xs ys o q i → RowReady job ys a p
+writing-ready r l w =
+    record {
+      ready = kept-ready (w .kept) (omega (arith, l .b-low)) (r .ready);
+      row = row-kept (w .kept) (l .apart) (r .row);
+      inside = omega (arith, r .inside, w .kept .same);
+      next = r .next;
+    }
+
+-- Where the pointer stands when i entries of a row are written.
+unfoldable pub passed : Job → ℕ → ℕ → ℕ
+passed job p zero = 0
+passed job p (suc i) = crossing job p i
+
+pub passed-le : {job : Job} → Valid job → (p i : ℕ) → passed job p i ≤ crossing job p i
+unfolding passed
+passed-le v p zero = omega arith
+passed-le v p (suc i) = crossing-grows (valid-proper v) p i (suc i) (omega arith)
+
+-- The row after row p is being filled, by a pointer that started at 0.
+pub record Filling (job : Job) (xs ys : List ℕ) (o p count i at counted : ℕ) : Type 0 where
+  pub writing : Writing job xs ys o (suc p) i
+  pub pointer : at ≡ passed job p i
+  pub carried : counted ≡ count + at
+
+pub filling-start : {job : Job} (xs : List ℕ) (o p : ℕ) {count at : ℕ} → at ≡ 0 → Filling job xs xs o p count 0 at count
+unfolding passed
+filling-start {job} xs o p e =
+    record { writing = writing-start job xs o (suc p); pointer = e; carried = omega arith }
+
+pub filling-turn : {job : Job} {xs ys zs : List ℕ} {o p count i at counted at′ counted′ : ℕ} {B : Bound}
+    → Filling job xs ys o p count i at counted → o + 2 * suc (tasks job) ≤ length xs → i ≤ tasks job
+    → Advanced job p i at counted at′ counted′ → zs ≡ stored ys o i B → B ≡ tableValue job (suc p) i
+    → Filling job xs zs o p count (i + 1) at′ counted′
+unfolding passed
+filling-turn {job} {xs} {ys} {zs} {o} {p} {count} {i} {at} {counted} {at′} w h l a f e =
+    record {
+      writing = writing-turn (w .writing) h l f e;
+      pointer = a .arrived ∙ sym (ap (passed job p) (add-one i));
+      carried = omega (arith, a .carried, w .carried);
+    }
+
+pub filling-end : {job : Job} {xs ys : List ℕ} {o p count i at counted : ℕ} → Valid job → Filling job xs ys o p count i at counted
+    → tasks job < i → Filled job xs ys o p count counted
+unfolding passed
+filling-end {job} {xs} {ys} {o} {p} {count} {i} {at} v w h =
+    record {
+      row = writing-row (w .writing) h;
+      kept = w .writing .kept;
+      carried = omega (arith, w .carried, there, moves-to-crossing (valid-proper v) p (tasks job));
+    }
+  where
+    there : at ≡ crossing job p (tasks job)
+    there = w .pointer ∙ ap (passed job p) (let e : i ≡ suc (tasks job) = omega (arith, w .writing .to) in e)
+
+-- Row p stands whole, from row on; the next is to be written from other on.
+pub record Tabling (job : Job) (xs ys : List ℕ) (row other p counted : ℕ) : Type 0 where
+  pub ready : Ready job ys
+  pub current : RowAt job ys row p (suc (tasks job))
+  pub places : Places (suc (tasks job)) row other (length ys)
+  pub below : p < processors job
+  pub kept : Kept (suc (tasks job)) (4 * suc (tasks job)) xs ys
+  pub carried : counted ≡ sumTo (λ q. movesTo job q (tasks job)) p
+
+pub tabling-start : {job : Job} {xs ys : List ℕ} {row other : ℕ} → Ready job xs → Places (suc (tasks job)) row other (length xs)
+    → FirstRow job xs ys row → Tabling job ys ys row other 0 0
+unfolding sumTo
+tabling-start {job} {xs} {ys} {row} {other} r l f =
+    record {
+      ready = kept-ready (f .kept) (l .a-low) r;
+      current = f .row;
+      places = subst (Places (suc (tasks job)) row other) (sym (f .kept .same)) l;
+      below = r .valid .some-processor;
+      kept = kept-refl (suc (tasks job)) (4 * suc (tasks job)) ys;
+      carried = refl;
+    }
+
+-- What the next row is made from.
+pub tabling-row : {job : Job} {xs ys : List ℕ} {row other p counted : ℕ} → Tabling job xs ys row other p counted → p + 1 < processors job
+    → RowReady job ys row p
+tabling-row w h =
+    record {
+      ready = w .ready;
+      row = w .current;
+      inside = omega (arith, w .places .a-high, w .places .enough);
+      next = omega arith;
+    }
+
+pub tabling-turn : {job : Job} {xs ys zs : List ℕ} {row other p count counted : ℕ} → Tabling job xs ys row other p count
+    → p + 1 < processors job → Filled job ys zs other p count counted → Tabling job xs zs other row (p + 1) counted
+unfolding sumTo
+tabling-turn {job} {xs} {ys} {zs} {row} {other} {p} {count} {counted} w h f =
+    record {
+      ready = kept-ready (f .kept) (w .places .b-low) (w .ready);
+      current = subst (λ (q : ℕ). RowAt job zs other q (suc (tasks job))) (sym (add-one p)) (f .row);
+      places = subst (Places (suc (tasks job)) other row) (sym (f .kept .same)) (places-swap (w .places));
+      below = h;
+      kept =
+          kept-trans (w .kept)
+          (kept-wider (suc (tasks job)) (4 * suc (tasks job)) (w .places .b-low) (omega (arith, w .places .b-high)) (f .kept));
+      carried =
+          f .carried ∙ ap (λ (n : ℕ). n + movesTo job p (tasks job)) (w .carried) ∙ sym (ap (sumTo (λ q. movesTo job q (tasks job))) (add-one p));
+    }
+
+pub tabling-end : {job : Job} {xs ys zs : List ℕ} {first row other p counted : ℕ} {B : Bound} → Tabling job ys zs row other p counted
+    → processors job ≤ p + 1 → FirstRow job xs ys first → suc (tasks job) ≡ first → B ≡ entryAt zs row (tasks job)
+    → Tabled job xs zs B counted
+unfolding moves
+tabling-end {job} {xs} {ys} {zs} {first} {row} {other} {p} {counted} {B} w h f g e =
+    record {
+      value = e ∙ w .current .entries n (omega arith) ∙ ap (λ (q : ℕ). tableValue job q n) at-last;
+      counted = w .carried ∙ ap (sumTo (λ q. movesTo job q n)) at-last;
+      sums = kept-take (suc n) all-kept (omega arith);
+      rest = kept-drop (5 * suc n) all-kept (omega arith);
+      same = all-kept .same;
+    }
+  where
+    n : ℕ
+    n = tasks job
+
+    at-last : p ≡ last job
+    at-last = omega (arith, w .below)
+
+    all-kept : Kept (suc n) (4 * suc n) xs zs
+    all-kept = kept-trans (kept-wider (suc n) (4 * suc n) (omega arith) (omega arith) (f .kept)) (w .kept)

@@ -1,0 +1,96 @@
+-- `fill_row` meets its contract: the loop keeps `Filling`.
+-- Assumes nothing.
+use Prim.Native.Nat.{ℕ, suc, _+_, _-_, _*_, _≤_}
+use mathlib.Core.Path.{_≡_, sym, subst, _∙_}
+use native.Mathlib.Omega.{arith}
+use lib.ListN.{length}
+use Rattle.chain.specs.Job.{Job, jobOf}
+use Rattle.chain.specs.Dynamic.{crossing}
+use Rattle.chain.proofs.Ranges.{small-fits}
+use Rattle.chain.proofs.Parts.{valid-proper}
+use Rattle.chain.proofs.Table.{crossing-le}
+use Rattle.dynamic.specs.Rows.{RowReady}
+use Rattle.dynamic.proofs.Crossing.{table-small, small-same}
+use Rattle.dynamic.proofs.Laws.{Filling, filling-start, filling-turn, filling-end, writing-ready, passed-le}
+use Rattle.dynamic.proofs.fill_row.Statement.{statement}
+use Rattle.dynamic.proofs.fill_row.Tie as tie
+use Rattle.dynamic.proofs.fill_row.Reads as reads
+use Rattle.dynamic.proofs.fill_row.Lts as lts
+use Rattle.dynamic.proofs.advance.Reads as advance-reads
+use Rattle.dynamic.proofs.put.Reads as put-reads
+use Rattle.dynamic.proofs.value_at.Reads as value-at-reads
+
+abbrev Inv-loop : tie.InvT-loop
+Inv-loop speeds weights scratch₀ before row p pointer₀ i₀ scratch pointer i =
+    Filling (jobOf weights speeds) scratch₀ scratch row p (pointer₀ .moves) i (pointer .at) (pointer .moves)
+
+abbrev μ-loop : tie.MeasureT-loop
+μ-loop speeds weights scratch₀ before row p pointer₀ i₀ scratch pointer i = suc (length weights) - i
+
+loop-holds : tie.Need-loop-holds Inv-loop μ-loop
+loop-holds c =
+    let s = c .before .before .before in
+    filling-start (s .args .scratch .now) (s .args .row) (s .args .p) (s .pre .1 .1 .0)
+
+-- What each turn starts from.
+module _ (c : tie.At-loop Inv-loop μ-loop) where
+  abbrev start : tie.Start Inv-loop μ-loop
+  start = c .before .before .before .before
+
+  abbrev job : Job
+  job = jobOf (start .args .weights .now) (start .args .speeds .now)
+
+  still-ready : RowReady job (c .loop .scratch) (start .args .before) (start .args .p)
+  still-ready = writing-ready (start .pre .0) (start .pre .1 .0) (c .loop .inv .writing)
+
+  pointer-le : c .loop .pointer .at ≤ crossing job (start .args .p) (c .loop .i)
+  pointer-le = omega (arith, c .loop .inv .pointer, passed-le (start .pre .0 .ready .valid) (start .args .p) (c .loop .i))
+
+advance-requires : tie.Need-advance-requires Inv-loop μ-loop
+advance-requires c κs =
+    let l = c .before .before in
+    let s = start l in
+    (still-ready l, (omega arith, pointer-le l, omega (arith, l .loop .inv .carried, s .pre .1 .1 .1)))
+
+value-at-requires : tie.Need-value-at-requires Inv-loop μ-loop
+value-at-requires c κs = (still-ready (c .before .before .before .before), (omega arith, c .before .advance .ensures .arrived))
+
+put-requires : tie.Need-put-requires Inv-loop μ-loop
+put-requires c κs =
+    let l = c .before .before .before .before .before .before in
+    let s = start l in
+    (omega (arith, l .loop .inv .writing .kept .same, s .pre .1 .0 .b-high, s .pre .1 .0 .enough), small-fits (small-same (c .before .value-at .ensures) (table-small (s .pre .0 .ready .valid) (suc (s .args .p)) (l .loop .i))))
+
+add-i : tie.Need-add-i Inv-loop μ-loop
+add-i c = omega arith
+
+loop-less : tie.Need-loop-less Inv-loop μ-loop
+loop-less c = omega arith
+
+loop-again : tie.Need-loop-again Inv-loop μ-loop
+loop-again c =
+    let l = c .before .before .before .before .before .before .before .before .before in
+    let s = start l in
+    filling-turn (l .loop .inv) (omega (arith, s .pre .1 .0 .b-high, s .pre .1 .0 .enough)) (omega (arith, c .before .before .before .before .before .before .before .before .loop-test .taken)) (c .before .before .before .before .before .before .advance .ensures) (c .before .before .put .ensures) (c .before .before .before .before .value-at .ensures)
+
+same-length : tie.Need-same-length Inv-loop μ-loop
+same-length c = c .before .loop .inv .writing .kept .same
+
+returns : tie.Need-returns Inv-loop μ-loop
+returns c = filling-end (c .before .before .before .before .before .pre .0 .ready .valid) (c .before .loop .inv) (omega arith)
+
+pub fill-row-spec : {M : Type 1} → statement M
+fill-row-spec =
+    tie.close
+    (tie.spec
+    Inv-loop
+    μ-loop
+    loop-holds
+    advance-requires
+    value-at-requires
+    put-requires
+    add-i
+    loop-less
+    loop-again
+    same-length
+    returns)

@@ -1,0 +1,169 @@
+// The table (dynamic programming): document 01, "The three methods", 1. All functions here are inner: their callers have
+// tested the job. The scratch list holds the N + 1 prefix sums, and behind them two rows of N + 1 pairs, load and speed.
+ghost use Prim.Native.Nat.{ℕ, suc, _+_, _*_, _≤_, _<_, _^_};
+ghost use mathlib.Core.Path.{_≡_};
+ghost use lib.ListN.{length};
+ghost use Rattle.chain.specs.Job.{jobOf};
+ghost use Rattle.chain.specs.Dynamic.{tableValue, crossing};
+ghost use Rattle.parts.specs.Prefix.{Ready};
+ghost use Rattle.dynamic.specs.Rows.{entryAt, stored, RowReady, Places, Advanced, Filled, FirstRow, Tabled};
+use bound::Bound;
+use parts::part_bound;
+use parts::wide;
+
+// The least bottleneck, and the pointer's moves.
+pub struct Found {
+    pub bound: Bound,
+    pub count: u32,
+}
+
+// The pointer of a row, and the moves that pointers have made so far.
+pub struct Pointer {
+    pub at: usize,
+    pub moves: u32,
+}
+
+// Inner. Entry i of the row that begins at `row`.
+fn entry(scratch: &[u32], row: usize, i: usize) -> Bound
+    requires { ⌜ row + 2 * i + 1 < length (now scratch) ⌝ }
+    ensures { λ r. ⌜ r ≡ entryAt (now (scratch .entry)) row i ⌝ }
+{
+    let at = row + 2 * i;
+    Bound {
+        load: wide(scratch[at]),
+        speed: wide(scratch[at + 1]),
+    }
+}
+
+// Inner. Stores entry i of the row that begins at `row`.
+fn put(scratch: &mut [u32], row: usize, i: usize, value: Bound)
+    requires { ⌜ row + 2 * i + 1 < length (now scratch) ⌝ }
+    requires { ⌜ (value .load < 2 ^ 32) × (value .speed < 2 ^ 32) ⌝ }
+    ensures { λ r. ⌜ now (scratch .exit) ≡ stored (now (scratch .entry)) row i value ⌝ }
+{
+    let at = row + 2 * i;
+    scratch[at] = value.load as u32;
+    scratch[at + 1] = value.speed as u32;
+}
+
+// Inner. The pointer moves on to the crossing of i in the row after row p, which begins at `before`.
+fn advance(
+    speeds: &[u32],
+    weights: &[u32],
+    scratch: &[u32],
+    before: usize,
+    p: usize,
+    i: usize,
+    start: Pointer,
+) -> Pointer
+    requires { ⌜ RowReady (jobOf (now weights) (now speeds)) (now scratch) before p ⌝ }
+    requires { ⌜ (i ≤ length (now weights)) × (start .at ≤ crossing (jobOf (now weights) (now speeds)) p i) × (start .moves + i < 2 ^ 32 + start .at) ⌝ }
+    ensures { λ r. ⌜ Advanced (jobOf (now (weights .entry)) (now (speeds .entry))) p i (start .at) (start .moves) (r .at) (r .moves) ⌝ }
+{
+    let next = p + 1;
+    let mut at = start.at;
+    let mut moves = start.moves;
+    while at < i {
+        let part = part_bound(speeds, weights, scratch, next, at, i);
+        if Bound::at_most(part, entry(scratch, before, at)) {
+            return Pointer { at, moves };
+        }
+        at += 1;
+        moves += 1;
+    }
+    Pointer { at, moves }
+}
+
+// Inner. The value at i in the row after row p. At the crossing the row before is the greater of the two, before the crossing
+// the part is.
+fn value_at(
+    speeds: &[u32],
+    weights: &[u32],
+    scratch: &[u32],
+    before: usize,
+    p: usize,
+    i: usize,
+    at: usize,
+) -> Bound
+    requires { ⌜ RowReady (jobOf (now weights) (now speeds)) (now scratch) before p ⌝ }
+    requires { ⌜ (i ≤ length (now weights)) × (at ≡ crossing (jobOf (now weights) (now speeds)) p i) ⌝ }
+    ensures { λ r. ⌜ r ≡ tableValue (jobOf (now (weights .entry)) (now (speeds .entry))) (suc p) i ⌝ }
+{
+    let here = entry(scratch, before, at);
+    if at == 0 {
+        return here;
+    }
+    let part = part_bound(speeds, weights, scratch, p + 1, at - 1, i);
+    if Bound::at_most(here, part) {
+        return here;
+    }
+    part
+}
+
+// Inner. Fills the row after row p; the pointer starts at 0.
+fn fill_row(
+    speeds: &[u32],
+    weights: &[u32],
+    scratch: &mut [u32],
+    before: usize,
+    row: usize,
+    p: usize,
+    start: Pointer,
+) -> Pointer
+    requires { ⌜ RowReady (jobOf (now weights) (now speeds)) (now scratch) before p ⌝ }
+    requires { ⌜ Places (suc (length (now weights))) before row (length (now scratch)) ⌝ }
+    requires { ⌜ (start .at ≡ 0) × (start .moves + length (now weights) < 2 ^ 32) ⌝ }
+    ensures { λ r. ⌜ Filled (jobOf (now (weights .entry)) (now (speeds .entry))) (now (scratch .entry)) (now (scratch .exit)) row p (start .moves) (r .moves) ⌝ }
+{
+    let mut pointer = start;
+    let mut i = 0;
+    while i <= weights.len() {
+        pointer = advance(speeds, weights, scratch, before, p, i, pointer);
+        let at = pointer.at;
+        let value = value_at(speeds, weights, scratch, before, p, i, at);
+        put(scratch, row, i, value);
+        i += 1;
+    }
+    pointer
+}
+
+// Inner. Fills the row of processor 0.
+fn first_row(speeds: &[u32], weights: &[u32], scratch: &mut [u32], row: usize)
+    requires { ⌜ Ready (jobOf (now weights) (now speeds)) (now scratch) ⌝ }
+    requires { ⌜ (suc (length (now weights)) ≤ row) × (row + 2 * suc (length (now weights)) ≤ length (now scratch)) ⌝ }
+    ensures { λ r. ⌜ FirstRow (jobOf (now (weights .entry)) (now (speeds .entry))) (now (scratch .entry)) (now (scratch .exit)) row ⌝ }
+{
+    let mut i = 0;
+    while i <= weights.len() {
+        let value = part_bound(speeds, weights, scratch, 0, 0, i);
+        put(scratch, row, i, value);
+        i += 1;
+    }
+}
+
+// Inner. The value of the last processor at the last task, and the moves made. The scratch list begins with the prefix sums;
+// the two rows behind them are free for use.
+pub fn table_in(speeds: &[u32], weights: &[u32], scratch: &mut [u32]) -> Found
+    requires { ⌜ Ready (jobOf (now weights) (now speeds)) (now scratch) ⌝ }
+    requires { ⌜ 5 * suc (length (now weights)) ≤ length (now scratch) ⌝ }
+    ensures { λ r. ⌜ Tabled (jobOf (now (weights .entry)) (now (speeds .entry))) (now (scratch .entry)) (now (scratch .exit)) (r .bound) (r .count) ⌝ }
+{
+    let n = weights.len() + 1;
+    let mut row = n;
+    let mut other = 3 * n;
+    let mut pointer = Pointer { at: 0, moves: 0 };
+    let mut p = 0;
+    first_row(speeds, weights, scratch, row);
+    while p + 1 < speeds.len() {
+        pointer.at = 0;
+        pointer = fill_row(speeds, weights, scratch, row, other, p, pointer);
+        let done = row;
+        row = other;
+        other = done;
+        p += 1;
+    }
+    Found {
+        bound: entry(scratch, row, weights.len()),
+        count: pointer.moves,
+    }
+}

@@ -1,0 +1,253 @@
+-- What the loops keep: the sum of the speeds, the search's index, the heuristic's separators and the bottleneck so far.
+-- Assumes nothing.
+use Prim.Native.Nat.{ℕ, zero, suc, _+_, _-_, _*_, _/_, _≤_, _<_, _^_}
+use mathlib.Core.Path.{_≡_, refl, sym, ap, ap₂, subst, _∙_}
+use mathlib.Core.Bool.{Bool, true, false}
+use mathlib.Core.List.{List, [], _∷_, _++_, append-nil}
+use mathlib.Core.Logic.{_⊎_, inl, inr}
+use native.Mathlib.Omega.{arith}
+use native.Mathlib.Decide.{decLe}
+use native.Mathlib.Numerals.{add-one}
+use native.Mathlib.Nat.{lt-of-le-of-lt, le-trans, div-le-of-le-mul}
+use lib.Dec.{leb, ltb, lit<}
+use lib.ListN.{length, getD, set, take, drop, length-append, length-set, length-take}
+use lib.Seq.{getD-set-same, drop-set-lt, getD-take, ext-getD, length-take-le}
+use borrow.Author.Tests.{le-leb, lt-leb, ltb-true, ltb-false}
+use Rattle.bound.specs.declared.Bound.{Bound}
+use Rattle.bound.specs.Order.{greater}
+use Rattle.chain.specs.Limits.{maxTasks}
+use Rattle.chain.specs.Lists.{tabulate, sumTo, smallestFrom, distance}
+use Rattle.chain.specs.Job.{Job, Valid, tasks, processors, last, speedOf, partWeight, totalWeight, totalSpeed, partBound, at, Partition, boundAt, bottleneckTo, bottleneck}
+use Rattle.chain.specs.Heuristic.{nearest, heuristic}
+use Rattle.chain.proofs.Parts.{Proper, valid-proper, weight-all}
+use Rattle.chain.proofs.Indices.{Smallest, length-tabulate, at-tabulate}
+use Rattle.chain.proofs.Bottleneck.{processors-last}
+use Rattle.chain.proofs.Ideal.{total-speed-is}
+use Rattle.chain.proofs.Heuristic.{nearest-le, nearest-first, nearest-grows, heuristic-at, heuristic-end, heuristic-partition}
+use Rattle.chain.proofs.Ranges.{speeds-to-limit, total-speed-fits, total-weight-limit, loads-fit, heuristic-products}
+use Rattle.parts.specs.Prefix.{Prefix, Ready}
+use Rattle.parts.proofs.Front.{Front, front-start, front-store, front-end}
+use Rattle.parts.proofs.Laws.{speed-read}
+use Rattle.heuristic.specs.Target.{firstAtLeast, off, nearestTo, Target, Behind, FirstPast}
+use Rattle.heuristic.proofs.Nearest.{smallest-unique, first-past-is, nearest-high, targetOf, nearest-to-target, target-grows, target-most, behind-first, behind-more}
+
+-- An index of a job fits 32 bits.
+tasks-fit : maxTasks < 2 ^ 32
+unfolding maxTasks
+tasks-fit = lit< tt
+
+pub index-fits : {job : Job} → Valid job → (i : ℕ) → i ≤ tasks job → i < 2 ^ 32
+index-fits v i h = lt-of-le-of-lt (le-trans h (v .tasks-limit)) tasks-fit
+
+-- The sum of the speeds of the first p processors.
+pub record SpeedTo (job : Job) (p total : ℕ) : Type 0 where
+  pub to : p ≤ processors job
+  pub total-is : total ≡ sumTo (speedOf job) p
+
+pub speed-start : {job : Job} → SpeedTo job 0 0
+unfolding sumTo
+speed-start = record { to = omega arith; total-is = refl }
+
+-- A turn adds the speed of processor p.
+pub speed-fits : {job : Job} {p total e : ℕ} → Valid job → SpeedTo job p total → p < processors job → e ≡ getD (job .speeds) p 0 → total + e < 2 ^ 64
+unfolding sumTo
+speed-fits {job} {p} v w h x =
+    omega (arith, w .total-is, speed-read job p h, speeds-to-limit v (suc p) h, total-speed-fits)
+
+pub speed-turn : {job : Job} {p total e : ℕ} → SpeedTo job p total → p < processors job → e ≡ getD (job .speeds) p 0 → SpeedTo job (p + 1) (total + e)
+unfolding sumTo
+speed-turn {job} {p} {total} {e} w h x =
+    subst (λ (k : ℕ). SpeedTo job k (total + e)) (sym (add-one p))
+    (record { to = h; total-is = ap₂ _+_ (w .total-is) (x ∙ speed-read job p h) })
+
+pub speed-end : {job : Job} {p total : ℕ} → SpeedTo job p total → processors job ≤ p → total ≡ totalSpeed job
+speed-end {job} {p} w h =
+    w .total-is ∙ ap (sumTo (speedOf job)) (let e : p ≡ processors job = omega (arith, w .to) in e) ∙ sym (total-speed-is job)
+
+-- The search: every entry from a to i is less than the limit.
+pub record Passed (xs : List ℕ) (a b limit i : ℕ) : Type 0 where
+  pub from : a ≤ i
+  pub to : i ≤ b
+  pub less : (k : ℕ) → a ≤ k → k < i → at xs k < limit
+
+pub passed-start : {xs : List ℕ} {a b limit : ℕ} → a ≤ b → Passed xs a b limit a
+passed-start h = record { from = omega arith; to = h; less = λ k l m. absurd (let z : ⊥ = omega arith in z) }
+
+pub passed-turn : {xs : List ℕ} {a b limit i : ℕ} → Passed xs a b limit i → i < b → at xs i < limit → Passed xs a b limit (i + 1)
+passed-turn {xs} {a} {b} {limit} {i} w h e =
+    record {
+      from = omega (arith, w .from);
+      to = omega arith;
+      less = λ k l m.
+          elim (decLe (suc k) i) [
+            | yes j ↦ w .less k l j
+            | no j ↦ subst (λ (n : ℕ). at xs n < limit) (let z : i ≡ k = omega arith in z) e
+          ];
+    }
+
+-- It ends at b, or at an entry that is at least the limit.
+pub passed-end : {xs : List ℕ} {a b limit i : ℕ} → Passed xs a b limit i → ((i ≡ b) ⊎ (limit ≤ at xs i)) → i ≡ firstAtLeast xs a b limit
+unfolding firstAtLeast
+passed-end {xs} {a} {b} {limit} {i} w f =
+    smallest-unique
+    (record {
+      from = w .from;
+      to = omega (arith, w .from, w .to);
+      found = elim f [ inl e ↦ inl (omega (arith, w .from, w .to)) | inr e ↦ inr (le-leb limit (at xs i) e) ];
+      before = λ k l m. lt-leb limit (at xs k) (w .less k l m);
+    })
+
+-- The limit of the search for the first index past a target fits, and that index is what the search finds.
+pub limit-fits : {job : Job} {total target : ℕ} → Valid job → Target job total target → target / total + 1 < 2 ^ 64
+limit-fits {job} {total} {target} v t = rw (t .speed) (omega (arith, quotient, total-weight-limit v, loads-fit))
+  where
+    quotient : target / totalSpeed job ≤ totalWeight job
+    quotient = div-le-of-le-mul (totalSpeed job) (omega (arith, t .most))
+
+pub first-past-of : {job : Job} {xs : List ℕ} {i total target r : ℕ} → Ready job xs → Target job total target → Behind job target i
+    → r ≡ firstAtLeast xs i (tasks job + 1) (target / total + 1) → FirstPast job target r
+first-past-of {job} {xs} {i} {total} {target} ready t b e =
+    subst (λ (n : ℕ). FirstPast job target n)
+    (sym (e ∙ ap₂ (λ (n m : ℕ). firstAtLeast xs i n (target / m + 1)) (add-one (tasks job)) (t .speed))) (first-past-is ready b)
+
+-- The choice between the first index g past a target and the one before it, whose prefix sums are high and low.
+module _ {job : Job} {xs : List ℕ} {g total target : ℕ} (ready : Ready job xs) (t : Target job total target) (f : FirstPast job target g) where
+  low-is : {low : ℕ} → low ≡ at xs (g - 1) → low * total ≡ partWeight job 0 (g - 1) * totalSpeed job
+  low-is e = ap₂ _*_ (e ∙ ready .prefix .sums (g - 1) (omega (arith, f .behind .to))) (t .speed)
+
+  high-is : {high : ℕ} → g ≤ tasks job → high ≡ at xs g → high * total ≡ partWeight job 0 g * totalSpeed job
+  high-is h e = ap₂ _*_ (e ∙ ready .prefix .sums g h) (t .speed)
+
+  pub choice-products : {low high : ℕ} → g ≤ tasks job → low ≡ at xs (g - 1) → high ≡ at xs g
+      → (low * total ≤ target) × (target ≤ high * total) × (high * total < 2 ^ 64)
+  choice-products {low} {high} h x y = (
+    omega (arith, low-is x, f .behind .before (g - 1) (omega (arith, f .behind .from))),
+    omega (arith, high-is h y, f .past h),
+    subst (λ (n : ℕ). n < 2 ^ 64) (sym (high-is h y)) (heuristic-products (ready .valid) g 0 (omega arith) .0),
+  )
+
+  pub choice-high : {low high : ℕ} → g ≤ tasks job → low ≡ at xs (g - 1) → high ≡ at xs g
+      → ltb (distance (high * total) target) (distance (low * total) target) ≡ true → g ≡ nearestTo job target
+  choice-high {low} {high} h x y e =
+      nearest-high ready f h
+      (subst (λ (n : ℕ). distance n target < off job target (g - 1)) (high-is h y)
+      (subst (λ (n : ℕ). distance (high * total) target < distance n target) (low-is x)
+      (ltb-true (distance (high * total) target) (distance (low * total) target) e)))
+
+  -- What holds where the index before is chosen.
+  pub choice-low : {low high : ℕ} → g ≤ tasks job → low ≡ at xs (g - 1) → high ≡ at xs g
+      → ltb (distance (high * total) target) (distance (low * total) target) ≡ false → off job target (g - 1) ≤ off job target g
+  choice-low {low} {high} h x y e =
+      subst (λ (n : ℕ). off job target (g - 1) ≤ distance n target) (high-is h y)
+      (subst (λ (n : ℕ). distance n target ≤ distance (high * total) target) (low-is x)
+      (ltb-false (distance (high * total) target) (distance (low * total) target) e))
+
+-- The heuristic's separators up to p: the speed so far, the first index not known to be past the target and the nearest index.
+pub record Placed (job : Job) (before now : List ℕ) (total weight p speed past s : ℕ) : Type 0 where
+  pub room : processors job < length before
+  pub total-is : total ≡ totalSpeed job
+  pub weight-is : weight ≡ totalWeight job
+  pub to : p ≤ last job
+  pub speeds : SpeedTo job p speed
+  pub behind : Behind job (targetOf job p) past
+  pub near : s ≡ nearest job p
+  pub front : Front (at (heuristic job)) (suc p) before now
+
+pub placed-start : {job : Job} {sums : List ℕ} (xs : List ℕ) {total weight : ℕ} → Prefix job sums → processors job < length xs → total ≡ totalSpeed job
+    → weight ≡ at sums (tasks job) → Placed job (set xs 0 0) (set xs 0 0) total weight 0 0 1 0
+unfolding heuristic
+placed-start {job} {sums} xs r h x y =
+    record {
+      room = omega (arith, length-set xs 0 0);
+      total-is = x;
+      weight-is = y ∙ r .sums (tasks job) (omega arith) ∙ weight-all job;
+      to = omega arith;
+      speeds = speed-start;
+      behind = behind-first job (targetOf job 0);
+      near = sym (nearest-first job);
+      front = record { same = refl; done = first; rest = λ k l. refl };
+    }
+  where
+    first : (k : ℕ) → k < 1 → getD (set xs 0 0) k 0 ≡ at (heuristic job) k
+    first k l =
+        subst (λ (i : ℕ). getD (set xs 0 0) i 0 ≡ at (heuristic job) i) (let e : 0 ≡ k = omega arith in e)
+        (getD-set-same xs 0 0 0 (omega arith))
+
+-- A turn: the next target, what its callees ask, and what they give.
+module _ {job : Job} {xs ys : List ℕ} {total weight p speed past s e : ℕ} (v : Valid job) (w : Placed job xs ys total weight p speed past s)
+    (h : p < last job) (x : e ≡ getD (job .speeds) p 0)
+  where
+    next : SpeedTo job (p + 1) (speed + e)
+    next = speed-turn (w .speeds) (omega arith) x
+
+    pub placed-aim : weight * (speed + e) ≡ targetOf job (suc p)
+    placed-aim = ap₂ _*_ (w .weight-is) (next .total-is ∙ ap (sumTo (speedOf job)) (add-one p))
+
+    pub placed-fits : weight * (speed + e) < 2 ^ 64
+    placed-fits = subst (λ (n : ℕ). n < 2 ^ 64) (sym placed-aim) (heuristic-products v 0 (suc p) (omega arith) .1)
+
+    pub placed-target : Target job total (weight * (speed + e))
+    placed-target =
+        record { speed = w .total-is; most = subst (λ (n : ℕ). n ≤ totalWeight job * totalSpeed job) (sym placed-aim) (target-most job (suc p) (omega arith)) }
+
+    pub placed-behind : Behind job (weight * (speed + e)) past
+    placed-behind =
+        subst (λ (n : ℕ). Behind job n past) (sym placed-aim) (behind-more job (target-grows job p (suc p) (omega arith)) (w .behind))
+
+    pub placed-near : s ≤ nearestTo job (weight * (speed + e))
+    placed-near =
+        subst (λ (n : ℕ). s ≤ nearestTo job n) (sym placed-aim)
+        (omega (arith, w .near, nearest-grows job p (suc p) (omega arith), nearest-to-target job (suc p)))
+
+    module _ {r q : ℕ} (f : FirstPast job (weight * (speed + e)) r) (y : q ≡ nearestTo job (weight * (speed + e))) where
+      nearest-next : q ≡ nearest job (suc p)
+      nearest-next = y ∙ ap (nearestTo job) placed-aim ∙ sym (nearest-to-target job (suc p))
+
+      pub placed-narrow : q < 2 ^ 32
+      placed-narrow = index-fits v q (omega (arith, nearest-next, nearest-le job (suc p)))
+
+      pub placed-turn : {i : ℕ} → i ≡ q → Placed job xs (set ys (p + 1) i) total weight (p + 1) (speed + e) r q
+      placed-turn {i} z =
+          subst (λ (k : ℕ). SpeedTo job k (speed + e) → Placed job xs (set ys k i) total weight k (speed + e) r q) (sym (add-one p))
+          (λ n.
+          record {
+            room = w .room;
+            total-is = w .total-is;
+            weight-is = w .weight-is;
+            to = h;
+            speeds = n;
+            behind = subst (λ (t : ℕ). Behind job t r) placed-aim (f .behind);
+            near = nearest-next;
+            front = front-store i (w .front) (omega (arith, w .room)) (z ∙ nearest-next ∙ sym (heuristic-at job (suc p) h));
+          }) next
+
+-- The end: N behind the last of them.
+pub placed-end : {job : Job} (xs : List ℕ) {ys : List ℕ} {total weight p speed past s i : ℕ} → Valid job → processors job < length xs
+    → Placed job (set xs 0 0) ys total weight p speed past s → last job ≤ p → i ≡ tasks job
+    → set ys (last job + 1) i ≡ heuristic job ++ drop (suc (processors job)) xs
+placed-end {job} xs {ys} {total} {weight} {p} {speed} {past} {s} {i} v room w h x =
+    front-end whole (omega (arith, length-set xs 0 0))
+    ∙ ap₂ _++_ table (drop-set-lt (suc (processors job)) xs 0 0 (omega arith))
+  where
+    ok : Proper job
+    ok = valid-proper v
+
+    whole : Front (at (heuristic job)) (suc (processors job)) (set xs 0 0) (set ys (last job + 1) i)
+    whole =
+        subst (λ (k : ℕ). Front (at (heuristic job)) (suc (processors job)) (set xs 0 0) (set ys k i))
+        (let e : processors job ≡ last job + 1 = omega (arith, ok .some) in e)
+        (front-store i
+        (subst (λ (k : ℕ). Front (at (heuristic job)) k (set xs 0 0) ys)
+        (let e : suc p ≡ processors job = omega (arith, w .to, ok .some) in e) (w .front)) (w .room) (x ∙ sym (heuristic-end ok)))
+
+    length-is : length (heuristic job) ≡ suc (processors job)
+    length-is = heuristic-partition ok .count
+
+    at-is : (k : ℕ) → k < suc (processors job) → at (tabulate (at (heuristic job)) (suc (processors job))) k ≡ at (heuristic job) k
+    at-is k l = sym (ap (λ (t : List ℕ). at t k) (append-nil (tabulate (at (heuristic job)) (suc (processors job))))) ∙ at-tabulate (at (heuristic job)) (suc (processors job)) [] k l
+
+    table : tabulate (at (heuristic job)) (suc (processors job)) ≡ heuristic job
+    table =
+        ext-getD 0 (tabulate (at (heuristic job)) (suc (processors job))) (heuristic job)
+        (length-tabulate (at (heuristic job)) (suc (processors job)) ∙ sym length-is)
+        (λ k l. at-is k (omega (arith, length-tabulate (at (heuristic job)) (suc (processors job)))))

@@ -1,0 +1,35 @@
+-- What the one pass of the heuristic keeps: a target, the first index past it and the smallest index nearest to it.
+use Prim.Native.Nat.{ℕ, suc, _-_, _*_, _≤_, _<_}
+use mathlib.Core.Path.{_≡_}
+use mathlib.Core.List.{List}
+use lib.Dec.{leb}
+use Rattle.chain.specs.Lists.{smallestFrom, smallestLeast, distance}
+use Rattle.chain.specs.Job.{Job, tasks, partWeight, totalWeight, totalSpeed, at}
+
+-- The smallest index from a to b whose entry is at least the limit, b if there is none.
+unfoldable pub firstAtLeast : List ℕ → ℕ → ℕ → ℕ → ℕ
+firstAtLeast xs a b limit = smallestFrom (λ i. leb limit (at xs i)) a (b - a)
+
+-- How far W(1,i) times Etot is from the target.
+abbrev pub off : Job → ℕ → ℕ → ℕ
+off job target i = distance (partWeight job 0 i * totalSpeed job) target
+
+-- The smallest index whose W(1,i) times Etot is nearest to the target.
+unfoldable pub nearestTo : Job → ℕ → ℕ
+nearestTo job target = smallestLeast (off job target) (tasks job)
+
+-- A target of the heuristic, with all speed beside it: it is at most all weight times all speed.
+pub record Target (job : Job) (total target : ℕ) : Type 0 where
+  pub speed : total ≡ totalSpeed job
+  pub most : target ≤ totalWeight job * totalSpeed job
+
+-- No index before i, from 1 to N + 1, is past the target.
+pub record Behind (job : Job) (target i : ℕ) : Type 0 where
+  pub from : 1 ≤ i
+  pub to : i ≤ suc (tasks job)
+  pub before : (k : ℕ) → k < i → partWeight job 0 k * totalSpeed job ≤ target
+
+-- i is the first index past the target, N + 1 if there is none.
+pub record FirstPast (job : Job) (target i : ℕ) : Type 0 where
+  pub behind : Behind job target i
+  pub past : i ≤ tasks job → target < partWeight job 0 i * totalSpeed job

@@ -1,0 +1,174 @@
+// The heuristic of Miguet and Pierson (document 01's quick plan) over prefix sums, and the bottleneck of a partition.
+// All functions here are inner: their callers have tested the job.
+ghost use Prim.Native.Nat.{ℕ, suc, _+_, _-_, _*_, _^_, _≤_, _<_};
+ghost use mathlib.Core.Path.{_≡_};
+ghost use mathlib.Core.List.{_++_};
+ghost use lib.Dec.{leb, ltb};
+ghost use lib.ListN.{length, take, drop};
+ghost use Rattle.bound.specs.Order.{greater};
+ghost use Rattle.chain.specs.Lists.{distance};
+ghost use Rattle.chain.specs.Job.{jobOf, Valid, Partition, totalSpeed, boundAt, bottleneck};
+ghost use Rattle.chain.specs.Heuristic.{heuristic};
+ghost use Rattle.parts.specs.Prefix.{Ready};
+ghost use Rattle.heuristic.specs.Target.{firstAtLeast, nearestTo, Target, Behind, FirstPast};
+use bound::Bound;
+
+// An index as a number of 32 bits. Inner: it fits.
+fn narrow(i: usize) -> u32
+    requires { ⌜ i < 2 ^ 32 ⌝ }
+    ensures { λ r. ⌜ r ≡ i ⌝ }
+{
+    i as u32
+}
+
+// A separator as an index.
+fn index(x: u32) -> usize
+    ensures { λ r. ⌜ r ≡ x ⌝ }
+{
+    x as usize
+}
+
+// Inner. All speed.
+pub fn total_speed(speeds: &[u32], weights: &[u32]) -> u64
+    requires { ⌜ Valid (jobOf (now weights) (now speeds)) ⌝ }
+    ensures { λ r. ⌜ r ≡ totalSpeed (jobOf (now (weights .entry)) (now (speeds .entry))) ⌝ }
+{
+    let mut total = 0u64;
+    let mut p = 0;
+    while p < speeds.len() {
+        total += parts::wide(speeds[p]);
+        p += 1;
+    }
+    total
+}
+
+// Inner. The smallest index from a to b whose entry is at least the limit, b if there is none.
+fn first_at_least(xs: &[u32], a: usize, b: usize, limit: u64) -> usize
+    requires { ⌜ (a ≤ b) × (b ≤ length (now xs)) ⌝ }
+    ensures { λ r. ⌜ r ≡ firstAtLeast (now (xs .entry)) a b limit ⌝ }
+{
+    let mut i = a;
+    while i < b {
+        if limit <= parts::wide(xs[i]) {
+            return i;
+        }
+        i += 1;
+    }
+    i
+}
+
+// Inner. The first index past the target, where none before i is.
+fn first_past(
+    speeds: &[u32],
+    weights: &[u32],
+    sums: &[u32],
+    i: usize,
+    total: u64,
+    target: u64,
+) -> usize
+    requires { ⌜ Ready (jobOf (now weights) (now speeds)) (now sums) ⌝ }
+    requires { ⌜ Target (jobOf (now weights) (now speeds)) total target ⌝ }
+    requires { ⌜ Behind (jobOf (now weights) (now speeds)) target i ⌝ }
+    ensures { λ r. ⌜ FirstPast (jobOf (now (weights .entry)) (now (speeds .entry))) target r ⌝ }
+{
+    first_at_least(sums, i, weights.len() + 1, target / total + 1)
+}
+
+// Inner. Whether high, past the target, is nearer to it than low, not past it, both times all speed.
+fn high_nearer(low: u64, high: u64, total: u64, target: u64) -> bool
+    requires { ⌜ (low * total ≤ target) × (target ≤ high * total) × (high * total < 2 ^ 64) ⌝ }
+    ensures { λ r. ⌜ r ≡ ltb (distance (high * total) target) (distance (low * total) target) ⌝ }
+{
+    high * total - target < target - low * total
+}
+
+// Inner. The smallest index nearest to the target, which is not before s; the first index past the target is known.
+fn nearest_from(
+    speeds: &[u32],
+    weights: &[u32],
+    sums: &[u32],
+    s: usize,
+    past: usize,
+    total: u64,
+    target: u64,
+) -> usize
+    requires { ⌜ Ready (jobOf (now weights) (now speeds)) (now sums) ⌝ }
+    requires { ⌜ Target (jobOf (now weights) (now speeds)) total target ⌝ }
+    requires { ⌜ FirstPast (jobOf (now weights) (now speeds)) target past ⌝ }
+    requires { ⌜ s ≤ nearestTo (jobOf (now weights) (now speeds)) target ⌝ }
+    ensures { λ r. ⌜ r ≡ nearestTo (jobOf (now (weights .entry)) (now (speeds .entry))) target ⌝ }
+{
+    let low = parts::wide(sums[past - 1]);
+    if past <= weights.len() {
+        if high_nearer(low, parts::wide(sums[past]), total, target) {
+            return past;
+        }
+    }
+    first_at_least(sums, s, past - 1, low)
+}
+
+// Inner. Writes the heuristic's separators to the front of the list.
+pub fn heuristic_in(speeds: &[u32], weights: &[u32], sums: &[u32], separators: &mut [u32])
+    requires { ⌜ Ready (jobOf (now weights) (now speeds)) (now sums) ⌝ }
+    requires { ⌜ length (now speeds) < length (now separators) ⌝ }
+    ensures { λ r. ⌜ now (separators .exit) ≡ heuristic (jobOf (now (weights .entry)) (now (speeds .entry))) ++ drop (suc (length (now (speeds .entry)))) (now (separators .entry)) ⌝ }
+{
+    let total = total_speed(speeds, weights);
+    let weight = parts::wide(sums[weights.len()]);
+    let last = speeds.len() - 1;
+    let mut speed = 0u64;
+    let mut past = 1;
+    let mut s = 0;
+    let mut p = 0;
+    separators[0] = 0;
+    while p < last {
+        speed += parts::wide(speeds[p]);
+        p += 1;
+        let target = weight * speed;
+        past = first_past(speeds, weights, sums, past, total, target);
+        s = nearest_from(speeds, weights, sums, s, past, total, target);
+        separators[p] = narrow(s);
+    }
+    separators[last + 1] = narrow(weights.len());
+}
+
+// The greater of two bounds, the first among equals. Inner: the two products fit 64 bits.
+pub fn greater_of(a: Bound, b: Bound) -> Bound
+    requires { ⌜ (b .load * a .speed < 2 ^ 64) × (a .load * b .speed < 2 ^ 64) ⌝ }
+    ensures { λ r. ⌜ r ≡ greater a b ⌝ }
+{
+    if Bound::at_most(b, a) { a } else { b }
+}
+
+// Inner. The bound of processor p's part.
+fn bound_at(speeds: &[u32], weights: &[u32], sums: &[u32], separators: &[u32], p: usize) -> Bound
+    requires { ⌜ Ready (jobOf (now weights) (now speeds)) (now sums) ⌝ }
+    requires { ⌜ Partition (jobOf (now weights) (now speeds)) (take (suc (length (now speeds))) (now separators)) ⌝ }
+    requires { ⌜ p < length (now speeds) ⌝ }
+    ensures { λ r. ⌜ r ≡ boundAt (jobOf (now (weights .entry)) (now (speeds .entry))) (now (separators .entry)) p ⌝ }
+{
+    parts::part_bound(
+        speeds,
+        weights,
+        sums,
+        p,
+        index(separators[p]),
+        index(separators[p + 1]),
+    )
+}
+
+// Inner. The bottleneck of the partition in front of the list.
+pub fn measure_in(speeds: &[u32], weights: &[u32], sums: &[u32], separators: &[u32]) -> Bound
+    requires { ⌜ Ready (jobOf (now weights) (now speeds)) (now sums) ⌝ }
+    requires { ⌜ Partition (jobOf (now weights) (now speeds)) (take (suc (length (now speeds))) (now separators)) ⌝ }
+    ensures { λ r. ⌜ r ≡ bottleneck (jobOf (now (weights .entry)) (now (speeds .entry))) (now (separators .entry)) ⌝ }
+    ensures { λ r. ⌜ r ≡ bottleneck (jobOf (now (weights .entry)) (now (speeds .entry))) (take (suc (length (now (speeds .entry)))) (now (separators .entry))) ⌝ }
+{
+    let mut greatest = bound_at(speeds, weights, sums, separators, 0);
+    let mut p = 1;
+    while p < speeds.len() {
+        greatest = greater_of(greatest, bound_at(speeds, weights, sums, separators, p));
+        p += 1;
+    }
+    greatest
+}

@@ -1,0 +1,120 @@
+-- The bids: comparing them fits, a part gains nothing past the last task, and the least bid so far.
+-- Assumes nothing.
+use Prim.Native.Nat.{ℕ, zero, suc, _-_, _*_, _^_, _≤_, _<_}
+use mathlib.Core.Path.{_≡_, refl, sym, ap, subst, _∙_}
+use mathlib.Core.Bool.{Bool, true, false}
+use native.Mathlib.Omega.{arith}
+use native.Mathlib.Decide.{decLe}
+use native.Mathlib.Nat.{mul-le-mul, lt-of-le-of-lt}
+use lib.Dec.{lit<}
+use lib.ListN.{List·getD-eq-default}
+use Rattle.bound.specs.declared.Bound.{Bound}
+use Rattle.bound.specs.Order.{over, le, pick, lesser}
+use Rattle.bound.proofs.Order.{make-lt, le-false, lesser-cases}
+use Rattle.chain.specs.Job.{Job, Valid, tasks, last, speedOf, partLoad, partBound}
+use Rattle.chain.specs.Probe.{separator, bid, leastBidTo, nextBid}
+use Rattle.chain.proofs.Parts.{weight-split}
+use Rattle.chain.proofs.Extremes.{weight-one}
+use Rattle.chain.proofs.NextBid.{bid-before, bid-last}
+use Rattle.chain.proofs.Ranges.{Small, part-small, small-fits}
+use Rattle.probe.specs.Outcome.{Narrow, OneMore}
+
+-- The products of a comparison of two narrow bounds fit.
+pub narrow-products : {B C : Bound} → Narrow B → Narrow C → (B .load * C .speed < 2 ^ 64) × (C .load * B .speed < 2 ^ 64)
+narrow-products b c = (product (b .load-fits) (c .speed-fits), product (c .load-fits) (b .speed-fits))
+  where
+    product : {m n : ℕ} → m < 2 ^ 32 → n < 2 ^ 32 → m * n < 2 ^ 64
+    product {m} {n} h k =
+        let a : m ≤ 2 ^ 32 - 1 = omega arith in
+        let b : n ≤ 2 ^ 32 - 1 = omega arith in
+        lt-of-le-of-lt (mul-le-mul a b) (lit< tt)
+
+pub small-narrow : {B : Bound} → Small B → Narrow B
+small-narrow s = record { load-fits = small-fits s .0; speed-fits = small-fits s .1 }
+
+pub lesser-narrow : {B C : Bound} → Narrow B → Narrow C → Narrow (lesser B C)
+lesser-narrow {B} {C} b c = lesser-cases Narrow B C b c
+
+-- Which one is the lesser.
+pub lesser-first : (B C : Bound) → le B C ≡ true → B ≡ lesser B C
+unfolding lesser
+lesser-first B C e = ap (λ (t : Bool). pick t B C) (sym e)
+
+pub lesser-second : (B C : Bound) → le B C ≡ false → C ≡ lesser B C
+unfolding lesser
+lesser-second B C e = ap (λ (t : Bool). pick t B C) (sym e)
+
+-- 1/0 is above every bound with a speed.
+abbrev pub none : Bound
+none = over 1 0
+
+pub none-narrow : Narrow none
+none-narrow = record { load-fits = lit< tt; speed-fits = lit< tt }
+
+pub lesser-none : (B : Bound) → 1 ≤ B .speed → lesser none B ≡ B
+lesser-none B h = sym (lesser-second none B (le-false {B = none} {C = B} (make-lt (omega arith))))
+
+module _ (job : Job) where
+  -- A part gains nothing past the last task.
+  load-past : (a : ℕ) → a ≤ tasks job → partLoad job a (suc (tasks job)) ≡ partLoad job a (tasks job)
+  unfolding partLoad
+  load-past a h =
+      omega (
+        arith,
+        weight-split job a (tasks job) (suc (tasks job)) h (omega arith),
+        weight-one job (tasks job),
+        List·getD-eq-default (job .weights) 0 {n = tasks job} (omega arith),
+      )
+
+  pub part-past : (p a : ℕ) → a ≤ tasks job → partBound job p a (suc (tasks job)) ≡ partBound job p a (tasks job)
+  unfolding partBound
+  part-past p a h = ap (λ (n : ℕ). over n (speedOf job p)) (load-past a h)
+
+  -- So a bid stops at the last task.
+  bid-stops : (p a : ℕ) {i r : ℕ} → a ≤ i → i ≤ tasks job → OneMore i (tasks job) r → partBound job p a r ≡ partBound job p a (suc i)
+  bid-stops p a {i} {r} h k w =
+      elim (decLe (suc i) (tasks job)) [
+        | yes x ↦ ap (partBound job p a) (w .next x)
+        | no x ↦
+            ap (partBound job p a) (let e : r ≡ tasks job = omega (arith, w .from, w .to) in e) ∙ sym (part-past p a (omega arith))
+            ∙ ap (λ (j : ℕ). partBound job p a (suc j)) (let e : tasks job ≡ i = omega arith in e)
+      ]
+
+  -- The lesser of the best bid so far and a bid that stops there.
+  pub bid-lesser : (best : Bound) {C D : Bound} (p : ℕ) {a i r : ℕ} → a ≤ i → i ≤ tasks job → OneMore i (tasks job) r → C ≡ partBound job p a r → D ≡ lesser best C
+      → D ≡ lesser best (partBound job p a (suc i))
+  bid-lesser best p {a} h k w e f = f ∙ ap (lesser best) (e ∙ bid-stops p a h k w)
+
+-- The bound of a part is narrow.
+pub part-narrow : {job : Job} {C : Bound} (p a b : ℕ) → Valid job → C ≡ partBound job p a b → Narrow C
+part-narrow p a b v e = subst Narrow (sym e) (small-narrow (part-small v p a b))
+
+-- The least bid of the processors below p, 1/0 of none.
+unfoldable pub leastBefore : Job → Bound → ℕ → Bound
+leastBefore job B zero = none
+leastBefore job B (suc p) = leastBidTo job B p
+
+module _ {job : Job} (v : Valid job) (B : Bound) where
+  least-next : (p : ℕ) → 1 ≤ (bid job B p) .speed → lesser (leastBefore job B p) (bid job B p) ≡ leastBidTo job B p
+  unfolding leastBefore leastBidTo
+  least-next zero h = lesser-none (bid job B 0) h
+  least-next (suc p) h = refl
+
+  -- One processor more, before the last,
+  pub least-turn : (p : ℕ) → p < last job
+      → lesser (leastBefore job B p) (partBound job p (separator job B p) (suc (separator job B (suc p)))) ≡ leastBefore job B (suc p)
+  unfolding leastBefore
+  least-turn p h =
+      ap (lesser (leastBefore job B p)) (sym (bid-before job B p h))
+      ∙ least-next p
+      (subst (λ (C : Bound). 1 ≤ C .speed) (sym (bid-before job B p h))
+      (part-small v p (separator job B p) (suc (separator job B (suc p))) .speed-positive))
+
+  -- and the last.
+  pub least-end : lesser (leastBefore job B (last job)) (partBound job (last job) (separator job B (last job)) (tasks job)) ≡ nextBid job B
+  unfolding nextBid
+  least-end =
+      ap (lesser (leastBefore job B (last job))) (sym (bid-last job B))
+      ∙ least-next (last job)
+      (subst (λ (C : Bound). 1 ≤ C .speed) (sym (bid-last job B))
+      (part-small v (last job) (separator job B (last job)) (tasks job) .speed-positive))

@@ -1,0 +1,4 @@
+pub mod Search
+pub mod Reach
+pub mod Bids
+pub mod Written

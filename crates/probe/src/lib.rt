@@ -1,0 +1,191 @@
+// The probe at a bound over prefix sums: the end of a part, the walk and the least next bid.
+// All functions here are inner: their callers have tested the job and the bound.
+ghost use Prim.Native.Nat.{suc, _+_, _-_, _*_, _/_, _≤_, _<_, _^_};
+ghost use mathlib.Core.Path.{_≡_};
+ghost use mathlib.Core.List.{_++_};
+ghost use lib.ListN.{length, getD, drop};
+ghost use Rattle.bound.specs.Order.{lesser};
+ghost use Rattle.chain.specs.Job.{jobOf, partBound};
+ghost use Rattle.chain.specs.Probe.{reach, walk};
+ghost use Rattle.chain.proofs.Ranges.{Lendable};
+ghost use Rattle.parts.specs.Prefix.{Ready};
+ghost use Rattle.probe.specs.Search.{Bracket, LastAtMost};
+ghost use Rattle.probe.specs.Outcome.{Narrow, OneMore, outcomeOf};
+use bound::Bound;
+use parts::part_bound;
+use parts::wide;
+
+// Two indices: the entry at low is at most a cap; the one at high is above it, or high is past the last.
+pub struct Span {
+    pub low: usize,
+    pub high: usize,
+}
+
+// Inner. From a on in steps of 1, 2, 4, .. to the first entry seen above the cap.
+pub fn gallop(xs: &[u32], a: usize, n: usize, cap: u32) -> Span
+    requires { ⌜ (a ≤ n) × (n < length (now xs)) × (getD (now xs) a 0 ≤ cap) ⌝ }
+    ensures { λ r. ⌜ Bracket (now (xs .entry)) a n cap r ⌝ }
+{
+    let mut low = a;
+    let mut step: usize = 1;
+    while step <= n - low {
+        let next = low + step;
+        if cap < xs[next] {
+            return Span { low, high: next };
+        }
+        low = next;
+        step += step;
+    }
+    Span { low, high: n + 1 }
+}
+
+// Inner. The last entry at most the cap from low to before high, found by halving.
+pub fn halve(xs: &[u32], low: usize, high: usize, cap: u32) -> usize
+    requires { ⌜ (low < high) × (high ≤ length (now xs)) × (getD (now xs) low 0 ≤ cap) ⌝ }
+    ensures { λ r. ⌜ LastAtMost (now (xs .entry)) low (high - 1) cap r ⌝ }
+{
+    let mut a = low;
+    let mut b = high;
+    while 1 < b - a {
+        let mid = a + (b - a) / 2;
+        if xs[mid] <= cap {
+            a = mid;
+        } else {
+            b = mid;
+        }
+    }
+    a
+}
+
+// Inner. An index from a to n whose entry is at most the cap while the next one is not. No order of the entries is asked; where
+// they grow it is the last index at most the cap. It takes time in the logarithm of its distance from a.
+pub fn last_at_most(xs: &[u32], a: usize, n: usize, cap: u32) -> usize
+    requires { ⌜ (a ≤ n) × (n < length (now xs)) × (getD (now xs) a 0 ≤ cap) ⌝ }
+    ensures { λ r. ⌜ LastAtMost (now (xs .entry)) a n cap r ⌝ }
+{
+    let span = gallop(xs, a, n, cap);
+    halve(xs, span.low, span.high, cap)
+}
+
+// Inner. A number that fits 32 bits.
+pub fn narrow(x: usize) -> u32
+    requires { ⌜ x < 2 ^ 32 ⌝ }
+    ensures { λ r. ⌜ r ≡ x ⌝ }
+{
+    x as u32
+}
+
+// Inner. The greatest load within the bound on a processor of this speed.
+pub fn most_load(bound: Bound, speed: u32) -> u64
+    requires { ⌜ (bound .load * speed < 2 ^ 64) × (1 ≤ bound .speed) ⌝ }
+    ensures { λ r. ⌜ r ≡ bound .load * speed / bound .speed ⌝ }
+{
+    bound.load * wide(speed) / bound.speed
+}
+
+// Inner. A prefix sum raised by a load.
+pub fn raised(sum: u32, load: u64) -> u32
+    requires { ⌜ sum + load < 2 ^ 32 ⌝ }
+    ensures { λ r. ⌜ r ≡ sum + load ⌝ }
+{
+    sum + (load as u32)
+}
+
+// Inner. The greatest index from a to N whose part, from a on, is within the bound on processor p.
+pub fn part_end(
+    speeds: &[u32],
+    weights: &[u32],
+    sums: &[u32],
+    p: usize,
+    a: usize,
+    bound: Bound,
+) -> usize
+    requires { ⌜ Ready (jobOf (now weights) (now speeds)) (now sums) ⌝ }
+    requires { ⌜ Lendable bound ⌝ }
+    requires { ⌜ (p < length (now speeds)) × (a ≤ length (now weights)) ⌝ }
+    ensures { λ r. ⌜ r ≡ reach (jobOf (now (weights .entry)) (now (speeds .entry))) p a bound ⌝ }
+{
+    let n = weights.len();
+    let limit = most_load(bound, speeds[p]);
+    let sum = sums[a];
+    if wide(sums[n] - sum) <= limit {
+        return n;
+    }
+    last_at_most(sums, a, n, raised(sum, limit))
+}
+
+// Inner. The lesser of two bounds, the first among equals.
+pub fn lesser_bound(a: Bound, b: Bound) -> Bound
+    requires { ⌜ Narrow a × Narrow b ⌝ }
+    ensures { λ r. ⌜ r ≡ lesser a b ⌝ }
+{
+    if Bound::at_most(a, b) { a } else { b }
+}
+
+// Inner. The index after i, and n after n.
+pub fn one_more(i: usize, n: usize) -> usize
+    requires { ⌜ i ≤ n ⌝ }
+    ensures { λ r. ⌜ OneMore i n r ⌝ }
+{
+    if i < n { i + 1 } else { n }
+}
+
+// Inner. The lesser of the least bid so far and the bid of processor p, its part from a to end with one more task.
+pub fn least_bid(
+    best: Bound,
+    speeds: &[u32],
+    weights: &[u32],
+    sums: &[u32],
+    p: usize,
+    a: usize,
+    end: usize,
+) -> Bound
+    requires { ⌜ Ready (jobOf (now weights) (now speeds)) (now sums) ⌝ }
+    requires { ⌜ Narrow best ⌝ }
+    requires { ⌜ (p < length (now speeds)) × (a ≤ end) × (end ≤ length (now weights)) ⌝ }
+    ensures { λ r. ⌜ r ≡ lesser best (partBound (jobOf (now (weights .entry)) (now (speeds .entry))) p a (suc end)) ⌝ }
+{
+    let next = one_more(end, weights.len());
+    lesser_bound(best, part_bound(speeds, weights, sums, p, a, next))
+}
+
+// The answer of a probe ("trial at a bound"): it fits, or it fails with the least next bid.
+pub enum Outcome {
+    Fits,
+    Fails(Bound),
+}
+
+// Inner. The probe at the bound: writes the walk's P + 1 separators, whether it fits or not, and answers.
+pub fn probe_in(
+    speeds: &[u32],
+    weights: &[u32],
+    sums: &[u32],
+    bound: Bound,
+    separators: &mut [u32],
+) -> Outcome
+    requires { ⌜ Ready (jobOf (now weights) (now speeds)) (now sums) ⌝ }
+    requires { ⌜ Lendable bound ⌝ }
+    requires { ⌜ length (now speeds) < length (now separators) ⌝ }
+    ensures { λ r. ⌜ r ≡ outcomeOf (jobOf (now (weights .entry)) (now (speeds .entry))) bound ⌝ }
+    ensures { λ r. ⌜ now (separators .exit) ≡ walk (jobOf (now (weights .entry)) (now (speeds .entry))) bound ++ drop (suc (length (now (speeds .entry)))) (now (separators .entry)) ⌝ }
+{
+    let last = speeds.len() - 1;
+    let n = weights.len();
+    let mut best = Bound { load: 1, speed: 0 };
+    let mut a = 0;
+    let mut p = 0;
+    while p < last {
+        separators[p] = narrow(a);
+        let end = part_end(speeds, weights, sums, p, a, bound);
+        best = least_bid(best, speeds, weights, sums, p, a, end);
+        a = end;
+        p += 1;
+    }
+    separators[p] = narrow(a);
+    separators[p + 1] = narrow(n);
+    let rest = part_bound(speeds, weights, sums, p, a, n);
+    if Bound::at_most(rest, bound) {
+        return Outcome::Fits;
+    }
+    Outcome::Fails(lesser_bound(best, rest))
+}

@@ -1,0 +1,92 @@
+-- `bidding_in` meets its contract: the loop keeps `Bidden`.
+-- Assumes nothing.
+use Prim.Native.Nat.{ℕ, suc, _-_, _*_, _<_}
+use mathlib.Core.Path.{_≡_, sym, _∙_}
+use native.Mathlib.Omega.{arith}
+use borrow.Author.Needs.{needs}
+use lib.ListN.{length}
+use Rattle.chain.specs.Job.{Job, jobOf, tasks, last}
+use Rattle.chain.specs.Probe.{walk}
+use Rattle.parts.proofs.Front.{Behind, behind-start, behind-written, behind-is}
+use Rattle.probe.proofs.Written.{fits-outcome, fails-outcome}
+use Rattle.search.proofs.Laws.{walk-count, Bidden, bidden-start, bidden-room, bidden-fits, bidden-next, bidden-end}
+use Rattle.search.proofs.bidding_in.Statement.{statement}
+use Rattle.search.proofs.bidding_in.Tie as tie
+
+abbrev Inv-loop : tie.InvT-loop
+Inv-loop speeds weights sums separators₀ bound₀ failures₀ separators bound failures =
+    Bidden (jobOf weights speeds) bound failures × Behind (suc (length speeds)) separators₀ separators
+
+abbrev μ-loop : tie.MeasureT-loop
+μ-loop speeds weights sums separators₀ bound₀ failures₀ separators bound failures = last (jobOf weights speeds) * length weights - failures
+
+ideal-of-requires : tie.Need-ideal-of-requires Inv-loop μ-loop
+ideal-of-requires c κs = search needs
+
+loop-holds : tie.Need-loop-holds Inv-loop μ-loop
+loop-holds c = (bidden-start (c .before .before .before .before .before .pre .0 .valid) (c .ideal-of .ensures), behind-start (suc (length (c .before .before .before .before .before .args .speeds .now))) (c .before .before .before .before .before .args .separators .now))
+
+probe-in-requires : tie.Need-probe-in-requires Inv-loop μ-loop
+probe-in-requires c κs = search needs
+
+enum-told : tie.Need-enum-told Inv-loop μ-loop
+enum-told c = search needs
+
+add-t11 : tie.Need-add-t11 Inv-loop μ-loop
+add-t11 c = record { fits = bidden-fits (c .before .before .before .before .before .before .loop .failures) (c .before .before .before .before .before .before .before .before .before .before .before .before .pre .0 .valid) (c .before .before .before .before .before .before .loop .inv .0) }
+
+same-length : tie.Need-same-length Inv-loop μ-loop
+same-length c = search needs
+
+returns : tie.Need-returns Inv-loop μ-loop
+returns c =
+    let l = c .before .before .before .before .before .before in
+    let s = c .before .before .before .before .before .before .before .before .before .before .before .before in
+    let job : Job = jobOf (s .args .weights .now) (s .args .speeds .now) in
+    let y = c .before .before .before .before .probe-in .ensures in (
+      bidden-end (l .loop .inv .0) (fits-outcome job (l .loop .bound) (sym (y .0) ∙ c .enum-told .given .1)),
+      behind-is (walk job (l .loop .bound)) (l .loop .inv .1) (y .1),
+    )
+
+enum-known-answer : tie.Need-enum-known-answer Inv-loop μ-loop
+enum-known-answer c = search needs
+
+add-failures : tie.Need-add-failures Inv-loop μ-loop
+add-failures c = record { fits = bidden-fits (c .before .before .before .before .before .before .before .loop .failures) (c .before .before .before .before .before .before .before .before .before .before .before .before .before .pre .0 .valid) (c .before .before .before .before .before .before .before .loop .inv .0) }
+
+loop-less : tie.Need-loop-less Inv-loop μ-loop
+loop-less c =
+    let l = c .before .before .before .before .before .before .before in
+    let s = c .before .before .before .before .before .before .before .before .before .before .before .before .before in
+    let job : Job = jobOf (s .args .weights .now) (s .args .speeds .now) in
+    let f = fails-outcome job (l .loop .bound) (sym (c .before .before .before .before .before .probe-in .ensures .0) ∙ c .before .answer .given .1) in
+    omega (arith, bidden-room (s .pre .0 .valid) (l .loop .inv .0) (f .0))
+
+loop-again : tie.Need-loop-again Inv-loop μ-loop
+loop-again c =
+    let l = c .before .before .before .before .before .before .before in
+    let s = c .before .before .before .before .before .before .before .before .before .before .before .before .before in
+    let job : Job = jobOf (s .args .weights .now) (s .args .speeds .now) in
+    let y = c .before .before .before .before .before .probe-in .ensures in
+    let f = fails-outcome job (l .loop .bound) (sym (y .0) ∙ c .before .answer .given .1) in (
+      bidden-next (c .before .answer .given .0 .0) (s .pre .0 .valid) (l .loop .inv .0) (f .0) (f .1),
+      behind-written (walk job (l .loop .bound)) _ (l .loop .inv .1) (s .pre .1) (walk-count (s .pre .0 .valid) (l .loop .bound)) (y .1),
+    )
+
+pub bidding-in-spec : {M : Type 1} → statement M
+bidding-in-spec =
+    tie.close
+    (tie.spec
+    Inv-loop
+    μ-loop
+    ideal-of-requires
+    loop-holds
+    probe-in-requires
+    enum-told
+    add-t11
+    same-length
+    returns
+    enum-known-answer
+    add-failures
+    loop-less
+    loop-again)
