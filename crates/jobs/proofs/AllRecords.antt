@@ -17,7 +17,7 @@ use Rattle.jobs.specs.Parse.{recordCount, kindAt, valueAt, isKind, multi
 use Rattle.jobs.specs.Answers.{answerOf}
 use Rattle.jobs.specs.Inner.{recordsRefusal}
 use Rattle.jobs.specs.declared.JobRead.{JobRead}
-use Rattle.jobs.proofs.Tests.{Numbered, numbered-nil, numbered-cons, numbered-append, first-refusal-append, first-refusal-before}
+use Rattle.chain.proofs.Refusals.{Numbered, numbered-nil, numbered-cons, numbered-append, first-refusal-append, first-refusal-before}
 use Rattle.jobs.proofs.Steps.{fails, passes}
 use Rattle.jobs.proofs.OneRecord.{other-kind}
 

@@ -1,5 +1,4 @@
 pub mod Limits
-pub mod Tests
 pub mod Each
 pub mod Steps
 pub mod ByLists

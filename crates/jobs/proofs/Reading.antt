@@ -17,7 +17,7 @@ use Rattle.jobs.specs.Parse.{recordCount, valueAt, multipleTest, records
 use Rattle.jobs.specs.Answers.{lentAfter, answerOf, readTests, readRefusal, readAnswer, readSpeeds, readWeights}
 use Rattle.jobs.specs.Inner.{recordsRefusal, Accepted, Reads}
 use Rattle.jobs.specs.declared.JobRead.{JobRead}
-use Rattle.jobs.proofs.Tests.{Numbered, numbered-nil, numbered-cons, first-refusal-append, first-refusal-before}
+use Rattle.chain.proofs.Refusals.{Numbered, numbered-nil, numbered-cons, first-refusal-append, first-refusal-before}
 use Rattle.jobs.proofs.Steps.{fails, passes, passed-all}
 use Rattle.jobs.proofs.AllRecords.{records-numbered, multiple-fails, multiple-passes, answer-refused, answer-read}
 use Rattle.jobs.proofs.Passed.{Placed, placed}

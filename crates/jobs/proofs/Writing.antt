@@ -15,7 +15,7 @@ use Rattle.chain.specs.Refusal.{lengthTest, firstRefusal, jobTests, callTests, 
 use Rattle.jobs.specs.declared.JobWritten.{JobWritten}
 use Rattle.jobs.specs.JobFile.{processorKind, taskKind, recordsBytes, jobBytes}
 use Rattle.jobs.specs.Answers.{lentAfter, bytesNeeded, writeRefusal, writeAnswer, writeBytes}
-use Rattle.jobs.proofs.Tests.{job-numbered, first-refusal-append, first-refusal-before}
+use Rattle.chain.proofs.Refusals.{job-numbered, first-refusal-append, first-refusal-before}
 use Rattle.jobs.proofs.Steps.{fails, passes, passed-all}
 use Rattle.jobs.proofs.Records.{length-records}
 use Rattle.jobs.proofs.Lent.{lent-refused, lent-accepted}

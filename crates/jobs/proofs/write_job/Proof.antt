@@ -10,7 +10,7 @@ use Rattle.chain.specs.Job.{jobOf, Valid}
 use Rattle.chain.specs.Refusal.{firstRefusal, jobTests}
 use Rattle.jobs.specs.JobFile.{recordsBytes}
 use Rattle.jobs.proofs.Limits.{tasks-limit, processors-limit}
-use Rattle.jobs.proofs.Tests.{job-accepted}
+use Rattle.chain.proofs.Refusals.{job-accepted}
 use Rattle.jobs.proofs.Writing.{bytes-put, wrote-job, wrote-short, wrote-all}
 use Rattle.jobs.proofs.write_job.Statement.{statement}
 use Rattle.jobs.proofs.write_job.Tie as tie
