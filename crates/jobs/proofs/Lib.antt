@@ -10,3 +10,5 @@ pub mod AllRecords
 pub mod Copying
 pub mod Passed
 pub mod Reading
+pub mod Bytes
+pub mod RoundTrip

@@ -13,7 +13,7 @@ use borrow.Author.Tests.{le-leb, lt-leb}
 use Rattle.chain.specs.Limits.{maxProcessors, maxTasks}
 use Rattle.chain.specs.Lists.{tabulate}
 use Rattle.chain.specs.Refusal.{Test, test, between, processorsTest, tasksTest, lengthTest, firstRefusal}
-use Rattle.jobs.specs.Parse.{recordCount, valueAt, multipleTest, recordsTests, speedsOf, weightsOf, fileTests}
+use Rattle.jobs.specs.Parse.{recordCount, valueAt, multipleTest, recordsTests, speedsOf, weightsOf, fileTests, fileRefusal}
 use Rattle.jobs.specs.Answers.{lentAfter, answerOf, readTests, readRefusal, readAnswer, readSpeeds, readWeights}
 use Rattle.jobs.specs.Inner.{recordsRefusal, Accepted, Reads}
 use Rattle.jobs.specs.declared.JobRead.{JobRead}
@@ -114,6 +114,19 @@ module _ (file : List ℕ) where
     weights-from ws =
         ap₂ (λ (p t : ℕ). tabulate (λ j. valueAt file (p + j)) t ++ drop t ws) (a .speeds) (a .weights)
         ∙ ap (λ (l : List ℕ). l ++ drop (length (weightsOf file)) ws) (held .weights)
+
+  -- The file's own tests: 2 to 6 decide where they fail, 7 and 8 otherwise.
+  file-is : fileRefusal file ≡ firstRefusal (later [])
+  unfolding fileRefusal fileTests later early counts
+  file-is = refl
+
+  pub file-early : fileRefusal file ≡ 0 → recordsRefusal file ≡ 0
+  file-early e =
+      elim (ℕ-discrete (recordsRefusal file) 0) [ yes z ↦ z | no z ↦ sym (by-early [] z) ∙ sym file-is ∙ e ]
+
+  pub file-counts : recordsRefusal file ≡ 0 → fileRefusal file ≡ firstRefusal (processorsTest (speedsOf file) ∷ tasksTest (weightsOf file) ∷ [])
+  unfolding counts
+  file-counts e = file-is ∙ to-counts [] e
 
   -- Reading's own tests.
   module _ (lentSpeeds lentWeights : ℕ) where
