@@ -1,6 +1,7 @@
 pub mod Limits
 pub mod Each
 pub mod Steps
+pub mod Counts
 pub mod ByLists
 pub mod Records
 pub mod Lent
@@ -12,3 +13,5 @@ pub mod Passed
 pub mod Reading
 pub mod Bytes
 pub mod RoundTrip
+pub mod Calls
+pub mod Cases

@@ -14,6 +14,7 @@ use Rattle.chain.specs.Limits.{maxWeight, maxSpeed}
 use Rattle.chain.specs.Refusal.{between, firstRefusal}
 use Rattle.jobs.specs.JobFile.{processorKind, taskKind}
 use Rattle.jobs.specs.Parse.{byteAt, kindAt, valueAt, isKind, taskBefore, blank, formTest, orderTest, speedTest, weightTest, recordTests, valuesOf}
+use Rattle.jobs.proofs.Limits.{speed-limit, weight-limit}
 use Rattle.jobs.proofs.Each.{between-low, between-high, between-in}
 use Rattle.jobs.proofs.Steps.{fails, passes, passed-all}
 
@@ -152,3 +153,8 @@ module _ (file : List ℕ) (i : ℕ) {k v : ℕ} {b : Bool} (kind : k ≡ kindAt
       sym (to-weight
       ∙ passes 6 [] (ap₂ (λ (a c : Bool). not a || c) (is file i kind 2 two) (between-in 0 maxWeight (valueAt file i) (omega arith) (omega arith)))
       ∙ passed-all)
+
+-- For `search`: at each return the law that its tests meet.
+pub ruleset blank-laws = (first-set, second-set, third-decides)
+
+pub ruleset record-laws = (other-kind, not-blank, processor-late, processor-low, processor-high, processor-passes, task-high, task-passes, speed-limit, weight-limit)

@@ -199,3 +199,6 @@ module _ (file : List ℕ) where
         where
           none : readRefusal file (length es) (length ws) ≡ 0
           none = fits-weights z h ∙ passes 9 [] (le-leb (length (speedsOf file)) (length es) (omega (arith, a .speeds))) ∙ passed-all
+
+-- For `search`: at each return the law that its tests meet.
+pub ruleset read-laws = (read-counts, read-short-weights, read-short-speeds, read-all)

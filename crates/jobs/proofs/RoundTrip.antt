@@ -207,11 +207,10 @@ module _ (job : Job) (ok : Valid job) where
 
 -- Reading accepts exactly the job files.
 pub accepted-exactly : (file : List ℕ) → Bytes file → (fileRefusal file ≡ 0) ↔ JobFile file
-accepted-exactly file b =
-    (
-      λ e. record { job = jobIn file; valid = accepted-valid file e; bytes = sym (written-back file b e) },
-      λ f. ap fileRefusal (f .bytes) ∙ bytes-accepted (f .job) (f .valid),
-    )
+accepted-exactly file b = (
+  λ e. record { job = jobIn file; valid = accepted-valid file e; bytes = sym (written-back file b e) },
+  λ f. ap fileRefusal (f .bytes) ∙ bytes-accepted (f .job) (f .valid),
+)
 
 -- A job file holds one job.
 pub one-job : (file : List ℕ) (f : JobFile file) → f .job ≡ jobIn file

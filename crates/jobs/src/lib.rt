@@ -11,7 +11,7 @@ ghost use Rattle.chain.specs.Lists.{tabulate};
 ghost use Rattle.jobs.specs.JobFile.{taskKind, recordBytes, recordsBytes};
 ghost use Rattle.jobs.specs.Parse.{recordCount, byteAt, kindAt, valueAt, blank, recordTests, valuesOf};
 ghost use Rattle.jobs.specs.Answers.{answerOf, readAnswer, readSpeeds, readWeights, writeAnswer, writeBytes};
-ghost use Rattle.jobs.specs.Inner.{recordsRefusal, Accepted, Reads};
+ghost use Rattle.jobs.specs.Inner.{recordsRefusal, Accepted, Reads, Writes};
 
 // The limits of a job.
 pub const MAX_TASKS: usize = 2048;
@@ -109,6 +109,20 @@ fn put_records(kind: u8, values: &[u32], from: usize, file: &mut [u8])
     }
 }
 
+// The rest of writing, where the job is accepted: the records, or 9. Inner: the job's tests pass.
+fn write_tested(speeds: &[u32], weights: &[u32], file: &mut [u8]) -> JobWritten
+    requires { ⌜ firstRefusal (jobTests (jobOf (now weights) (now speeds))) ≡ 0 ⌝ }
+    ensures { λ r. ⌜ Writes (now (weights .entry)) (now (speeds .entry)) (now (file .entry)) r (now (file .exit)) ⌝ }
+{
+    let needed = 8 * (weights.len() + speeds.len());
+    if file.len() < needed {
+        return JobWritten::Refused(9);
+    }
+    put_records(1, speeds, 0, file);
+    put_records(2, weights, speeds.len(), file);
+    JobWritten::Written(needed)
+}
+
 // Writes a job file: the count of its bytes, or the refusal: 5, 6, 7, 8 or 9, in this order. Later bytes stay.
 pub fn write_job(speeds: &[u32], weights: &[u32], file: &mut [u8]) -> JobWritten
     ensures answer { λ r. ⌜ r ≡ writeAnswer (jobOf (now (weights .entry)) (now (speeds .entry))) (length (now (file .entry))) ⌝ }
@@ -118,13 +132,7 @@ pub fn write_job(speeds: &[u32], weights: &[u32], file: &mut [u8]) -> JobWritten
     if found != 0 {
         return JobWritten::Refused(found);
     }
-    let needed = 8 * (weights.len() + speeds.len());
-    if file.len() < needed {
-        return JobWritten::Refused(9);
-    }
-    put_records(1, speeds, 0, file);
-    put_records(2, weights, speeds.len(), file);
-    JobWritten::Written(needed)
+    write_tested(speeds, weights, file)
 }
 
 // A byte as a wider number. Inner.

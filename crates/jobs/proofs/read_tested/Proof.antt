@@ -1,7 +1,7 @@
 -- `read_tested` meets its contract: 7 and 8, then 9 of each list, then the values of both kinds.
 -- Assumes nothing.
 use native.Mathlib.Omega.{arith}
-use Rattle.jobs.proofs.Reading.{read-counts, read-short-weights, read-short-speeds, read-all}
+use Rattle.jobs.proofs.Reading.{read-laws}
 use borrow.Author.Needs.{needs}
 use Rattle.jobs.proofs.read_tested.Statement.{statement}
 use Rattle.jobs.proofs.read_tested.Tie as tie
@@ -14,13 +14,13 @@ test-counts-requires : tie.Need-test-counts-requires
 test-counts-requires c κs = search needs
 
 returns : tie.Need-returns
-returns c = search read-counts
+returns c = search read-laws
 
 returns-2 : tie.Need-returns-2
-returns-2 c = search read-short-weights
+returns-2 c = search read-laws
 
 returns-3 : tie.Need-returns-3
-returns-3 c = search read-short-speeds
+returns-3 c = search read-laws
 
 copy-values-requires : tie.Need-copy-values-requires
 copy-values-requires c κs = omega arith
@@ -35,7 +35,7 @@ same-length-2 : tie.Need-same-length-2
 same-length-2 c = search needs
 
 returns-4 : tie.Need-returns-4
-returns-4 c = search read-all
+returns-4 c = search read-laws
 
 pub read-tested-spec : {M : Type 1} → statement M
 read-tested-spec =

@@ -1,7 +1,6 @@
 -- `test_record` meets its contract: 3, then 4 and 5 of a processor, 6 of a task.
 -- Assumes nothing.
-use Rattle.jobs.proofs.Limits.{speed-limit, weight-limit}
-use Rattle.jobs.proofs.OneRecord.{other-kind, not-blank, processor-late, processor-low, processor-high, processor-passes, task-high, task-passes}
+use Rattle.jobs.proofs.OneRecord.{record-laws}
 use borrow.Author.Needs.{needs}
 use Rattle.jobs.proofs.test_record.Statement.{statement}
 use Rattle.jobs.proofs.test_record.Tie as tie
@@ -21,28 +20,28 @@ blank-at-requires : tie.Need-blank-at-requires
 blank-at-requires c κs = search needs
 
 returns : tie.Need-returns
-returns c = search not-blank
+returns c = search record-laws
 
 returns-2 : tie.Need-returns-2
-returns-2 c = search processor-late
+returns-2 c = search record-laws
 
 returns-3 : tie.Need-returns-3
-returns-3 c = search processor-low
+returns-3 c = search record-laws
 
 returns-4 : tie.Need-returns-4
-returns-4 c = search (processor-high, speed-limit)
+returns-4 c = search record-laws
 
 returns-5 : tie.Need-returns-5
-returns-5 c = search (processor-passes, speed-limit)
+returns-5 c = search record-laws
 
 returns-6 : tie.Need-returns-6
-returns-6 c = search (task-high, weight-limit)
+returns-6 c = search record-laws
 
 returns-7 : tie.Need-returns-7
-returns-7 c = search (task-passes, weight-limit)
+returns-7 c = search record-laws
 
 returns-8 : tie.Need-returns-8
-returns-8 c = search other-kind
+returns-8 c = search record-laws
 
 pub test-record-spec : {M : Type 1} → statement M
 test-record-spec =
