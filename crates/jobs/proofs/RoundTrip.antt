@@ -116,7 +116,7 @@ module _ (file : List ℕ) where
   accepted-valid e =
       let r = file-early file e in
       let q = in-range (recordCount file) (accepted-records file r) in
-      job-accepted .0 (counts-decide (weightsOf file) (speedsOf file) refl refl (q .speeds) (q .weights) ∙ sym (file-counts file r) ∙ e)
+      job-accepted .0 (sym (counts-decide (weightsOf file) (speedsOf file) refl (sym (q .speeds)) refl refl (sym (q .weights)) refl (sym e ∙ file-counts file r)))
 
 -- From the job: the first n records of its file hold these speeds and weights, and pass.
 pub record Back (file : List ℕ) (n : ℕ) (es ws : List ℕ) : Type 0 where
