@@ -1,36 +1,44 @@
--- The tests of a job by lists, one by one. The limits come as the code has them, m for the speed's and n for the weight's.
+-- The tests of a job by lists, as the code takes them: b and c say that all speeds and all weights are in range, m and n are
+-- the limits.
 -- Assumes nothing.
 use Prim.Native.Nat.{ℕ}
-use mathlib.Core.Path.{_≡_, ap, _∙_}
-use mathlib.Core.Bool.{Bool, true, false}
+use mathlib.Core.Path.{_≡_, sym, ap, _∙_}
+use mathlib.Core.Bool.{Bool, true, false, not}
 use mathlib.Core.List.{List, [], _∷_}
 use lib.Dec.{leb}
 use lib.ListN.{length}
+use borrow.Author.Tests.{not-true, not-false}
 use Rattle.chain.specs.Limits.{maxTasks, maxWeight, maxProcessors, maxSpeed}
 use Rattle.chain.specs.Job.{jobOf}
 use Rattle.chain.specs.Refusal.{Test, test, between, eachBetween, speedsTest, weightsTest, processorsTest, tasksTest, firstRefusal, jobTests}
+use Rattle.jobs.proofs.Limits.{speed-limit, weight-limit}
 use Rattle.jobs.proofs.Steps.{fails, passes}
 
-module _ (ws es : List ℕ) {m n : ℕ} (speed : maxSpeed ≡ m) (weight : maxWeight ≡ n) where
-  at-limit : {b : Bool} → eachBetween 1 m es ≡ b → eachBetween 1 maxSpeed es ≡ b
-  at-limit e = ap (λ (k : ℕ). eachBetween 1 k es) speed ∙ e
+module _ (ws es : List ℕ) {m : ℕ} (speed : maxSpeed ≡ m) {b : Bool} (speeds : b ≡ eachBetween 1 m es) where
+  each-speed : {c : Bool} → b ≡ c → eachBetween 1 maxSpeed es ≡ c
+  each-speed e = ap (λ (k : ℕ). eachBetween 1 k es) speed ∙ sym speeds ∙ e
 
-  at-limit′ : {b : Bool} → eachBetween 0 n ws ≡ b → eachBetween 0 maxWeight ws ≡ b
-  at-limit′ e = ap (λ (k : ℕ). eachBetween 0 k ws) weight ∙ e
-
-  pub speeds-fail : eachBetween 1 m es ≡ false → firstRefusal (jobTests (jobOf ws es)) ≡ 5
+  pub speeds-fail : not b ≡ true → 5 ≡ firstRefusal (jobTests (jobOf ws es))
   unfolding jobTests speedsTest
-  speeds-fail e = fails 5 (weightsTest ws ∷ processorsTest es ∷ tasksTest ws ∷ []) (at-limit e)
+  speeds-fail h = sym (fails 5 (weightsTest ws ∷ processorsTest es ∷ tasksTest ws ∷ []) (each-speed (not-true b h)))
 
-  pub weights-fail : eachBetween 1 m es ≡ true → eachBetween 0 n ws ≡ false → firstRefusal (jobTests (jobOf ws es)) ≡ 6
-  unfolding jobTests speedsTest weightsTest
-  weights-fail e f =
-      passes 5 (weightsTest ws ∷ processorsTest es ∷ tasksTest ws ∷ []) (at-limit e)
-      ∙ fails 6 (processorsTest es ∷ tasksTest ws ∷ []) (at-limit′ f)
+  module _ (h : not b ≡ false) {n : ℕ} (weight : maxWeight ≡ n) {c : Bool} (weights : c ≡ eachBetween 0 n ws) where
+    each-weight : {d : Bool} → c ≡ d → eachBetween 0 maxWeight ws ≡ d
+    each-weight e = ap (λ (k : ℕ). eachBetween 0 k ws) weight ∙ sym weights ∙ e
 
-  pub counts-decide : eachBetween 1 m es ≡ true → eachBetween 0 n ws ≡ true
-      → firstRefusal (jobTests (jobOf ws es)) ≡ firstRefusal (test 7 (between 1 maxProcessors (length es)) ∷ test 8 (leb (length ws) maxTasks) ∷ [])
-  unfolding jobTests speedsTest weightsTest processorsTest tasksTest
-  counts-decide e f =
-      passes 5 (weightsTest ws ∷ processorsTest es ∷ tasksTest ws ∷ []) (at-limit e)
-      ∙ passes 6 (processorsTest es ∷ tasksTest ws ∷ []) (at-limit′ f)
+    past-speeds : firstRefusal (jobTests (jobOf ws es)) ≡ firstRefusal (weightsTest ws ∷ processorsTest es ∷ tasksTest ws ∷ [])
+    unfolding jobTests speedsTest
+    past-speeds = passes 5 (weightsTest ws ∷ processorsTest es ∷ tasksTest ws ∷ []) (each-speed (not-false b h))
+
+    pub weights-fail : not c ≡ true → 6 ≡ firstRefusal (jobTests (jobOf ws es))
+    unfolding weightsTest
+    weights-fail k = sym (past-speeds ∙ fails 6 (processorsTest es ∷ tasksTest ws ∷ []) (each-weight (not-true c k)))
+
+    pub counts-decide : not c ≡ false → {r : ℕ} → r ≡ firstRefusal (test 7 (between 1 maxProcessors (length es)) ∷ test 8 (leb (length ws) maxTasks) ∷ [])
+        → r ≡ firstRefusal (jobTests (jobOf ws es))
+    unfolding weightsTest processorsTest tasksTest
+    counts-decide k e =
+        e ∙ sym (past-speeds ∙ passes 6 (processorsTest es ∷ tasksTest ws ∷ []) (each-weight (not-false c k)))
+
+-- For `search`: at each return the law that its tests meet.
+pub ruleset lists-laws = (speeds-fail, weights-fail, counts-decide, speed-limit, weight-limit)

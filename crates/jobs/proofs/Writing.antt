@@ -15,7 +15,8 @@ use Rattle.chain.specs.Refusal.{lengthTest, firstRefusal, jobTests, callTests, 
 use Rattle.jobs.specs.declared.JobWritten.{JobWritten}
 use Rattle.jobs.specs.JobFile.{processorKind, taskKind, recordsBytes, jobBytes}
 use Rattle.jobs.specs.Answers.{lentAfter, bytesNeeded, writeRefusal, writeAnswer, writeBytes}
-use Rattle.jobs.proofs.Tests.{job-numbered, first-refusal-append, first-refusal-before}
+use Rattle.jobs.specs.Inner.{Writes}
+use Rattle.chain.proofs.Refusals.{job-numbered, first-refusal-append, first-refusal-before}
 use Rattle.jobs.proofs.Steps.{fails, passes, passed-all}
 use Rattle.jobs.proofs.Records.{length-records}
 use Rattle.jobs.proofs.Lent.{lent-refused, lent-accepted}
@@ -27,8 +28,8 @@ length-bytes job =
     length-append (recordsBytes processorKind (job .speeds)) (recordsBytes taskKind (job .weights))
     ∙ omega (arith, length-records processorKind (job .speeds), length-records taskKind (job .weights))
 
--- Processors from record 0 on, then tasks from record P on.
-pub bytes-put : (ws es file : List ℕ)
+-- What the buffer holds after both kinds.
+bytes-put : (ws es file : List ℕ)
     → (let one : List ℕ = take (8 * 0) file ++ recordsBytes 1 es ++ drop (8 * (0 + length es)) file in
     take (8 * length es) one ++ recordsBytes 2 ws ++ drop (8 * (length es + length ws)) one)
     ≡ jobBytes (jobOf ws es) ++ drop (length (jobBytes (jobOf ws es))) file
@@ -68,30 +69,46 @@ module _ (job : Job) (lent : ℕ) where
   unfolding lengthTest
   long-enough e h = by-length e ∙ passes 9 [] (le-leb (bytesNeeded job) lent h) ∙ passed-all
 
--- What `write_job` answers and leaves at each of its ends.
-module _ (job : Job) (file : List ℕ) where
-  abbrev pub Wrote : JobWritten → List ℕ → Type 0
-  Wrote r now = (r ≡ writeAnswer job (length file)) × (now ≡ writeBytes job file)
+-- What a call answers and leaves, by its refusal.
+module _ (ws es file : List ℕ) where
+  abbrev job : Job
+  job = jobOf ws es
 
   answer : ℕ → JobWritten
   answer n = cond (eqb n 0) (JobWritten.Written (bytesNeeded job)) (JobWritten.Refused n)
 
-  refused : {n : ℕ} → n ≡ writeRefusal job (length file) → n ≢ 0 → Wrote (JobWritten.Refused n) file
+  refused : {n : ℕ} → n ≡ writeRefusal job (length file) → n ≢ 0 → Writes ws es file (JobWritten.Refused n) file
   unfolding writeAnswer writeBytes answer
-  refused {n} e h = (
-    sym (ap (λ (b : Bool). cond b (JobWritten.Written (bytesNeeded job)) (JobWritten.Refused n)) (ne-eqb n 0 h)) ∙ ap answer e,
-    sym (lent-refused h (jobBytes job) file) ∙ ap (λ (k : ℕ). lentAfter k (jobBytes job) file) e,
-  )
+  refused {n} e h =
+      record {
+        answers = sym (ap (λ (b : Bool). cond b (JobWritten.Written (bytesNeeded job)) (JobWritten.Refused n)) (ne-eqb n 0 h)) ∙ ap answer e;
+        into-file = sym (lent-refused h (jobBytes job) file) ∙ ap (λ (k : ℕ). lentAfter k (jobBytes job) file) e;
+      }
 
-  pub wrote-job : {n : ℕ} → n ≡ firstRefusal (jobTests job) → n ≢ 0 → Wrote (JobWritten.Refused n) file
-  wrote-job {n} e h = refused (e ∙ sym (by-job job (length file) (λ z. h (e ∙ z)))) h
+  pub write-refused : {n : ℕ} → n ≡ firstRefusal (jobTests job) → n ≢ 0 → Writes ws es file (JobWritten.Refused n) file
+  write-refused {n} e h = refused (e ∙ sym (by-job job (length file) (λ z. h (e ∙ z)))) h
 
-  pub wrote-short : firstRefusal (jobTests job) ≡ 0 → length file < bytesNeeded job → Wrote (JobWritten.Refused 9) file
-  wrote-short e h = refused (sym (too-short job (length file) e h)) (omega arith)
+  pub write-short : firstRefusal (jobTests job) ≡ 0 → length file < bytesNeeded job → Writes ws es file (JobWritten.Refused 9) file
+  write-short e h = refused (sym (too-short job (length file) e h)) (omega arith)
 
-  pub wrote-all : firstRefusal (jobTests job) ≡ 0 → bytesNeeded job ≤ length file
-      → Wrote (JobWritten.Written (bytesNeeded job)) (jobBytes job ++ drop (length (jobBytes job)) file)
+  pub write-all : firstRefusal (jobTests job) ≡ 0 → bytesNeeded job ≤ length file
+      → Writes ws es file (JobWritten.Written (bytesNeeded job)) (jobBytes job ++ drop (length (jobBytes job)) file)
   unfolding writeAnswer writeBytes answer
-  wrote-all e h =
+  write-all e h =
       let z : 0 ≡ writeRefusal job (length file) = sym (long-enough job (length file) e h) in
-      (ap answer z, sym (lent-accepted (jobBytes job) file) ∙ ap (λ (k : ℕ). lentAfter k (jobBytes job) file) z)
+      record { answers = ap answer z; into-file = sym (lent-accepted (jobBytes job) file) ∙ ap (λ (k : ℕ). lentAfter k (jobBytes job) file) z }
+
+  -- Processors from record 0 on, then tasks from record P on.
+  pub write-both : firstRefusal (jobTests job) ≡ 0 → bytesNeeded job ≤ length file → {one two : List ℕ}
+      → one ≡ take (8 * 0) file ++ recordsBytes 1 es ++ drop (8 * (0 + length es)) file
+      → two ≡ take (8 * length es) one ++ recordsBytes 2 ws ++ drop (8 * (length es + length ws)) one
+      → Writes ws es file (JobWritten.Written (bytesNeeded job)) two
+  write-both e h x y =
+      let w = write-all e h in
+      record {
+        answers = w .answers;
+        into-file = y ∙ ap (λ (l : List ℕ). take (8 * length es) l ++ recordsBytes 2 ws ++ drop (8 * (length es + length ws)) l) x ∙ bytes-put ws es file ∙ w .into-file;
+      }
+
+-- For `search`: at each return the law that its tests meet.
+pub ruleset write-laws = (write-short, write-both)

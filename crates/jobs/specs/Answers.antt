@@ -5,9 +5,9 @@ use mathlib.Core.List.{List, [], _∷_, _++_}
 use lib.ListN.{length, drop}
 use lib.Dec.{eqb}
 use Rattle.chain.specs.Job.{Job, tasks, processors}
-use Rattle.chain.specs.Refusal.{Test, lengthTest, firstRefusal, refusal}
+use Rattle.chain.specs.Refusal.{Test, lengthTest, firstRefusal, Inputs, refusal}
 use Rattle.jobs.specs.JobFile.{jobBytes}
-use Rattle.jobs.specs.Parse.{speedsOf, weightsOf, fileTests, fileRefusal}
+use Rattle.jobs.specs.Parse.{speedsOf, weightsOf, fileTests}
 use Rattle.jobs.specs.declared.JobRead.{JobRead}
 use Rattle.jobs.specs.declared.JobWritten.{JobWritten}
 
@@ -67,10 +67,12 @@ readWeights file speeds weights = lentAfter (readRefusal file (length speeds) (l
 abbrev pub bytesNeeded : Job → ℕ
 bytesNeeded job = 8 * (tasks job + processors job)
 
+abbrev pub writeInputs : Job → ℕ → Inputs
+writeInputs job lent =
+    record { methods = []; lists = record { needed = bytesNeeded job; given = lent } ∷ []; bounds = []; divisions = [] }
+
 unfoldable pub writeRefusal : Job → ℕ → ℕ
-writeRefusal job lent =
-    refusal job
-    (record { methods = []; lists = record { needed = bytesNeeded job; given = lent } ∷ []; bounds = []; divisions = [] })
+writeRefusal job lent = refusal job (writeInputs job lent)
 
 unfoldable pub writeAnswer : Job → ℕ → JobWritten
 writeAnswer job lent =

@@ -1,3 +1,4 @@
 pub mod JobFile
 pub mod Parse
 pub mod Answers
+pub mod Inner

@@ -39,12 +39,13 @@ taskBefore file (suc i) = taskBefore file i || isKind taskKind file i
 unfoldable pub multipleTest : List ℕ → Test
 multipleTest file = test 2 (eqb (length file % 8) 0)
 
+-- "bytes 1 to 3 are zero"
+unfoldable pub blank : List ℕ → ℕ → Bool
+blank file i = eqb (byteAt file i 1) 0 && eqb (byteAt file i 2) 0 && eqb (byteAt file i 3) 0
+
 -- "3, a kind other than 1 or 2, or bytes 1 to 3 not zero."
 unfoldable pub formTest : List ℕ → ℕ → Test
-formTest file i =
-    test 3
-    ((isKind processorKind file i || isKind taskKind file i) && eqb (byteAt file i 1) 0 && eqb (byteAt file i 2) 0
-    && eqb (byteAt file i 3) 0)
+formTest file i = test 3 ((isKind processorKind file i || isKind taskKind file i) && blank file i)
 
 -- "4, a machine after a tile."
 unfoldable pub orderTest : List ℕ → ℕ → Test

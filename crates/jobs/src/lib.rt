@@ -1,5 +1,5 @@
 // A job by lists and by file: the tests, reading and writing.
-ghost use Prim.Native.Nat.{_+_, _*_, _≤_};
+ghost use Prim.Native.Nat.{_+_, _*_, _<_, _≤_};
 ghost use mathlib.Core.Path.{_≡_};
 ghost use mathlib.Core.List.{[], _∷_, _++_};
 ghost use lib.ListN.{length, take, drop};
@@ -7,8 +7,11 @@ ghost use lib.Dec.{leb};
 ghost use Rattle.chain.specs.Limits.{maxProcessors, maxTasks};
 ghost use Rattle.chain.specs.Job.{jobOf};
 ghost use Rattle.chain.specs.Refusal.{test, between, eachBetween, firstRefusal, jobTests};
-ghost use Rattle.jobs.specs.JobFile.{recordBytes, recordsBytes};
-ghost use Rattle.jobs.specs.Answers.{writeAnswer, writeBytes};
+ghost use Rattle.chain.specs.Lists.{tabulate};
+ghost use Rattle.jobs.specs.JobFile.{taskKind, recordBytes, recordsBytes};
+ghost use Rattle.jobs.specs.Parse.{recordCount, byteAt, kindAt, valueAt, blank, recordTests, valuesOf};
+ghost use Rattle.jobs.specs.Answers.{answerOf, readAnswer, readSpeeds, readWeights, writeAnswer, writeBytes};
+ghost use Rattle.jobs.specs.Inner.{recordsRefusal, Accepted, Reads, Writes};
 
 // The limits of a job.
 pub const MAX_TASKS: usize = 2048;
@@ -106,6 +109,20 @@ fn put_records(kind: u8, values: &[u32], from: usize, file: &mut [u8])
     }
 }
 
+// The rest of writing, where the job is accepted: the records, or 9. Inner: the job's tests pass.
+fn write_tested(speeds: &[u32], weights: &[u32], file: &mut [u8]) -> JobWritten
+    requires { ⌜ firstRefusal (jobTests (jobOf (now weights) (now speeds))) ≡ 0 ⌝ }
+    ensures { λ r. ⌜ Writes (now (weights .entry)) (now (speeds .entry)) (now (file .entry)) r (now (file .exit)) ⌝ }
+{
+    let needed = 8 * (weights.len() + speeds.len());
+    if file.len() < needed {
+        return JobWritten::Refused(9);
+    }
+    put_records(1, speeds, 0, file);
+    put_records(2, weights, speeds.len(), file);
+    JobWritten::Written(needed)
+}
+
 // Writes a job file: the count of its bytes, or the refusal: 5, 6, 7, 8 or 9, in this order. Later bytes stay.
 pub fn write_job(speeds: &[u32], weights: &[u32], file: &mut [u8]) -> JobWritten
     ensures answer { λ r. ⌜ r ≡ writeAnswer (jobOf (now (weights .entry)) (now (speeds .entry))) (length (now (file .entry))) ⌝ }
@@ -115,11 +132,165 @@ pub fn write_job(speeds: &[u32], weights: &[u32], file: &mut [u8]) -> JobWritten
     if found != 0 {
         return JobWritten::Refused(found);
     }
-    let needed = 8 * (weights.len() + speeds.len());
-    if file.len() < needed {
-        return JobWritten::Refused(9);
+    write_tested(speeds, weights, file)
+}
+
+// A byte as a wider number. Inner.
+fn wide(x: u8) -> u32
+    ensures { λ r. ⌜ r ≡ x ⌝ }
+{
+    x as u32
+}
+
+// Byte k of record i. Inner: the record is in the file.
+fn byte_at(file: &[u8], i: usize, k: usize) -> u32
+    requires { ⌜ (i < recordCount (now file)) × (k < 8) ⌝ }
+    ensures { λ r. ⌜ (r ≡ byteAt (now (file .entry)) i k) × (r < 256) ⌝ }
+{
+    wide(file[8 * i + k])
+}
+
+// The kind of record i. Inner: the record is in the file.
+fn kind_at(file: &[u8], i: usize) -> u32
+    requires { ⌜ i < recordCount (now file) ⌝ }
+    ensures { λ r. ⌜ r ≡ kindAt (now (file .entry)) i ⌝ }
+{
+    byte_at(file, i, 0)
+}
+
+// The value of record i. Inner: the record is in the file.
+fn value_at(file: &[u8], i: usize) -> u32
+    requires { ⌜ i < recordCount (now file) ⌝ }
+    ensures { λ r. ⌜ r ≡ valueAt (now (file .entry)) i ⌝ }
+{
+    byte_at(file, i, 4)
+        + 256 * byte_at(file, i, 5)
+        + 65536 * byte_at(file, i, 6)
+        + 16777216 * byte_at(file, i, 7)
+}
+
+// Whether bytes 1 to 3 of record i are zero. Inner: the record is in the file.
+fn blank_at(file: &[u8], i: usize) -> bool
+    requires { ⌜ i < recordCount (now file) ⌝ }
+    ensures { λ r. ⌜ r ≡ blank (now (file .entry)) i ⌝ }
+{
+    if byte_at(file, i, 1) != 0 {
+        return false;
     }
-    put_records(1, speeds, 0, file);
-    put_records(2, weights, speeds.len(), file);
-    JobWritten::Written(needed)
+    if byte_at(file, i, 2) != 0 {
+        return false;
+    }
+    byte_at(file, i, 3) == 0
+}
+
+// The tests of record i: 0, 3, 4, 5 or 6. Inner: the record is in the file, and `tasks` counts the tasks before it.
+fn test_record(file: &[u8], i: usize, tasks: usize) -> u32
+    requires { ⌜ (i < recordCount (now file)) × (tasks ≡ length (valuesOf taskKind (now file) i)) ⌝ }
+    ensures { λ r. ⌜ r ≡ firstRefusal (recordTests (now (file .entry)) i) ⌝ }
+{
+    let kind = kind_at(file, i);
+    let value = value_at(file, i);
+    if !blank_at(file, i) {
+        return 3;
+    }
+    if kind == 1 {
+        if 0 < tasks {
+            return 4;
+        }
+        if value == 0 {
+            return 5;
+        }
+        if MAX_SPEED < value {
+            return 5;
+        }
+        return 0;
+    }
+    if kind == 2 {
+        if MAX_WEIGHT < value {
+            return 6;
+        }
+        return 0;
+    }
+    3
+}
+
+// The tests of the file's length and of its records: their counts, or the refusal: 2 to 6. Inner.
+fn test_records(file: &[u8]) -> JobRead
+    ensures { λ r. ⌜ r ≡ answerOf (recordsRefusal (now (file .entry))) (now (file .entry)) ⌝ }
+{
+    if file.len() % 8 != 0 {
+        return JobRead::Refused(2);
+    }
+    let records = file.len() / 8;
+    let mut processors = 0;
+    let mut tasks = 0;
+    let mut i = 0;
+    while i < records {
+        let found = test_record(file, i, tasks);
+        if found != 0 {
+            return JobRead::Refused(found);
+        }
+        if kind_at(file, i) == 1 {
+            processors += 1;
+        } else {
+            tasks += 1;
+        }
+        i += 1;
+    }
+    JobRead::Read { processors, tasks }
+}
+
+// The values of `count` records from record `from` on, into the first entries of a list. Inner: the records are in the file, and
+// the list is long enough.
+fn copy_values(file: &[u8], from: usize, count: usize, out: &mut [u32])
+    requires { ⌜ (from + count ≤ recordCount (now file)) × (count ≤ length (now out)) ⌝ }
+    ensures { λ _. ⌜ now (out .exit) ≡ tabulate (λ j. valueAt (now (file .entry)) (from + j)) count ++ drop count (now (out .entry)) ⌝ }
+{
+    let mut j = 0;
+    while j < count {
+        out[j] = value_at(file, from + j);
+        j += 1;
+    }
+}
+
+// The rest of reading, where the file's length and records are accepted: 7, 8 or 9. Inner: the counts are the file's.
+fn read_tested(
+    file: &[u8],
+    processors: usize,
+    tasks: usize,
+    speeds: &mut [u32],
+    weights: &mut [u32],
+) -> JobRead
+    requires { ⌜ Accepted (now file) processors tasks ⌝ }
+    ensures { λ r. ⌜ Reads (now (file .entry)) (now (speeds .entry)) (now (weights .entry)) r (now (speeds .exit)) (now (weights .exit)) ⌝ }
+{
+    let found = test_counts(processors, tasks);
+    if found != 0 {
+        return JobRead::Refused(found);
+    }
+    if weights.len() < tasks {
+        return JobRead::Refused(9);
+    }
+    if speeds.len() < processors {
+        return JobRead::Refused(9);
+    }
+    copy_values(file, 0, processors, speeds);
+    copy_values(file, processors, tasks, weights);
+    JobRead::Read { processors, tasks }
+}
+
+// Reads a job file: the counts of processors and tasks, or the refusal: 2; 3 to 6, record by record; 7, 8 or 9. Later entries
+// stay.
+pub fn read_job(file: &[u8], speeds: &mut [u32], weights: &mut [u32]) -> JobRead
+    ensures answer { λ r. ⌜ r ≡ readAnswer (now (file .entry)) (length (now (speeds .entry))) (length (now (weights .entry))) ⌝ }
+    ensures speeds { λ _. ⌜ now (speeds .exit) ≡ readSpeeds (now (file .entry)) (now (speeds .entry)) (now (weights .entry)) ⌝ }
+    ensures weights { λ _. ⌜ now (weights .exit) ≡ readWeights (now (file .entry)) (now (speeds .entry)) (now (weights .entry)) ⌝ }
+{
+    let records = test_records(file);
+    match records {
+        JobRead::Refused(number) => JobRead::Refused(number),
+        JobRead::Read { processors, tasks } => {
+            read_tested(file, processors, tasks, speeds, weights)
+        }
+    }
 }

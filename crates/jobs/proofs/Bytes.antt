@@ -1,0 +1,140 @@
+-- A record's bytes, both ways: what its places hold makes its bytes, and its bytes are what its places hold.
+-- Assumes nothing.
+use Prim.Native.Nat.{ℕ, zero, suc, _+_, _*_, _/_, _%_, _≤_, _<_}
+use mathlib.Core.Path.{_≡_, refl, sym, ap, ap₂, subst, _∙_}
+use mathlib.Core.Bool.{Bool, true, false, _&&_}
+use mathlib.Core.List.{List, [], _∷_, _++_, append-assoc, append-nil}
+use native.Mathlib.Omega.{arith}
+use native.Mathlib.Nat.{div-div-eq-div-mul}
+use lib.Dec.{eqb}
+use lib.ListN.{length, getD, take, drop, length-append, length-drop, List·getD-append}
+use lib.Seq.{take-add, getD-take, getD-drop, getD-append-add, length-take-le, ext-getD}
+use borrow.Author.Tests.{eq-eqb, eqb-true}
+use Rattle.jobs.specs.JobFile.{fieldBytes, recordBytes, recordsBytes}
+use Rattle.jobs.specs.Parse.{byteAt, kindAt, valueAt, blank}
+use Rattle.jobs.proofs.Records.{length-record, length-records}
+
+-- A file of bytes.
+abbrev pub Bytes : List ℕ → Type 0
+Bytes file = (i : ℕ) → getD file i 0 < 256
+
+-- Four digits to the base 256, the lowest first.
+module _ (a b c d : ℕ) (ha : a < 256) (hb : b < 256) (hc : c < 256) (hd : d < 256) where
+  digit-0 : a ≡ (a + 256 * b + 65536 * c + 16777216 * d) % 256
+  digit-0 = omega arith
+
+  digit-1 : b ≡ (a + 256 * b + 65536 * c + 16777216 * d) / 256 % 256
+  digit-1 = omega arith
+
+  digit-2 : c ≡ (a + 256 * b + 65536 * c + 16777216 * d) / 65536 % 256
+  digit-2 = omega arith
+
+  digit-3 : d ≡ (a + 256 * b + 65536 * c + 16777216 * d) / 16777216 % 256
+  digit-3 = omega arith
+
+digits : (v : ℕ) → v < 4294967296 → v % 256 + 256 * (v / 256 % 256) + 65536 * (v / 65536 % 256) + 16777216 * (v / 16777216 % 256) ≡ v
+digits v h =
+    let d : v / 65536 ≡ v / 256 / 256 = sym (div-div-eq-div-mul v 256 256) in
+    let e : v / 16777216 ≡ v / 256 / 256 / 256 = sym (div-div-eq-div-mul v 65536 256) ∙ ap (λ (q : ℕ). q / 256) d in
+    ap₂ (λ (p q : ℕ). v % 256 + 256 * (v / 256 % 256) + 65536 * (p % 256) + 16777216 * (q % 256)) d e ∙ sum (v / 256) (v / 256 / 256) refl refl
+  where
+    sum : (q r : ℕ) → q ≡ v / 256 → r ≡ q / 256 → v % 256 + 256 * (q % 256) + 65536 * (r % 256) + 16777216 * (r / 256 % 256) ≡ v
+    sum q r f g = omega arith
+
+-- The three tests of bytes 1 to 3.
+module _ (file : List ℕ) (i : ℕ) where
+  pub record Zeros : Type 0 where
+    pub first : byteAt file i 1 ≡ 0
+    pub second : byteAt file i 2 ≡ 0
+    pub third : byteAt file i 3 ≡ 0
+
+  pub blank-zeros : blank file i ≡ true → Zeros
+  unfolding blank
+  blank-zeros e = go (eqb (byteAt file i 1) 0) refl (eqb (byteAt file i 2) 0) refl (eqb (byteAt file i 3) 0) refl e
+    where
+      go : (a : Bool) → eqb (byteAt file i 1) 0 ≡ a → (b : Bool) → eqb (byteAt file i 2) 0 ≡ b → (c : Bool) → eqb (byteAt file i 3) 0 ≡ c
+          → (a && b && c) ≡ true → Zeros
+      go true x true y true z e =
+          record { first = eqb-true (byteAt file i 1) 0 x; second = eqb-true (byteAt file i 2) 0 y; third = eqb-true (byteAt file i 3) 0 z }
+      go true x true y false z e = absurd (let w : _≡_ {A = ℕ} 0 1 = cc in omega arith)
+      go true x false y c z e = absurd (let w : _≡_ {A = ℕ} 0 1 = cc in omega arith)
+      go false x b y c z e = absurd (let w : _≡_ {A = ℕ} 0 1 = cc in omega arith)
+
+  pub zeros-blank : Zeros → blank file i ≡ true
+  unfolding blank
+  zeros-blank z =
+      ap₂ (λ (a b : Bool). a && b && eqb (byteAt file i 3) 0) (eq-eqb (byteAt file i 1) 0 (z .first)) (eq-eqb (byteAt file i 2) 0 (z .second))
+      ∙ eq-eqb (byteAt file i 3) 0 (z .third)
+
+  -- The bytes of record i are those of a record of its kind and its value.
+  pub place-bytes : Bytes file → Zeros → (j : ℕ) → j < 8 → byteAt file i j ≡ getD (recordBytes (kindAt file i) (valueAt file i)) j 0
+  unfolding recordBytes fieldBytes kindAt valueAt byteAt
+  place-bytes b z zero h = refl
+  place-bytes b z (suc zero) h = z .first
+  place-bytes b z (suc (suc zero)) h = z .second
+  place-bytes b z (suc (suc (suc zero))) h = z .third
+  place-bytes b z (suc (suc (suc (suc zero)))) h = digit-0 (byteAt file i 4) (byteAt file i 5) (byteAt file i 6) (byteAt file i 7) (b (8 * i + 4)) (b (8 * i + 5)) (b (8 * i + 6)) (b (8 * i + 7))
+  place-bytes b z (suc (suc (suc (suc (suc zero))))) h = digit-1 (byteAt file i 4) (byteAt file i 5) (byteAt file i 6) (byteAt file i 7) (b (8 * i + 4)) (b (8 * i + 5)) (b (8 * i + 6)) (b (8 * i + 7))
+  place-bytes b z (suc (suc (suc (suc (suc (suc zero)))))) h = digit-2 (byteAt file i 4) (byteAt file i 5) (byteAt file i 6) (byteAt file i 7) (b (8 * i + 4)) (b (8 * i + 5)) (b (8 * i + 6)) (b (8 * i + 7))
+  place-bytes b z (suc (suc (suc (suc (suc (suc (suc zero))))))) h = digit-3 (byteAt file i 4) (byteAt file i 5) (byteAt file i 6) (byteAt file i 7) (b (8 * i + 4)) (b (8 * i + 5)) (b (8 * i + 6)) (b (8 * i + 7))
+  place-bytes b z (suc (suc (suc (suc (suc (suc (suc (suc j)))))))) h = absurd (let w : ⊥ = omega arith in w)
+
+-- Eight bytes from the front of record n.
+pub next-record : (file : List ℕ) (n : ℕ) → 8 * suc n ≤ length file → Bytes file → blank file n ≡ true
+    → take (8 * suc n) file ≡ take (8 * n) file ++ recordBytes (kindAt file n) (valueAt file n)
+next-record file n h b z =
+    ap (λ (k : ℕ). take k file) (let e : 8 * suc n ≡ 8 * n + 8 = omega arith in e) ∙ take-add (8 * n) 8 file
+    ∙ ap (λ (l : List ℕ). take (8 * n) file ++ l) eight
+  where
+    long : length (take 8 (drop (8 * n) file)) ≡ 8
+    long = length-take-le 8 (drop (8 * n) file) (omega (arith, length-drop (8 * n) file))
+
+    eight : take 8 (drop (8 * n) file) ≡ recordBytes (kindAt file n) (valueAt file n)
+    eight =
+        ext-getD 0 (take 8 (drop (8 * n) file)) (recordBytes (kindAt file n) (valueAt file n)) (long ∙ sym (length-record (kindAt file n) (valueAt file n)))
+        (λ i l. getD-take 8 (drop (8 * n) file) i 0 (omega (arith, long)) ∙ getD-drop (8 * n) file i 0 ∙ place-byte i (omega (arith, long)))
+      where
+        place-byte : (i : ℕ) → i < 8 → getD file (8 * n + i) 0 ≡ getD (recordBytes (kindAt file n) (valueAt file n)) i 0
+        place-byte i l = unfold byteAt in place-bytes file n b (blank-zeros file n z) i l
+
+-- The other way: record i of a file is one of this kind and this value.
+pub record Holds (file : List ℕ) (i kind v : ℕ) : Type 0 where
+  pub bytes : (j : ℕ) → j < 8 → byteAt file i j ≡ getD (recordBytes kind v) j 0
+
+module _ {file : List ℕ} {i kind v : ℕ} (h : Holds file i kind v) where
+  pub holds-kind : kindAt file i ≡ kind
+  unfolding kindAt recordBytes
+  holds-kind = h .bytes 0 (omega arith)
+
+  pub holds-blank : blank file i ≡ true
+  unfolding recordBytes
+  holds-blank =
+      zeros-blank file i (record { first = h .bytes 1 (omega arith); second = h .bytes 2 (omega arith); third = h .bytes 3 (omega arith) })
+
+  pub holds-value : v < 4294967296 → valueAt file i ≡ v
+  unfolding valueAt recordBytes fieldBytes
+  holds-value l =
+      omega (arith, h .bytes 4 (omega arith), h .bytes 5 (omega arith), h .bytes 6 (omega arith), h .bytes 7 (omega arith), digits v l)
+
+-- Record i of a run of records, and what comes after them.
+module _ (kind : ℕ) where
+  front : (v : ℕ) (vs rest : List ℕ) → recordsBytes kind (v ∷ vs) ++ rest ≡ recordBytes kind v ++ (recordsBytes kind vs ++ rest)
+  unfolding recordsBytes
+  front v vs rest = append-assoc (recordBytes kind v) (recordsBytes kind vs) rest
+
+  pub run-record : (vs rest : List ℕ) (i : ℕ) → i < length vs → Holds (recordsBytes kind vs ++ rest) i kind (getD vs i 0)
+  unfolding byteAt
+  run-record [] rest i h = absurd (let z : ⊥ = omega arith in z)
+  run-record (v ∷ vs) rest zero h =
+      record { bytes = λ j l. ap (λ (n : ℕ). getD (recordsBytes kind (v ∷ vs) ++ rest) n 0) (let e : 8 * 0 + j ≡ j = omega arith in e) ∙ ap (λ (s : List ℕ). getD s j 0) (front v vs rest) ∙ List·getD-append (recordBytes kind v) (recordsBytes kind vs ++ rest) 0 j (omega (arith, length-record kind v)) }
+  run-record (v ∷ vs) rest (suc i) h =
+      record {
+        bytes = λ j l. ap (λ (n : ℕ). getD (recordsBytes kind (v ∷ vs) ++ rest) n 0) (let e : 8 * suc i + j ≡ length (recordBytes kind v) + (8 * i + j) = omega (arith, length-record kind v) in e) ∙ ap (λ (s : List ℕ). getD s (length (recordBytes kind v) + (8 * i + j)) 0) (front v vs rest) ∙ getD-append-add (recordBytes kind v) (recordsBytes kind vs ++ rest) (8 * i + j) 0 ∙ run-record vs rest i (omega arith) .bytes j l;
+      }
+
+  pub after-run : (vs rest : List ℕ) (i k v : ℕ) → Holds rest i k v → Holds (recordsBytes kind vs ++ rest) (length vs + i) k v
+  unfolding byteAt
+  after-run vs rest i k v h =
+      record {
+        bytes = λ j l. ap (λ (n : ℕ). getD (recordsBytes kind vs ++ rest) n 0) (let e : 8 * (length vs + i) + j ≡ length (recordsBytes kind vs) + (8 * i + j) = omega (arith, length-records kind vs) in e) ∙ getD-append-add (recordsBytes kind vs) rest (8 * i + j) 0 ∙ h .bytes j l;
+      }

@@ -1,0 +1,143 @@
+-- What the calls promise: each number exactly when its test is the first to fail; a file read and written, a job written and read.
+-- Assumes nothing.
+use Prim.Native.Nat.{ℕ, zero, suc, _+_, _*_, _≤_, _<_}
+use mathlib.Core.Path.{_≡_, refl, sym, ap, ap₂, subst, _∙_}
+use mathlib.Core.Bool.{Bool, true, false, cond}
+use mathlib.Core.List.{List, [], _∷_, _++_}
+use mathlib.Core.Logic.{_≢_, _↔_}
+use native.Mathlib.Omega.{arith}
+use lib.Dec.{eqb}
+use lib.ListN.{length, drop}
+use borrow.Author.Tests.{le-leb, eqb-true}
+use Rattle.chain.specs.Job.{Job, tasks, processors, Valid}
+use Rattle.chain.specs.Refusal.{Test, lengthTest, processorsTest, tasksTest, firstRefusal, jobTests, callTests, refusal}
+use Rattle.chain.proofs.Refusals.{Numbered, numbered-nil, numbered-cons, numbered-append, first-refusal-append, FirstFailing, failing-refused, refused-failing, job-accepted}
+use Rattle.jobs.specs.JobFile.{jobBytes}
+use Rattle.jobs.specs.Parse.{recordCount, multipleTest, recordsTests, speedsOf, weightsOf, jobIn, fileTests, fileRefusal}
+use Rattle.jobs.specs.Answers.{readNumber, readProcessors, readTasks, writtenNumber, writtenBytes, lentAfter, answerOf, readTests, readRefusal, readAnswer, readSpeeds, readWeights, bytesNeeded, writeInputs, writeRefusal, writeAnswer, writeBytes}
+use Rattle.jobs.specs.Inner.{Writes}
+use Rattle.jobs.specs.declared.JobRead.{JobRead}
+use Rattle.jobs.specs.declared.JobWritten.{JobWritten}
+use Rattle.jobs.proofs.Steps.{passes, passed-all}
+use Rattle.jobs.proofs.Lent.{lent-accepted}
+use Rattle.jobs.proofs.AllRecords.{records-numbered, answer-read}
+use Rattle.jobs.proofs.Writing.{length-bytes, write-all}
+use Rattle.jobs.proofs.Bytes.{Bytes}
+use Rattle.jobs.proofs.RoundTrip.{written-back, accepted-valid, speeds-back, weights-back, bytes-accepted}
+
+-- Numbers above 0.
+pub file-numbered : (file : List ℕ) → Numbered (fileTests file)
+unfolding fileTests multipleTest processorsTest tasksTest
+file-numbered file =
+    numbered-cons (omega arith)
+    (numbered-append (records-numbered file (recordCount file)) (numbered-cons (omega arith) (numbered-cons (omega arith) numbered-nil)))
+
+pub read-numbered : (file : List ℕ) (lentSpeeds lentWeights : ℕ) → Numbered (readTests file lentSpeeds lentWeights)
+unfolding readTests lengthTest
+read-numbered file lentSpeeds lentWeights =
+    numbered-append (file-numbered file) (numbered-cons (omega arith) (numbered-cons (omega arith) numbered-nil))
+
+-- The answers' numbers and values.
+pub read-number : (file : List ℕ) (lentSpeeds lentWeights : ℕ) → readNumber (readAnswer file lentSpeeds lentWeights) ≡ readRefusal file lentSpeeds lentWeights
+unfolding readNumber readAnswer answerOf
+read-number file lentSpeeds lentWeights = go (readRefusal file lentSpeeds lentWeights) (eqb (readRefusal file lentSpeeds lentWeights) 0) refl
+  where
+    go : (m : ℕ) (b : Bool) → eqb m 0 ≡ b → readNumber (cond b (JobRead.Read (length (speedsOf file)) (length (weightsOf file))) (JobRead.Refused m)) ≡ m
+    go m true e = sym (eqb-true m 0 e)
+    go m false e = refl
+
+pub read-processors : (file : List ℕ) (lentSpeeds lentWeights : ℕ) → readRefusal file lentSpeeds lentWeights ≡ 0
+    → readProcessors (readAnswer file lentSpeeds lentWeights) ≡ length (speedsOf file)
+unfolding readProcessors readAnswer
+read-processors file lentSpeeds lentWeights e = ap readProcessors (sym (answer-read file e refl refl))
+
+pub read-tasks : (file : List ℕ) (lentSpeeds lentWeights : ℕ) → readRefusal file lentSpeeds lentWeights ≡ 0
+    → readTasks (readAnswer file lentSpeeds lentWeights) ≡ length (weightsOf file)
+unfolding readTasks readAnswer
+read-tasks file lentSpeeds lentWeights e = ap readTasks (sym (answer-read file e refl refl))
+
+module _ (job : Job) (lent : ℕ) where
+  answered : ℕ → Bool → JobWritten
+  answered m b = cond b (JobWritten.Written (bytesNeeded job)) (JobWritten.Refused m)
+
+  pub written-number : writtenNumber (writeAnswer job lent) ≡ writeRefusal job lent
+  unfolding writtenNumber writeAnswer answered
+  written-number = go (writeRefusal job lent) (eqb (writeRefusal job lent) 0) refl
+    where
+      go : (m : ℕ) (b : Bool) → eqb m 0 ≡ b → writtenNumber (answered m b) ≡ m
+      go m true e = sym (eqb-true m 0 e)
+      go m false e = refl
+
+  pub written-bytes : writeRefusal job lent ≡ 0 → writtenBytes (writeAnswer job lent) ≡ bytesNeeded job
+  unfolding writtenBytes writeAnswer answered
+  written-bytes e = ap (λ (m : ℕ). writtenBytes (answered m (eqb m 0))) e
+
+-- A number is given exactly when its test is the first to fail.
+pub gives : (ts : List Test) {n : ℕ} → n ≢ 0 → (firstRefusal ts ≡ n) ↔ FirstFailing ts n
+gives ts {n} h = (λ e. subst (FirstFailing ts) e (refused-failing ts (λ z. h (sym e ∙ z))), failing-refused)
+
+pub job-gives : (job : Job) {n : ℕ} → n ≢ 0 → (firstRefusal (jobTests job) ≡ n) ↔ FirstFailing (jobTests job) n
+job-gives job h = gives (jobTests job) h
+
+pub read-gives : (file : List ℕ) (lentSpeeds lentWeights : ℕ) {n : ℕ} → n ≢ 0
+    → (readNumber (readAnswer file lentSpeeds lentWeights) ≡ n) ↔ FirstFailing (readTests file lentSpeeds lentWeights) n
+unfolding readRefusal
+read-gives file a b {n} h =
+    subst (λ (m : ℕ). (m ≡ n) ↔ FirstFailing (readTests file a b) n) (sym (read-number file a b)) (gives (readTests file a b) h)
+
+pub write-gives : (job : Job) (lent : ℕ) {n : ℕ} → n ≢ 0
+    → (writtenNumber (writeAnswer job lent) ≡ n) ↔ FirstFailing (callTests job (writeInputs job lent)) n
+unfolding writeRefusal refusal
+write-gives job lent {n} h =
+    subst (λ (m : ℕ). (m ≡ n) ↔ FirstFailing (callTests job (writeInputs job lent)) n) (sym (written-number job lent))
+    (gives (callTests job (writeInputs job lent)) h)
+
+-- An accepted file, read and then written into a buffer that is long enough, is there again.
+pub record WrittenAgain (file buffer : List ℕ) : Type 0 where
+  pub answer : writeAnswer (jobIn file) (length buffer) ≡ JobWritten.Written (length file)
+  pub bytes : writeBytes (jobIn file) buffer ≡ file ++ drop (length file) buffer
+
+pub written-again : (file buffer : List ℕ) → Bytes file → fileRefusal file ≡ 0 → length file ≤ length buffer → WrittenAgain file buffer
+written-again file buffer b e h =
+    record { answer = sym (w .answers) ∙ ap JobWritten.Written (sym long); bytes = sym (w .into-file) ∙ ap (λ (l : List ℕ). l ++ drop (length l) buffer) same }
+  where
+    same : jobBytes (jobIn file) ≡ file
+    same = written-back file b e
+
+    long : length file ≡ bytesNeeded (jobIn file)
+    long = sym (ap length same) ∙ length-bytes (jobIn file)
+
+    w : Writes (weightsOf file) (speedsOf file) buffer (JobWritten.Written (bytesNeeded (jobIn file))) (jobBytes (jobIn file) ++ drop (length (jobBytes (jobIn file))) buffer)
+    w = write-all (weightsOf file) (speedsOf file) buffer (job-accepted .1 (accepted-valid file e)) (omega (arith, long))
+
+read-fits : (file : List ℕ) (lentSpeeds lentWeights : ℕ) → fileRefusal file ≡ 0 → length (speedsOf file) ≤ lentSpeeds
+    → length (weightsOf file) ≤ lentWeights → readRefusal file lentSpeeds lentWeights ≡ 0
+unfolding fileRefusal readRefusal readTests lengthTest
+read-fits file a b e h k =
+    first-refusal-append (fileTests file) (lengthTest (length (weightsOf file)) b ∷ lengthTest (length (speedsOf file)) a ∷ []) (file-numbered file) e
+    ∙ passes 9 (lengthTest (length (speedsOf file)) a ∷ []) (le-leb (length (weightsOf file)) b k)
+    ∙ passes 9 [] (le-leb (length (speedsOf file)) a h) ∙ passed-all
+
+-- A valid job, written and then read into lists that are long enough, is there again.
+pub record ReadAgain (job : Job) (es ws : List ℕ) : Type 0 where
+  pub answer : readAnswer (jobBytes job) (length es) (length ws) ≡ JobRead.Read (processors job) (tasks job)
+  pub speeds : readSpeeds (jobBytes job) es ws ≡ job .speeds ++ drop (processors job) es
+  pub weights : readWeights (jobBytes job) es ws ≡ job .weights ++ drop (tasks job) ws
+
+pub read-again : (job : Job) (es ws : List ℕ) → Valid job → processors job ≤ length es → tasks job ≤ length ws → ReadAgain job es ws
+unfolding readAnswer readSpeeds readWeights
+read-again job es ws ok h k =
+    record {
+      answer = sym (answer-read (jobBytes job) none (sym (ap length es')) (sym (ap length ws')));
+      speeds = ap (λ (n : ℕ). lentAfter n (speedsOf (jobBytes job)) es) none ∙ lent-accepted (speedsOf (jobBytes job)) es ∙ ap (λ (l : List ℕ). l ++ drop (length l) es) es';
+      weights = ap (λ (n : ℕ). lentAfter n (weightsOf (jobBytes job)) ws) none ∙ lent-accepted (weightsOf (jobBytes job)) ws ∙ ap (λ (l : List ℕ). l ++ drop (length l) ws) ws';
+    }
+  where
+    es' : speedsOf (jobBytes job) ≡ job .speeds
+    es' = speeds-back job ok
+
+    ws' : weightsOf (jobBytes job) ≡ job .weights
+    ws' = weights-back job ok
+
+    none : readRefusal (jobBytes job) (length es) (length ws) ≡ 0
+    none = read-fits (jobBytes job) (length es) (length ws) (bytes-accepted job ok) (omega (arith, ap length es')) (omega (arith, ap length ws'))

@@ -1,0 +1,76 @@
+-- Document 01's numbers for small files and for lists, by computing the definitions: "Speed 10,000 passes; 0 and 10,001 give 5.
+-- Weight 1,000,001 gives 6. An empty file and 257 machines give 7. 2,049 tiles give 8. A 7-byte file gives 2." The long files are
+-- run by a program.
+-- Assumes nothing.
+use Prim.Native.Nat.{ℕ, suc}
+use mathlib.Core.Path.{_≡_, refl}
+use mathlib.Core.Bool.{Bool, true, _&&_}
+use mathlib.Core.List.{List, [], _∷_, _++_}
+use lib.Dec.{eqb}
+use lib.ListN.{replicate}
+use Rattle.chain.specs.Limits.{maxTasks, maxWeight, maxProcessors, maxSpeed}
+use Rattle.chain.specs.Job.{jobOf}
+use Rattle.chain.specs.Refusal.{eachBetween, speedsTest, weightsTest, processorsTest, tasksTest, lengthTest, firstRefusal, jobTests}
+use Rattle.jobs.specs.JobFile.{fieldBytes, recordBytes, recordsBytes}
+use Rattle.jobs.specs.Parse.{byteAt, kindAt, valueAt, isKind, taskBefore, multipleTest, blank, formTest, orderTest, speedTest, weightTest, recordTests, recordsTests, valuesOf, speedsOf, weightsOf, fileTests, fileRefusal}
+use Rattle.jobs.specs.Answers.{readTests, readRefusal}
+
+-- A file with its number.
+pub record Case : Type 0 where
+  pub file : List ℕ
+  pub number : ℕ
+
+infix 20 _gives_
+abbrev pub _gives_ : List ℕ → ℕ → Case
+file gives number = record { file = file; number = number }
+
+-- A machine and a tile.
+abbrev pub machine : ℕ → List ℕ
+machine v = recordBytes 1 v
+
+abbrev pub tile : ℕ → List ℕ
+tile v = recordBytes 2 v
+
+unfoldable pub files : List Case
+unfolding recordBytes fieldBytes recordsBytes
+files =
+    ([] gives 7)
+    ∷ ((0 ∷ 0 ∷ 0 ∷ 0 ∷ 0 ∷ 0 ∷ 0 ∷ []) gives 2)
+    ∷ (machine 10000 gives 0)
+    ∷ (machine 0 gives 5)
+    ∷ (machine 10001 gives 5)
+    ∷ ((machine 1 ++ tile 1000000) gives 0)
+    ∷ ((machine 1 ++ tile 1000001) gives 6)
+    ∷ (tile 5 gives 7)
+    ∷ (recordBytes 3 1 gives 3)
+    ∷ ((1 ∷ 0 ∷ 0 ∷ 1 ∷ 1 ∷ 0 ∷ 0 ∷ 0 ∷ []) gives 3)
+    ∷ ((tile 5 ++ machine 1) gives 4)
+    -- two faults: in one record in rising order, in two records from the front
+    ∷ ((tile 5 ++ machine 0) gives 4)
+    ∷ ((machine 0 ++ tile 1000001) gives 5)
+    ∷ ((machine 1 ++ tile 1000001 ++ machine 0) gives 6)
+    ∷ ((machine 0 ++ recordBytes 9 0 ++ 0 ∷ []) gives 2)
+    ∷ []
+
+unfoldable pub everyGives : List Case → Bool
+everyGives [] = true
+everyGives (c ∷ cs) = eqb (fileRefusal (c .file)) (c .number) && everyGives cs
+
+pub files-give : everyGives files ≡ true
+unfolding files everyGives fileRefusal fileTests firstRefusal multipleTest recordsTests recordTests formTest orderTest speedTest weightTest valuesOf speedsOf weightsOf processorsTest tasksTest byteAt kindAt valueAt isKind taskBefore blank maxTasks maxWeight maxProcessors maxSpeed
+files-give = refl
+
+-- By lists: all speeds, all weights, then the counts.
+pub lists-give :
+    (firstRefusal (jobTests (jobOf (1000001 ∷ []) (0 ∷ []))) ≡ 5) × (firstRefusal (jobTests (jobOf (1000001 ∷ []) [])) ≡ 6)
+    × (firstRefusal (jobTests (jobOf (replicate 2049 0) [])) ≡ 7) × (firstRefusal (jobTests (jobOf (replicate 2049 0) (1 ∷ []))) ≡ 8)
+    × (firstRefusal (jobTests (jobOf [] (replicate 257 1))) ≡ 7)
+unfolding firstRefusal jobTests speedsTest weightsTest processorsTest tasksTest eachBetween maxTasks maxWeight maxProcessors maxSpeed
+lists-give = (refl, refl, refl, refl, refl)
+
+-- 9 comes last: a file that gives 7 gives it with lists of no length too.
+pub lent-gives :
+    (readRefusal (machine 1 ++ tile 2) 0 0 ≡ 9) × (readRefusal (machine 1 ++ tile 2) 1 0 ≡ 9) × (readRefusal (machine 1 ++ tile 2) 0 1 ≡ 9)
+    × (readRefusal (machine 1 ++ tile 2) 1 1 ≡ 0) × (readRefusal (tile 2) 0 0 ≡ 7)
+unfolding readRefusal readTests lengthTest fileTests firstRefusal multipleTest recordsTests recordTests formTest orderTest speedTest weightTest valuesOf speedsOf weightsOf processorsTest tasksTest byteAt kindAt valueAt isKind taskBefore blank recordBytes fieldBytes maxTasks maxWeight maxProcessors maxSpeed
+lent-gives = (refl, refl, refl, refl, refl)

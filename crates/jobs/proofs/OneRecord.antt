@@ -1,0 +1,160 @@
+-- The tests of one record, as the code takes them: k is its kind, v its value, b says that bytes 1 to 3 are zero, t counts the
+-- tasks before it, m is the limit.
+-- Assumes nothing.
+use Prim.Native.Nat.{ℕ, zero, suc, _+_, _≤_, _<_}
+use mathlib.Core.Path.{_≡_, refl, sym, ap, ap₂, subst, _∙_}
+use mathlib.Core.Bool.{Bool, true, false, not, cond, _&&_, _||_}
+use mathlib.Core.List.{List, [], _∷_, _++_, append-nil}
+use mathlib.Core.Logic.{_≢_}
+use native.Mathlib.Omega.{arith}
+use lib.Dec.{eqb, ltb}
+use lib.ListN.{length, length-append}
+use borrow.Author.Tests.{eq-eqb, ne-eqb, lt-ltb, le-ltb, not-true, not-false}
+use Rattle.chain.specs.Limits.{maxWeight, maxSpeed}
+use Rattle.chain.specs.Refusal.{between, firstRefusal}
+use Rattle.jobs.specs.JobFile.{processorKind, taskKind}
+use Rattle.jobs.specs.Parse.{byteAt, kindAt, valueAt, isKind, taskBefore, blank, formTest, orderTest, speedTest, weightTest, recordTests, valuesOf}
+use Rattle.jobs.proofs.Limits.{speed-limit, weight-limit}
+use Rattle.jobs.proofs.Each.{between-low, between-high, between-in}
+use Rattle.jobs.proofs.Steps.{fails, passes, passed-all}
+
+-- Bytes 1 to 3.
+module _ (file : List ℕ) (i : ℕ) where
+  pub first-set : {x : ℕ} → x ≡ byteAt file i 1 → x ≢ 0 → false ≡ blank file i
+  unfolding blank
+  first-set {x} e h =
+      sym (ap (λ (c : Bool). c && eqb (byteAt file i 2) 0 && eqb (byteAt file i 3) 0) (ne-eqb (byteAt file i 1) 0 (λ z. h (e ∙ z))))
+
+  pub second-set : {x y : ℕ} → x ≡ byteAt file i 1 → y ≡ byteAt file i 2 → x ≡ 0 → y ≢ 0 → false ≡ blank file i
+  unfolding blank
+  second-set {x} {y} d e g h =
+      sym (ap₂ (λ (c c′ : Bool). c && c′ && eqb (byteAt file i 3) 0) (eq-eqb (byteAt file i 1) 0 (sym d ∙ g)) (ne-eqb (byteAt file i 2) 0 (λ z. h (e ∙ z))))
+
+  pub third-decides : {x y z : ℕ} → x ≡ byteAt file i 1 → y ≡ byteAt file i 2 → z ≡ byteAt file i 3 → x ≡ 0 → y ≡ 0 → eqb z 0 ≡ blank file i
+  unfolding blank
+  third-decides {x} {y} {z} d e f g h =
+      ap (λ (n : ℕ). eqb n 0) f
+      ∙ sym (ap₂ (λ (c c′ : Bool). c && c′ && eqb (byteAt file i 3) 0) (eq-eqb (byteAt file i 1) 0 (sym d ∙ g)) (eq-eqb (byteAt file i 2) 0 (sym e ∙ h)))
+
+-- A task stands before record i exactly when some value of the first i is one's.
+pub before-counted : (file : List ℕ) (i : ℕ) → taskBefore file i ≡ ltb 0 (length (valuesOf taskKind file i))
+unfolding taskBefore valuesOf
+before-counted file zero = refl
+before-counted file (suc i) = go (isKind taskKind file i) (before-counted file i)
+  where
+    xs : List ℕ
+    xs = valuesOf taskKind file i
+
+    or-true : (a : Bool) → (a || true) ≡ true
+    or-true true = refl
+    or-true false = refl
+
+    or-false : (a : Bool) → (a || false) ≡ a
+    or-false true = refl
+    or-false false = refl
+
+    go : (c : Bool) → taskBefore file i ≡ ltb 0 (length xs) → (taskBefore file i || c) ≡ ltb 0 (length (xs ++ cond c (valueAt file i ∷ []) []))
+    go true e =
+        or-true (taskBefore file i) ∙ sym (lt-ltb 0 (length (xs ++ valueAt file i ∷ [])) (omega (arith, length-append xs (valueAt file i ∷ []))))
+    go false e = or-false (taskBefore file i) ∙ e ∙ ap (λ (l : List ℕ). ltb 0 (length l)) (sym (append-nil xs))
+
+module _ (file : List ℕ) (i : ℕ) {k : ℕ} (kind : k ≡ kindAt file i) where
+  is : (n : ℕ) → k ≡ n → isKind n file i ≡ true
+  unfolding isKind
+  is n e = eq-eqb (kindAt file i) n (sym kind ∙ e)
+
+  is-not : (n : ℕ) → k ≢ n → isKind n file i ≡ false
+  unfolding isKind
+  is-not n h = ne-eqb (kindAt file i) n (λ z. h (kind ∙ z))
+
+  pub other-kind : k ≢ processorKind → k ≢ taskKind → 3 ≡ firstRefusal (recordTests file i)
+  unfolding recordTests formTest
+  other-kind g h =
+      sym (fails 3 (orderTest file i ∷ speedTest file i ∷ weightTest file i ∷ [])
+      (ap₂ (λ (a b : Bool). (a || b) && blank file i) (is-not processorKind g) (is-not taskKind h)))
+
+module _ (file : List ℕ) (i : ℕ) {b : Bool} (zeros : b ≡ blank file i) where
+  pub not-blank : not b ≡ true → 3 ≡ firstRefusal (recordTests file i)
+  unfolding recordTests formTest
+  not-blank h =
+      sym (fails 3 (orderTest file i ∷ speedTest file i ∷ weightTest file i ∷ [])
+      (ap (λ (c : Bool). kinds && c) (sym zeros ∙ not-true b h) ∙ and-false kinds))
+    where
+      kinds : Bool
+      kinds = isKind processorKind file i || isKind taskKind file i
+
+      and-false : (a : Bool) → (a && false) ≡ false
+      and-false true = refl
+      and-false false = refl
+
+-- A processor's record.
+module _ (file : List ℕ) (i : ℕ) {k v t : ℕ} {b : Bool} (kind : k ≡ kindAt file i) (value : v ≡ valueAt file i) (zeros : b ≡ blank file i)
+    (count : t ≡ length (valuesOf taskKind file i)) (zero : not b ≡ false) (one : k ≡ 1) where
+  formed : firstRefusal (recordTests file i) ≡ firstRefusal (orderTest file i ∷ speedTest file i ∷ weightTest file i ∷ [])
+  unfolding recordTests formTest
+  formed =
+      passes 3 (orderTest file i ∷ speedTest file i ∷ weightTest file i ∷ [])
+      (ap₂ (λ (a c : Bool). (a || isKind taskKind file i) && c) (is file i kind 1 one) (sym zeros ∙ not-false b zero))
+
+  pub processor-late : 0 < t → 4 ≡ firstRefusal (recordTests file i)
+  unfolding orderTest
+  processor-late h =
+      sym (formed
+      ∙ fails 4 (speedTest file i ∷ weightTest file i ∷ [])
+      (ap₂ (λ (a c : Bool). not (a && c)) (is file i kind 1 one) (before-counted file i ∙ lt-ltb 0 (length (valuesOf taskKind file i)) (omega arith))))
+
+  in-order : t ≤ 0 → firstRefusal (recordTests file i) ≡ firstRefusal (speedTest file i ∷ weightTest file i ∷ [])
+  unfolding orderTest
+  in-order h =
+      formed
+      ∙ passes 4 (speedTest file i ∷ weightTest file i ∷ [])
+      (ap₂ (λ (a c : Bool). not (a && c)) (is file i kind 1 one) (before-counted file i ∙ le-ltb 0 (length (valuesOf taskKind file i)) (omega arith)))
+
+  speed-fails : t ≤ 0 → between 1 maxSpeed (valueAt file i) ≡ false → 5 ≡ firstRefusal (recordTests file i)
+  unfolding speedTest
+  speed-fails h e =
+      sym (in-order h ∙ fails 5 (weightTest file i ∷ []) (ap₂ (λ (a c : Bool). not a || c) (is file i kind 1 one) e))
+
+  pub processor-low : t ≤ 0 → v ≡ 0 → 5 ≡ firstRefusal (recordTests file i)
+  processor-low h l = speed-fails h (between-low 1 maxSpeed (valueAt file i) (omega arith))
+
+  pub processor-high : t ≤ 0 → {m : ℕ} → maxSpeed ≡ m → m < v → 5 ≡ firstRefusal (recordTests file i)
+  processor-high h e l = speed-fails h (between-high 1 maxSpeed (valueAt file i) (omega arith))
+
+  pub processor-passes : t ≤ 0 → {m : ℕ} → maxSpeed ≡ m → v ≢ 0 → v ≤ m → 0 ≡ firstRefusal (recordTests file i)
+  unfolding speedTest weightTest
+  processor-passes h e l r =
+      sym (in-order h
+      ∙ passes 5 (weightTest file i ∷ [])
+      (ap₂ (λ (a c : Bool). not a || c) (is file i kind 1 one) (between-in 1 maxSpeed (valueAt file i) (omega arith) (omega arith)))
+      ∙ passes 6 [] (ap (λ (a : Bool). not a || between 0 maxWeight (valueAt file i)) (is-not file i kind 2 (omega arith))) ∙ passed-all)
+
+-- A task's record.
+module _ (file : List ℕ) (i : ℕ) {k v : ℕ} {b : Bool} (kind : k ≡ kindAt file i) (value : v ≡ valueAt file i) (zeros : b ≡ blank file i)
+    (zero : not b ≡ false) (two : k ≡ 2) where
+  to-weight : firstRefusal (recordTests file i) ≡ firstRefusal (weightTest file i ∷ [])
+  unfolding recordTests formTest orderTest speedTest
+  to-weight =
+      passes 3 (orderTest file i ∷ speedTest file i ∷ weightTest file i ∷ [])
+      (ap₂ (λ (a c : Bool). (a || isKind taskKind file i) && c) (is-not file i kind 1 (omega arith)) (sym zeros ∙ not-false b zero)
+      ∙ ap (λ (a : Bool). a && true) (is file i kind 2 two))
+      ∙ passes 4 (speedTest file i ∷ weightTest file i ∷ []) (ap (λ (a : Bool). not (a && taskBefore file i)) (is-not file i kind 1 (omega arith)))
+      ∙ passes 5 (weightTest file i ∷ []) (ap (λ (a : Bool). not a || between 1 maxSpeed (valueAt file i)) (is-not file i kind 1 (omega arith)))
+
+  pub task-high : {m : ℕ} → maxWeight ≡ m → m < v → 6 ≡ firstRefusal (recordTests file i)
+  unfolding weightTest
+  task-high e h =
+      sym (to-weight
+      ∙ fails 6 [] (ap₂ (λ (a c : Bool). not a || c) (is file i kind 2 two) (between-high 0 maxWeight (valueAt file i) (omega arith))))
+
+  pub task-passes : {m : ℕ} → maxWeight ≡ m → v ≤ m → 0 ≡ firstRefusal (recordTests file i)
+  unfolding weightTest
+  task-passes e h =
+      sym (to-weight
+      ∙ passes 6 [] (ap₂ (λ (a c : Bool). not a || c) (is file i kind 2 two) (between-in 0 maxWeight (valueAt file i) (omega arith) (omega arith)))
+      ∙ passed-all)
+
+-- For `search`: at each return the law that its tests meet.
+pub ruleset blank-laws = (first-set, second-set, third-decides)
+
+pub ruleset record-laws = (other-kind, not-blank, processor-late, processor-low, processor-high, processor-passes, task-high, task-passes, speed-limit, weight-limit)

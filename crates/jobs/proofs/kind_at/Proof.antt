@@ -1,0 +1,19 @@
+-- `kind_at` meets its contract: the kind is byte 0.
+-- Assumes nothing.
+use Rattle.jobs.specs.Parse.{kindAt}
+use borrow.Author.Needs.{needs}
+use Rattle.jobs.proofs.kind_at.Statement.{statement}
+use Rattle.jobs.proofs.kind_at.Tie as tie
+use Rattle.jobs.proofs.kind_at.Reads as reads
+use Rattle.jobs.proofs.kind_at.Lts as lts
+use Rattle.jobs.proofs.byte_at.Reads as byte-at-reads
+
+byte-at-requires : tie.Need-byte-at-requires
+byte-at-requires c κs = search needs
+
+returns : tie.Need-returns
+unfolding kindAt
+returns c = c .byte-at .ensures .0
+
+pub kind-at-spec : {M : Type 1} → statement M
+kind-at-spec = tie.close (tie.spec byte-at-requires returns)

@@ -1,0 +1,52 @@
+-- `read_tested` meets its contract: 7 and 8, then 9 of each list, then the values of both kinds.
+-- Assumes nothing.
+use native.Mathlib.Omega.{arith}
+use Rattle.jobs.proofs.Reading.{read-laws}
+use borrow.Author.Needs.{needs}
+use Rattle.jobs.proofs.read_tested.Statement.{statement}
+use Rattle.jobs.proofs.read_tested.Tie as tie
+use Rattle.jobs.proofs.read_tested.Reads as reads
+use Rattle.jobs.proofs.read_tested.Lts as lts
+use Rattle.jobs.proofs.copy_values.Reads as copy-values-reads
+use Rattle.jobs.proofs.test_counts.Reads as test-counts-reads
+
+test-counts-requires : tie.Need-test-counts-requires
+test-counts-requires c κs = search needs
+
+returns : tie.Need-returns
+returns c = search read-laws
+
+returns-2 : tie.Need-returns-2
+returns-2 c = search read-laws
+
+returns-3 : tie.Need-returns-3
+returns-3 c = search read-laws
+
+copy-values-requires : tie.Need-copy-values-requires
+copy-values-requires c κs = omega arith
+
+copy-values-requires-2 : tie.Need-copy-values-requires-2
+copy-values-requires-2 c κs = omega arith
+
+same-length : tie.Need-same-length
+same-length c = search needs
+
+same-length-2 : tie.Need-same-length-2
+same-length-2 c = search needs
+
+returns-4 : tie.Need-returns-4
+returns-4 c = search read-laws
+
+pub read-tested-spec : {M : Type 1} → statement M
+read-tested-spec =
+    tie.close
+    (tie.spec
+    test-counts-requires
+    returns
+    returns-2
+    returns-3
+    copy-values-requires
+    copy-values-requires-2
+    same-length
+    same-length-2
+    returns-4)

@@ -1,0 +1,60 @@
+-- `test_record` meets its contract: 3, then 4 and 5 of a processor, 6 of a task.
+-- Assumes nothing.
+use Rattle.jobs.proofs.OneRecord.{record-laws}
+use borrow.Author.Needs.{needs}
+use Rattle.jobs.proofs.test_record.Statement.{statement}
+use Rattle.jobs.proofs.test_record.Tie as tie
+use Rattle.jobs.proofs.test_record.Reads as reads
+use Rattle.jobs.proofs.test_record.Lts as lts
+use Rattle.jobs.proofs.blank_at.Reads as blank-at-reads
+use Rattle.jobs.proofs.kind_at.Reads as kind-at-reads
+use Rattle.jobs.proofs.value_at.Reads as value-at-reads
+
+kind-at-requires : tie.Need-kind-at-requires
+kind-at-requires c κs = search needs
+
+value-at-requires : tie.Need-value-at-requires
+value-at-requires c κs = search needs
+
+blank-at-requires : tie.Need-blank-at-requires
+blank-at-requires c κs = search needs
+
+returns : tie.Need-returns
+returns c = search record-laws
+
+returns-2 : tie.Need-returns-2
+returns-2 c = search record-laws
+
+returns-3 : tie.Need-returns-3
+returns-3 c = search record-laws
+
+returns-4 : tie.Need-returns-4
+returns-4 c = search record-laws
+
+returns-5 : tie.Need-returns-5
+returns-5 c = search record-laws
+
+returns-6 : tie.Need-returns-6
+returns-6 c = search record-laws
+
+returns-7 : tie.Need-returns-7
+returns-7 c = search record-laws
+
+returns-8 : tie.Need-returns-8
+returns-8 c = search record-laws
+
+pub test-record-spec : {M : Type 1} → statement M
+test-record-spec =
+    tie.close
+    (tie.spec
+    kind-at-requires
+    value-at-requires
+    blank-at-requires
+    returns
+    returns-2
+    returns-3
+    returns-4
+    returns-5
+    returns-6
+    returns-7
+    returns-8)

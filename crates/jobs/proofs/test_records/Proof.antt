@@ -1,0 +1,82 @@
+-- `test_records` meets its contract: as long as the loop goes on, the records passed are accepted and counted.
+-- Assumes nothing.
+use Prim.Native.Nat.{_-_}
+use mathlib.Core.Path.{_∙_}
+use mathlib.Core.Logic.{⊎-elim}
+use native.Mathlib.Omega.{arith}
+use Rattle.jobs.specs.Parse.{recordCount}
+use Rattle.jobs.proofs.AllRecords.{Tested, tested-none, tested-processor, tested-task, multiple-fails, answer-refused, tested-refused, tested-all}
+use Rattle.jobs.proofs.test_records.Statement.{statement}
+use Rattle.jobs.proofs.test_records.Tie as tie
+use Rattle.jobs.proofs.test_records.Reads as reads
+use Rattle.jobs.proofs.test_records.Lts as lts
+use Rattle.jobs.proofs.kind_at.Reads as kind-at-reads
+use Rattle.jobs.proofs.test_record.Reads as test-record-reads
+
+abbrev Inv-loop : tie.InvT-loop
+Inv-loop file records processors₀ tasks₀ i₀ processors tasks i = Tested file processors tasks i
+
+abbrev μ-loop : tie.MeasureT-loop
+μ-loop file records processors₀ tasks₀ i₀ processors tasks i = records - i
+
+returns : tie.Need-returns Inv-loop μ-loop
+returns c =
+    let file = c .before .before .args .file .now in
+    answer-refused file (multiple-fails file (c .if1 .taken)) (omega arith)
+
+loop-holds : tie.Need-loop-holds Inv-loop μ-loop
+loop-holds c = tested-none (c .if1 .left)
+
+test-record-requires : tie.Need-test-record-requires Inv-loop μ-loop
+test-record-requires c κs = (c .loop-test .taken, c .before .loop .inv .tasks-are)
+
+returns-2 : tie.Need-returns-2 Inv-loop μ-loop
+returns-2 c =
+    let l = c .before .before .before in
+    tested-refused (l .before .before .before .args .file .now) (l .loop .inv) (c .before .before .loop-test .taken) (c .before .test-record .ensures) (c .if2 .taken)
+
+kind-at-requires : tie.Need-kind-at-requires Inv-loop μ-loop
+kind-at-requires c κs = omega arith
+
+add-processors : tie.Need-add-processors Inv-loop μ-loop
+add-processors c = omega arith
+
+add-tasks : tie.Need-add-tasks Inv-loop μ-loop
+add-tasks c = omega arith
+
+add-i : tie.Need-add-i Inv-loop μ-loop
+add-i c = omega arith
+
+loop-less : tie.Need-loop-less Inv-loop μ-loop
+loop-less c = omega arith
+
+loop-again : tie.Need-loop-again Inv-loop μ-loop
+loop-again c =
+    let l = c .before .before .before .before .before in
+    let more = c .before .before .before .before .loop-test .taken in
+    let found = c .before .before .before .test-record .ensures in
+    ⊎-elim
+    (λ w. tested-processor (l .loop .inv) more found (c .before .before .if2 .left) (c .before .kind-at .ensures) (w .0 .taken) (w .1) (w .2))
+    (λ w. tested-task (l .loop .inv) more found (c .before .before .if2 .left) (c .before .kind-at .ensures) (w .0 .left) (w .1) (w .2))
+    (c .if3 .came)
+
+returns-3 : tie.Need-returns-3 Inv-loop μ-loop
+returns-3 c = tested-all (c .before .before .before .before .args .file .now) (c .before .loop .inv) (c .loop-test .left)
+
+pub test-records-spec : {M : Type 1} → statement M
+test-records-spec =
+    tie.close
+    (tie.spec
+    Inv-loop
+    μ-loop
+    returns
+    loop-holds
+    test-record-requires
+    returns-2
+    kind-at-requires
+    add-processors
+    add-tasks
+    add-i
+    loop-less
+    loop-again
+    returns-3)
