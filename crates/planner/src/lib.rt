@@ -10,6 +10,7 @@ ghost use Rattle.parts.specs.Prefix.{Ready};
 ghost use Rattle.parts.proofs.Front.{Behind};
 ghost use Rattle.figures.specs.Methods.{methodOf};
 ghost use Rattle.planner.specs.Answers.{planWith, PlanGiven, PlanAnswer};
+
 mod host;
 
 use bound::Bound;

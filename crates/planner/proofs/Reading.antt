@@ -1,0 +1,202 @@
+-- Laws for the C call: what reading leaves, the order of its tests, and the bytes.
+-- Assumes nothing.
+use Prim.Native.Nat.{ℕ, zero, suc, _+_, _-_, _*_, _≤_, _<_}
+use mathlib.Core.Path.{_≡_, refl, sym, ap, ap₂, subst, _∙_}
+use mathlib.Core.Bool.{Bool, true, false, cond, _&&_}
+use mathlib.Core.List.{List, [], _∷_, _++_}
+use native.Mathlib.Omega.{arith}
+use lib.Dec.{leb, eqb}
+use borrow.Author.Tests.{le-leb, lt-leb}
+use lib.ListN.{length, take, drop, length-append, length-drop}
+use Rattle.chain.specs.Limits.{maxProcessors, maxTasks}
+use Rattle.chain.specs.Job.{Job, jobOf, Valid, tasks, processors}
+use Rattle.chain.specs.Plan.{planOf}
+use Rattle.chain.specs.Refusal.{Test, between, methodTest, lengthTest, firstRefusal}
+use Rattle.chain.proofs.Refusals.{first-refusal-append, first-refusal-before}
+use Rattle.jobs.specs.Parse.{speedsOf, weightsOf, jobIn, fileTests, fileRefusal}
+use Rattle.jobs.specs.Answers.{lentAfter, readNumber, readProcessors, readTasks, answerOf, readTests, readRefusal, readAnswer, readSpeeds, readWeights}
+use Rattle.jobs.specs.declared.JobRead.{JobRead}
+use Rattle.jobs.proofs.Calls.{file-numbered, read-number, read-processors, read-tasks}
+use Rattle.jobs.proofs.Lent.{lent-refused, lent-accepted}
+use Rattle.jobs.proofs.Limits.{tasks-limit, processors-limit}
+use Rattle.jobs.proofs.RoundTrip.{accepted-valid}
+use Rattle.planfile.specs.PlanFile.{planBytes}
+use Rattle.planfile.proofs.Records.{length-plan, plan-take}
+use Rattle.search.proofs.Laws.{taken}
+use Rattle.planner.specs.Answers.{scratchNeeded}
+use Rattle.planner.specs.HostCall.{Host, hostTests, hostAnswer, hostBytes}
+
+-- The local lists of the call are long enough for every job.
+pub separators-fit : {job : Job} → Valid job → processors job < 257
+separators-fit v = omega (arith, v .processors-limit, processors-limit)
+
+pub scratch-fits : {job : Job} → Valid job → scratchNeeded job ≤ 10245
+scratch-fits v = omega (arith, v .tasks-limit, tasks-limit)
+
+-- The bytes of the plan, from a list with the plan's separators in front.
+pub best-bytes : (job : Job) (s l rest : List ℕ) {bytes : List ℕ} → length (planOf job) ≡ suc (processors job) → s ≡ planOf job ++ l
+    → bytes ≡ planBytes job s ++ rest → bytes ≡ planBytes job (planOf job) ++ rest
+best-bytes job s l rest h e f =
+    f ∙ ap (λ (x : List ℕ). x ++ rest) (sym (plan-take job s) ∙ ap (planBytes job) (taken (planOf job) l h e))
+
+-- The buffer's test, and the plan.
+pub host-short : (job : Job) (plan : List ℕ) → length plan < 16 * processors job → Host job plan plan 9
+unfolding firstRefusal lengthTest
+host-short job plan h =
+    record {
+      answered = sym (ap (λ (t : Bool). cond t 0 9) (lt-leb (16 * processors job) (length plan) h));
+      filled = sym (lent-refused (λ x. let z : ⊥ = omega arith in z) (planBytes job (planOf job)) plan);
+    }
+
+pub host-full : (job : Job) (plan later : List ℕ) → 16 * processors job ≤ length plan
+    → later ≡ planBytes job (planOf job) ++ drop (16 * processors job) plan → Host job plan later 0
+unfolding firstRefusal lengthTest
+host-full job plan later h e =
+    record {
+      answered = sym (ap (λ (t : Bool). cond t 0 9) (le-leb (16 * processors job) (length plan) h));
+      filled =
+          e ∙ ap (λ (n : ℕ). planBytes job (planOf job) ++ drop n plan) (sym (length-plan job (planOf job)))
+          ∙ sym (lent-accepted (planBytes job (planOf job)) plan);
+    }
+
+module _ (file : List ℕ) (m lent : ℕ) where
+  buffer : List Test
+  buffer = lengthTest (16 * processors (jobIn file)) lent ∷ []
+
+  in-order : hostAnswer file m lent ≡ cond (between 1 3 m) (firstRefusal (fileTests file ++ buffer)) 1
+  unfolding hostAnswer hostTests methodTest firstRefusal buffer
+  in-order = refl
+
+  pub host-few : m < 1 → 1 ≡ hostAnswer file m lent
+  host-few h = sym (in-order ∙ ap (λ (t : Bool). cond (t && leb m 3) (firstRefusal (fileTests file ++ buffer)) 1) (lt-leb 1 m h))
+
+  pub host-many : 1 ≤ m → 3 < m → 1 ≡ hostAnswer file m lent
+  host-many h k =
+      sym
+      (in-order ∙ ap (λ (t : Bool). cond (t && leb m 3) (firstRefusal (fileTests file ++ buffer)) 1) (le-leb 1 m h)
+      ∙ ap (λ (t : Bool). cond t (firstRefusal (fileTests file ++ buffer)) 1) (lt-leb m 3 k))
+
+  module _ (low : 1 ≤ m) (high : m ≤ 3) where
+    tested-method : hostAnswer file m lent ≡ firstRefusal (fileTests file ++ buffer)
+    tested-method =
+        in-order ∙ ap (λ (t : Bool). cond (t && leb m 3) (firstRefusal (fileTests file ++ buffer)) 1) (le-leb 1 m low)
+        ∙ ap (λ (t : Bool). cond t (firstRefusal (fileTests file ++ buffer)) 1) (le-leb m 3 high)
+
+    pub host-file : (fileRefusal file ≡ 0 → ⊥) → fileRefusal file ≡ hostAnswer file m lent
+    unfolding fileRefusal
+    host-file h = sym (tested-method ∙ first-refusal-before (fileTests file) buffer h)
+
+    pub host-read : fileRefusal file ≡ 0 → firstRefusal (lengthTest (16 * processors (jobIn file)) lent ∷ []) ≡ hostAnswer file m lent
+    unfolding fileRefusal buffer
+    host-read h = sym (tested-method ∙ first-refusal-append (fileTests file) buffer (file-numbered file) h)
+
+-- A refused call leaves the buffer.
+pub host-stays : (file : List ℕ) (m : ℕ) (plan : List ℕ) {n : ℕ} → n ≡ hostAnswer file m (length plan) → (n ≡ 0 → ⊥) → plan ≡ hostBytes file m plan
+unfolding hostBytes
+host-stays file m plan e h =
+    sym (lent-refused (λ x. h (e ∙ x)) (planBytes (jobIn file) (planOf (jobIn file))) plan)
+
+-- What reading leaves: an accepted file's lists in front.
+pub record Taken (file es ws : List ℕ) (p n : ℕ) : Type 0 where
+  pub accepted : fileRefusal file ≡ 0
+  pub speeds : take p es ≡ speedsOf file
+  pub weights : take n ws ≡ weightsOf file
+  pub few-speeds : p ≤ length es
+  pub few-weights : n ≤ length ws
+
+module _ (file es ws : List ℕ) where
+  number : ℕ
+  number = readRefusal file (length es) (length ws)
+
+  file-accepted : number ≡ 0 → fileRefusal file ≡ 0
+  unfolding number fileRefusal readRefusal readTests
+  file-accepted e = go (firstRefusal (fileTests file)) refl
+    where
+      rest : List Test
+      rest = lengthTest (length (weightsOf file)) (length ws) ∷ lengthTest (length (speedsOf file)) (length es) ∷ []
+
+      go : (k : ℕ) → firstRefusal (fileTests file) ≡ k → firstRefusal (fileTests file) ≡ 0
+      go zero x = x
+      go (suc k) x = sym (first-refusal-before (fileTests file) rest (λ z. let y : ⊥ = omega (arith, sym x ∙ z) in y)) ∙ e
+
+  pub read-taken : {es′ ws′ : List ℕ} {p n : ℕ} {r : JobRead} → r ≡ readAnswer file (length es) (length ws) → r ≡ JobRead.Read p n
+      → es′ ≡ readSpeeds file es ws → ws′ ≡ readWeights file es ws → Taken file es′ ws′ p n
+  unfolding number readNumber readProcessors readTasks readSpeeds readWeights
+  read-taken {es′} {ws′} {p} {n} {r} a e f g =
+      record {
+        accepted = file-accepted none;
+        speeds = taken (speedsOf file) (drop (length (speedsOf file)) es) (sym is-p) in-es;
+        weights = taken (weightsOf file) (drop (length (weightsOf file)) ws) (sym is-n) in-ws;
+        few-speeds = omega (arith, is-p, ap length in-es, length-append (speedsOf file) (drop (length (speedsOf file)) es));
+        few-weights = omega (arith, is-n, ap length in-ws, length-append (weightsOf file) (drop (length (weightsOf file)) ws));
+      }
+    where
+      read : readAnswer file (length es) (length ws) ≡ JobRead.Read p n
+      read = sym a ∙ e
+
+      none : number ≡ 0
+      none = sym (read-number file (length es) (length ws)) ∙ ap readNumber read
+
+      is-p : p ≡ length (speedsOf file)
+      is-p = sym (ap readProcessors read) ∙ read-processors file (length es) (length ws) none
+
+      is-n : n ≡ length (weightsOf file)
+      is-n = sym (ap readTasks read) ∙ read-tasks file (length es) (length ws) none
+
+      in-es : es′ ≡ speedsOf file ++ drop (length (speedsOf file)) es
+      in-es = f ∙ ap (λ (k : ℕ). lentAfter k (speedsOf file) es) none ∙ lent-accepted (speedsOf file) es
+
+      in-ws : ws′ ≡ weightsOf file ++ drop (length (weightsOf file)) ws
+      in-ws = g ∙ ap (λ (k : ℕ). lentAfter k (weightsOf file) ws) none ∙ lent-accepted (weightsOf file) ws
+
+  -- With lists that are long enough for every job, a refusal of reading is the file's.
+  pub read-rejected : {k : ℕ} {r : JobRead} → maxProcessors ≤ length es → maxTasks ≤ length ws → r ≡ readAnswer file (length es) (length ws)
+      → r ≡ JobRead.Refused k → (k ≡ fileRefusal file) × (k ≡ 0 → ⊥)
+  unfolding number readNumber readAnswer answerOf
+  read-rejected {k} {r} x y a e = (go (fileRefusal file) refl, positive)
+    where
+      is-k : number ≡ k
+      is-k = sym (read-number file (length es) (length ws)) ∙ ap readNumber (sym a ∙ e)
+
+      positive : k ≡ 0 → ⊥
+      positive z = let w : _≡_ {A = ℕ} 0 1 = cc (ap (λ (j : ℕ). answerOf j file) (is-k ∙ z)) in omega arith
+
+      go : (j : ℕ) → fileRefusal file ≡ j → k ≡ fileRefusal file
+      go zero f = absurd (positive (sym is-k ∙ fits f))
+        where
+          fits : fileRefusal file ≡ 0 → number ≡ 0
+          fits h =
+              unfold fileRefusal readRefusal readTests lengthTest firstRefusal in
+              first-refusal-append (fileTests file)
+              (lengthTest (length (weightsOf file)) (length ws) ∷ lengthTest (length (speedsOf file)) (length es) ∷ []) (file-numbered file) h
+              ∙ ap (λ (t : Bool). cond t (cond (leb (length (speedsOf file)) (length es)) 0 9) 9)
+              (le-leb (length (weightsOf file)) (length ws) (omega (arith, accepted-valid file h .tasks-limit)))
+              ∙ ap (λ (t : Bool). cond t 0 9)
+              (le-leb (length (speedsOf file)) (length es) (omega (arith, accepted-valid file h .processors-limit)))
+      go (suc j) f = sym is-k ∙ before
+        where
+          before : number ≡ fileRefusal file
+          before =
+              unfold fileRefusal readRefusal readTests in
+              first-refusal-before (fileTests file)
+              (lengthTest (length (weightsOf file)) (length ws) ∷ lengthTest (length (speedsOf file)) (length es) ∷ [])
+              (λ z. let w : ⊥ = omega (arith, sym f ∙ z) in w)
+
+-- The job that was read is the file's, and what the call answers and writes is by its definition.
+module _ {file es ws : List ℕ} {p n : ℕ} (w : Taken file es ws p n) where
+  pub taken-job : jobOf (take n ws) (take p es) ≡ jobIn file
+  taken-job = ap₂ jobOf (w .weights) (w .speeds)
+
+  pub taken-valid : Valid (jobOf (take n ws) (take p es))
+  taken-valid = subst Valid (sym taken-job) (accepted-valid file (w .accepted))
+
+  pub host-done : {plan later : List ℕ} {k : ℕ} (m : ℕ) → 1 ≤ m → m ≤ 3 → Host (jobOf (take n ws) (take p es)) plan later k
+      → (k ≡ hostAnswer file m (length plan)) × (later ≡ hostBytes file m plan)
+  unfolding hostBytes
+  host-done {plan} {later} {k} m low high h = (is-k, g .filled ∙ ap (λ (j : ℕ). lentAfter j (planBytes (jobIn file) (planOf (jobIn file))) plan) is-k)
+    where
+      g : Host (jobIn file) plan later k
+      g = subst (λ (job : Job). Host job plan later k) taken-job h
+
+      is-k : k ≡ hostAnswer file m (length plan)
+      is-k = g .answered ∙ host-read file m (length plan) low high (w .accepted)

@@ -1,0 +1,55 @@
+-- `write_best` meets its contract: the plan, then its bytes.
+-- Assumes nothing.
+use native.Mathlib.Omega.{arith}
+use Rattle.chain.specs.Job.{Job, jobOf}
+use Rattle.chain.specs.Plan.{planOf}
+use Rattle.search.proofs.Laws.{front-partition}
+use Rattle.planner.proofs.Reading.{separators-fit, scratch-fits, best-bytes}
+use borrow.Author.Needs.{needs}
+use Rattle.planner.proofs.host.write_best.Statement.{statement}
+use Rattle.planner.proofs.host.write_best.Tie as tie
+
+slice-aggregate-plan-in : tie.Need-slice-aggregate-plan-in
+slice-aggregate-plan-in c = search needs
+
+slice-aggregate-plan-in-2 : tie.Need-slice-aggregate-plan-in-2
+slice-aggregate-plan-in-2 c = search needs
+
+plan-in-requires : tie.Need-plan-in-requires
+plan-in-requires c κs = (c .before .before .before .before .before .pre .0, (separators-fit (c .before .before .before .before .before .pre .0), scratch-fits (c .before .before .before .before .before .pre .0)))
+
+slice-aggregate-put-plan : tie.Need-slice-aggregate-put-plan
+slice-aggregate-put-plan c = search needs
+
+slice-aggregate-put-plan-2 : tie.Need-slice-aggregate-put-plan-2
+slice-aggregate-put-plan-2 c = search needs
+
+put-plan-requires : tie.Need-put-plan-requires
+put-plan-requires c κs =
+    let s = c .before .before .before .before .before .before .before .before .before .before .before in
+    let job : Job = jobOf (s .args .weights .now) (s .args .speeds .now) in
+    let g = c .before .before .before .before .before .plan-in .ensures in
+    (g .1, (front-partition (planOf job) _ (g .0 .best .partition) (g .0 .separators), s .pre .1))
+
+same-length : tie.Need-same-length
+same-length c = search needs
+
+returns : tie.Need-returns
+returns c =
+    let s = c .before .before .before .before .before .before .before .before .before .before .before .before .before .before in
+    let job : Job = jobOf (s .args .weights .now) (s .args .speeds .now) in
+    let g = c .before .before .before .before .before .before .before .before .plan-in .ensures .0 in
+    best-bytes job _ _ _ (g .best .partition .count) (g .separators) (c .before .before .put-plan .ensures)
+
+pub write-best-spec : {M : Type 1} → statement M
+write-best-spec =
+    tie.close
+    (tie.spec
+    slice-aggregate-plan-in
+    slice-aggregate-plan-in-2
+    plan-in-requires
+    slice-aggregate-put-plan
+    slice-aggregate-put-plan-2
+    put-plan-requires
+    same-length
+    returns)
