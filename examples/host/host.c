@@ -1,0 +1,42 @@
+/* A scheduling host: plans job A of the documents by each method and prints the plan, then shows a refusal. */
+#include <stdio.h>
+#include <string.h>
+
+#include "../../include/pelshaqu.h"
+
+static size_t put(uint8_t *at, uint8_t kind, uint32_t value) {
+    memset(at, 0, 8);
+    at[0] = kind;
+    for (int i = 0; i < 4; i++) at[4 + i] = (uint8_t)(value >> (8 * i));
+    return 8;
+}
+
+static uint32_t field(const uint8_t *at) {
+    return (uint32_t)at[0] | (uint32_t)at[1] << 8 | (uint32_t)at[2] << 16 | (uint32_t)at[3] << 24;
+}
+
+int main(void) {
+    uint8_t job[5 * 8];
+    uint8_t plan[2 * PELSHAQU_PLAN_RECORD];
+    size_t n = 0;
+    n += put(job + n, 1, 1); /* two machines, of speed 1 and 3 */
+    n += put(job + n, 1, 3);
+    n += put(job + n, 2, 1); /* three tiles, of weight 1, 3 and 8 */
+    n += put(job + n, 2, 3);
+    n += put(job + n, 2, 8);
+    for (uint32_t method = PELSHAQU_TABLE; method <= PELSHAQU_BISECTION; method++) {
+        uint32_t number = plan_job(job, n, method, plan, sizeof plan);
+        if (number != 0) {
+            printf("method %u: refused %u\n", method, number);
+            return 1;
+        }
+        for (int p = 0; p < 2; p++) {
+            const uint8_t *record = plan + PELSHAQU_PLAN_RECORD * p;
+            printf("method %u machine %d tiles %u to %u load %u speed %u\n", method, p + 1, field(record) + 1, field(record + 4),
+                   field(record + 8), field(record + 12));
+        }
+    }
+    printf("a plan buffer one byte short: refused %u\n", plan_job(job, n, PELSHAQU_TABLE, plan, sizeof plan - 1));
+    printf("a file of 7 bytes: refused %u\n", plan_job(job, 7, PELSHAQU_TABLE, plan, sizeof plan));
+    return 0;
+}

@@ -1,0 +1,58 @@
+/*
+ * Pelshaqu: the best division of a row of tiles among a row of machines.
+ *
+ * Link with the archive that `rt staticlib planner` writes, target/staticlib/libplanner.a.
+ */
+#ifndef PELSHAQU_H
+#define PELSHAQU_H
+
+#include <stddef.h>
+#include <stdint.h>
+
+#ifdef __cplusplus
+extern "C" {
+#endif
+
+/* The methods. All three give the same plan; they differ in the work that they do. */
+#define PELSHAQU_TABLE 1
+#define PELSHAQU_BIDDING 2
+#define PELSHAQU_BISECTION 3
+
+/* The most machines of a job, and the bytes of its plan. */
+#define PELSHAQU_MAX_MACHINES 256
+#define PELSHAQU_PLAN_RECORD 16
+#define PELSHAQU_MAX_PLAN (PELSHAQU_PLAN_RECORD * PELSHAQU_MAX_MACHINES)
+
+/*
+ * Plans a job file by a method and writes its plan file.
+ *
+ * job, job_len    a job file: 8-byte records without a header, little-endian. Byte 0 is the kind (1 machine, 2 tile), bytes 1
+ *                 to 3 are zero, bytes 4 to 7 are the speed (1 to 10,000) or the weight (0 to 1,000,000). Machines come first:
+ *                 1 to 256 machines, then 0 to 2,048 tiles.
+ * method          1 table, 2 bidding, 3 bisection.
+ * plan, plan_len  the buffer for the plan: a 16-byte record a machine, four 32-bit little-endian fields: the separator before
+ *                 the machine's tiles, the separator after them, their weight, the machine's speed. Machine p takes the tiles
+ *                 from the first field plus 1 to the second field. The first 16 bytes a machine are filled, later bytes stay.
+ *
+ * Returns 0, or the number of the refusal; a refusal changes nothing. They are tested in this order:
+ *    1  the method is not 1 to 3
+ *    2  the file's length is not a multiple of 8
+ *    3  a kind other than 1 or 2, or bytes 1 to 3 not zero   } record by record from the front,
+ *    4  a machine after a tile                               } in rising order within a record
+ *    5  a speed out of range                                 }
+ *    6  a weight out of range                                }
+ *    7  no machine, or more than 256
+ *    8  more than 2,048 tiles
+ *    9  the plan buffer is shorter than 16 bytes a machine
+ *
+ * No division of the job has a smaller bottleneck (the greatest weight / speed of a machine), and of all best divisions this is
+ * the one whose separators are furthest along. The call needs no memory but some 50 KB of stack, keeps no state and may run in
+ * several threads at once. A pointer may be NULL where its length is 0.
+ */
+uint32_t plan_job(const uint8_t *job, size_t job_len, uint32_t method, uint8_t *plan, size_t plan_len);
+
+#ifdef __cplusplus
+}
+#endif
+
+#endif
