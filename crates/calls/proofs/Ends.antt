@@ -34,7 +34,7 @@ pub sums-ready : {job : Job} {xs : List ℕ} (l : List ℕ) → Valid job → xs
 sums-ready {job} {xs} l v e = record { valid = v; prefix = subst (Prefix job) (sym e) (prefixes-are job l) }
 
 -- A list in whose front a partition was written.
-taken : {n : ℕ} (new l : List ℕ) {ys : List ℕ} → length new ≡ n → ys ≡ new ++ l → take n ys ≡ new
+pub taken : {n : ℕ} (new l : List ℕ) {ys : List ℕ} → length new ≡ n → ys ≡ new ++ l → take n ys ≡ new
 taken {n} new l h e = ap (take n) e ∙ take-at new l n h
 
 pub front-partition : {job : Job} (new l : List ℕ) {ys : List ℕ} → Partition job new → ys ≡ new ++ l → Partition job (take (suc (processors job)) ys)
@@ -84,7 +84,7 @@ unfolding probedOf
 probed-refused {n} r h = ap (λ (b : Bool). cond b r (ProbeRefused n)) (ne-eqb n 0 h)
 
 -- The list after a call that is accepted: n entries in front, the others stay.
-lent-front : {number n : ℕ} (new old : List ℕ) → number ≡ 0 → length new ≡ n → lentAfter number new old ≡ new ++ drop n old
+pub lent-front : {number n : ℕ} (new old : List ℕ) → number ≡ 0 → length new ≡ n → lentAfter number new old ≡ new ++ drop n old
 lent-front new old e l =
     ap (λ (k : ℕ). lentAfter k new old) e ∙ lent-accepted new old ∙ ap (λ (k : ℕ). new ++ drop k old) l
 
