@@ -40,17 +40,24 @@ probeInputs job B s = record { methods = []; lists = separatorsLent job s ∷ []
 unfoldable pub heuristicInputs : Job → List ℕ → Inputs
 heuristicInputs job s = record { methods = []; lists = separatorsLent job s ∷ []; bounds = []; divisions = [] }
 
+-- The answer of measuring and of the heuristic by the number of the refusal: the bottleneck, or that number.
+unfoldable pub measuredOf : ℕ → Bound → Measured
+measuredOf number B = cond (eqb number 0) (Bottleneck B) (Refused number)
+
 -- "Measuring a division gives its bottleneck."
 unfoldable pub measureAnswer : Job → List ℕ → Measured
-measureAnswer job s =
-    let number = refusal job (measureInputs job s) in
-    cond (eqb number 0) (Bottleneck (bottleneck job (take (suc (processors job)) s))) (Refused number)
+measureAnswer job s = measuredOf (refusal job (measureInputs job s)) (bottleneck job (take (suc (processors job)) s))
 
 -- "If that is within the bound the trial fits .. A trial that fails answers with the least next bid"
+unfoldable pub probed : Job → Bound → Probed
+probed job B = cond (fits job B) Fits (Fails (nextBid job B))
+
+-- The answer of a probe by the number of the refusal.
+unfoldable pub probedOf : ℕ → Probed → Probed
+probedOf number answer = cond (eqb number 0) answer (ProbeRefused number)
+
 unfoldable pub probeAnswer : Job → Bound → List ℕ → Probed
-probeAnswer job B s =
-    let number = refusal job (probeInputs job B s) in
-    cond (eqb number 0) (cond (fits job B) Fits (Fails (nextBid job B))) (ProbeRefused number)
+probeAnswer job B s = probedOf (refusal job (probeInputs job B s)) (probed job B)
 
 -- "the trial fits and the separators are written. A trial that fails .. leaves the separators untouched."
 unfoldable pub probeWrites : Job → Bound → List ℕ → List ℕ
@@ -58,9 +65,7 @@ probeWrites job B s = cond (fits job B) (lentAfter (refusal job (probeInputs job
 
 -- "The separators are written and their bottleneck is given."
 unfoldable pub heuristicAnswer : Job → List ℕ → Measured
-heuristicAnswer job s =
-    let number = refusal job (heuristicInputs job s) in
-    cond (eqb number 0) (Bottleneck (bottleneck job (heuristic job))) (Refused number)
+heuristicAnswer job s = measuredOf (refusal job (heuristicInputs job s)) (bottleneck job (heuristic job))
 
 unfoldable pub heuristicWrites : Job → List ℕ → List ℕ
 heuristicWrites job s = lentAfter (refusal job (heuristicInputs job s)) (heuristic job) s

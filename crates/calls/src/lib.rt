@@ -2,12 +2,29 @@
 // None has a `requires`: every test is inside, and nothing lent is written before the last test has passed.
 ghost use Prim.Native.Nat.{ℕ, suc, _+_, _≤_, _<_};
 ghost use mathlib.Core.Path.{_≡_};
+ghost use mathlib.Core.Bool.{cond};
 ghost use mathlib.Core.List.{_++_};
 ghost use lib.ListN.{length, take, drop};
-ghost use Rattle.chain.specs.Job.{jobOf};
-ghost use Rattle.chain.specs.Refusal.{isPartition};
-ghost use Rattle.calls.specs.Answers.{measureAnswer, probeAnswer, probeWrites, heuristicAnswer, heuristicWrites};
+ghost use Rattle.chain.specs.Job.{jobOf, Valid, Partition, bottleneck};
+ghost use Rattle.chain.specs.Probe.{walk, fits};
+ghost use Rattle.chain.specs.Refusal.{isPartition, boundTest};
+ghost use Rattle.chain.specs.Heuristic as quick;
+ghost use Rattle.chain.proofs.Ranges.{Lendable};
+ghost use Rattle.calls.specs.Answers.{measureAnswer, probed, probeAnswer, probeWrites, heuristicAnswer, heuristicWrites};
 use bound::Bound;
+use heuristic::heuristic_in;
+use heuristic::measure_in;
+use jobs::MAX_PROCESSORS;
+use jobs::MAX_TASKS;
+use jobs::test_job;
+use parts::prefix_sums;
+use probe::Outcome;
+use probe::probe_in;
+
+// The limits of a lent bound.
+pub const MAX_BOUND_LOAD: u64 = 100_000_000_000_000;
+
+pub const MAX_BOUND_SPEED: u64 = 1_000_000_000;
 
 // The answer of measuring and of the heuristic: the bottleneck, or the refusal's number.
 pub enum Measured {
@@ -50,4 +67,114 @@ fn copy_front(from: &[u32], to: &mut [u32], n: usize)
         to[i] = from[i];
         i += 1;
     }
+}
+
+// Whether a lent bound is within its limits. Inner.
+fn can_lend(bound: Bound) -> bool
+    ensures { λ r. ⌜ r ≡ (boundTest bound) .passes ⌝ }
+{
+    if MAX_BOUND_LOAD < bound.load {
+        return false;
+    }
+    if bound.speed == 0 {
+        return false;
+    }
+    bound.speed <= MAX_BOUND_SPEED
+}
+
+// Inner. The bottleneck of the partition in front of the list.
+fn measure_tested(speeds: &[u32], weights: &[u32], separators: &[u32]) -> Bound
+    requires { ⌜ Valid (jobOf (now weights) (now speeds)) ⌝ }
+    requires { ⌜ Partition (jobOf (now weights) (now speeds)) (take (suc (length (now speeds))) (now separators)) ⌝ }
+    ensures { λ r. ⌜ r ≡ bottleneck (jobOf (now (weights .entry)) (now (speeds .entry))) (take (suc (length (now (speeds .entry)))) (now (separators .entry))) ⌝ }
+{
+    let mut sums = [0u32; MAX_TASKS + 1];
+    prefix_sums(speeds, weights, &mut sums);
+    measure_in(speeds, weights, &sums, separators)
+}
+
+// Measures a partition: its bottleneck, or the refusal: 5, 6, 7, 8, 9 or 11, in this order. Entries past P + 1 are ignored.
+pub fn measure(speeds: &[u32], weights: &[u32], separators: &[u32]) -> Measured
+    ensures { λ r. ⌜ r ≡ measureAnswer (jobOf (now (weights .entry)) (now (speeds .entry))) (now (separators .entry)) ⌝ }
+{
+    let found = test_job(speeds, weights);
+    if found != 0 {
+        return Measured::Refused(found);
+    }
+    if separators.len() <= speeds.len() {
+        return Measured::Refused(9);
+    }
+    if !is_partition(speeds, weights, separators) {
+        return Measured::Refused(11);
+    }
+    Measured::Bottleneck(measure_tested(speeds, weights, separators))
+}
+
+// Inner. The probe at the bound: a fit writes the walk's P + 1 separators, a failure writes nothing.
+fn probe_tested(speeds: &[u32], weights: &[u32], bound: Bound, separators: &mut [u32]) -> Probed
+    requires { ⌜ Valid (jobOf (now weights) (now speeds)) ⌝ }
+    requires { ⌜ Lendable bound ⌝ }
+    requires { ⌜ length (now speeds) < length (now separators) ⌝ }
+    ensures { λ r. ⌜ r ≡ probed (jobOf (now (weights .entry)) (now (speeds .entry))) bound ⌝ }
+    ensures { λ r. ⌜ now (separators .exit) ≡ cond (fits (jobOf (now (weights .entry)) (now (speeds .entry))) bound) (walk (jobOf (now (weights .entry)) (now (speeds .entry))) bound ++ drop (suc (length (now (speeds .entry)))) (now (separators .entry))) (now (separators .entry)) ⌝ }
+{
+    let mut sums = [0u32; MAX_TASKS + 1];
+    let mut walked = [0u32; MAX_PROCESSORS + 1];
+    prefix_sums(speeds, weights, &mut sums);
+    let answer = probe_in(speeds, weights, &sums, bound, &mut walked);
+    match answer {
+        Outcome::Fits => {
+            copy_front(&walked, separators, speeds.len() + 1);
+            Probed::Fits
+        }
+        Outcome::Fails(next) => Probed::Fails(next),
+    }
+}
+
+// The probe at a lent bound: whether it fits, or the refusal: 5, 6, 7, 8, 9 or 10, in this order. A fit writes the P + 1
+// separators, a failure and a refusal write nothing. Later entries stay.
+pub fn probe(speeds: &[u32], weights: &[u32], bound: Bound, separators: &mut [u32]) -> Probed
+    ensures answer { λ r. ⌜ r ≡ probeAnswer (jobOf (now (weights .entry)) (now (speeds .entry))) bound (now (separators .entry)) ⌝ }
+    ensures separators { λ _. ⌜ now (separators .exit) ≡ probeWrites (jobOf (now (weights .entry)) (now (speeds .entry))) bound (now (separators .entry)) ⌝ }
+{
+    let found = test_job(speeds, weights);
+    if found != 0 {
+        return Probed::Refused(found);
+    }
+    if separators.len() <= speeds.len() {
+        return Probed::Refused(9);
+    }
+    if !can_lend(bound) {
+        return Probed::Refused(10);
+    }
+    probe_tested(speeds, weights, bound, separators)
+}
+
+// Inner. Writes the heuristic's separators and gives their bottleneck.
+fn heuristic_tested(speeds: &[u32], weights: &[u32], separators: &mut [u32]) -> Bound
+    requires { ⌜ Valid (jobOf (now weights) (now speeds)) ⌝ }
+    requires { ⌜ length (now speeds) < length (now separators) ⌝ }
+    ensures { λ r. ⌜ r ≡ bottleneck (jobOf (now (weights .entry)) (now (speeds .entry))) (quick.heuristic (jobOf (now (weights .entry)) (now (speeds .entry)))) ⌝ }
+    ensures { λ r. ⌜ now (separators .exit) ≡ quick.heuristic (jobOf (now (weights .entry)) (now (speeds .entry))) ++ drop (suc (length (now (speeds .entry)))) (now (separators .entry)) ⌝ }
+{
+    let mut sums = [0u32; MAX_TASKS + 1];
+    prefix_sums(speeds, weights, &mut sums);
+    heuristic_in(speeds, weights, &sums, separators);
+    measure_in(speeds, weights, &sums, separators)
+}
+
+// The heuristic: its bottleneck, or the refusal: 5, 6, 7, 8 or 9, in this order. It writes the P + 1 separators, a refusal
+// writes nothing. Later entries stay.
+pub fn heuristic(speeds: &[u32], weights: &[u32], separators: &mut [u32]) -> Measured
+    ensures answer { λ r. ⌜ r ≡ heuristicAnswer (jobOf (now (weights .entry)) (now (speeds .entry))) (now (separators .entry)) ⌝ }
+    ensures separators { λ _. ⌜ now (separators .exit) ≡ heuristicWrites (jobOf (now (weights .entry)) (now (speeds .entry))) (now (separators .entry)) ⌝ }
+{
+    let found = test_job(speeds, weights);
+    if found != 0 {
+        return Measured::Refused(found);
+    }
+    if separators.len() <= speeds.len() {
+        return Measured::Refused(9);
+    }
+    Measured::Bottleneck(heuristic_tested(speeds, weights, separators))
 }

@@ -1,0 +1,240 @@
+-- What a caller may read off the answers of the three calls and off the list that they leave.
+-- Assumes nothing.
+use Prim.Native.Nat.{ℕ, suc, _≤_, _<_}
+use mathlib.Core.Path.{_≡_, refl, sym, ap, subst, _∙_}
+use mathlib.Core.Bool.{Bool, true, false, not, cond}
+use mathlib.Core.List.{List, [], _∷_, _++_, map, List·Memᴰ·head, Memᴰ·append-left, Memᴰ·append-right}
+use mathlib.Core.Logic.{_≢_, _↔_}
+use native.Mathlib.Omega.{arith}
+use lib.Dec.{T, eqb, eqb→eq}
+use lib.ListN.{length, take, drop}
+use lib.Seq.{drop-at}
+use Rattle.bound.specs.declared.Bound.{Bound}
+use Rattle.bound.specs.Order.{over, plus, _≼_, _≺_, Real}
+use Rattle.bound.proofs.Order.{speed-real}
+use Rattle.chain.specs.Job.{Job, Valid, Partition, Within, processors, heaviest, slowest, ideal, bottleneck}
+use Rattle.chain.specs.Probe.{walk, fits, nextBid}
+use Rattle.chain.specs.Heuristic.{heuristic}
+use Rattle.chain.specs.Refusal.{Inputs, lengthTest, boundTest, partitionTest, jobTests, callTests, refusal}
+use Rattle.chain.proofs.Parts.{Proper, valid-proper}
+use Rattle.chain.proofs.Walk as walks
+use Rattle.chain.proofs.NextBid as bids
+use Rattle.chain.proofs.Heuristic.{heuristic-partition, heuristic-bound}
+use Rattle.chain.proofs.Ranges.{Lendable, lendable-test}
+use Rattle.chain.proofs.Refusals.{call-accepted, call-valid, partition-test}
+use Rattle.jobs.proofs.Lent.{lent-refused}
+use Rattle.jobs.specs.Answers.{lentAfter}
+use Rattle.probe.proofs.Answer.{walk-count}
+use Rattle.calls.specs.declared.Measured.{Measured}
+use Rattle.calls.specs.declared.Measured.the-variants.{Bottleneck, Refused}
+use Rattle.calls.specs.declared.Probed.{Probed}
+use Rattle.calls.specs.declared.Probed.the-variants.{Fits, Fails, Refused as ProbeRefused}
+use Rattle.calls.specs.Answers.{measuredNumber, probedNumber, measureInputs, probeInputs, heuristicInputs, measuredOf, measureAnswer, probed, probedOf, probeAnswer, probeWrites, heuristicAnswer, heuristicWrites}
+use Rattle.calls.proofs.Ends.{measured-refused, probed-refused, lent-front, taken, front-partition, front-bottleneck}
+
+truth : (b : Bool) → T b → b ≡ true
+truth true t = refl
+truth false t = absurd t
+
+untruth : (b : Bool) → T (not b) → b ≡ false
+untruth true t = absurd t
+untruth false t = refl
+
+-- An answer by its number.
+measured-number : (n : ℕ) (B : Bound) → measuredNumber (measuredOf n B) ≡ n
+unfolding measuredOf
+measured-number n B = go (eqb n 0) refl
+  where
+    go : (b : Bool) → eqb n 0 ≡ b → measuredNumber (cond b (Bottleneck B) (Refused n)) ≡ n
+    go true e = sym (eqb→eq n 0 (subst T (sym e) tt))
+    go false e = refl
+
+probed-number : (n : ℕ) (r : Probed) → probedNumber r ≡ 0 → probedNumber (probedOf n r) ≡ n
+unfolding probedOf
+probed-number n r h = go (eqb n 0) refl
+  where
+    go : (b : Bool) → eqb n 0 ≡ b → probedNumber (cond b r (ProbeRefused n)) ≡ n
+    go true e = h ∙ sym (eqb→eq n 0 (subst T (sym e) tt))
+    go false e = refl
+
+measured-bottleneck : {n : ℕ} {B C : Bound} → measuredOf n B ≡ Bottleneck C → (n ≡ 0) × (C ≡ B)
+unfolding measuredOf
+measured-bottleneck {n} {B} {C} e = go (eqb n 0) refl e
+  where
+    go : (b : Bool) → eqb n 0 ≡ b → cond b (Bottleneck B) (Refused n) ≡ Bottleneck C → (n ≡ 0) × (C ≡ B)
+    go true f h = (eqb→eq n 0 (subst T (sym f) tt), cc)
+    go false f h = let z : _≡_ {A = ℕ} 0 1 = cc in absurd (let y : ⊥ = omega arith in y)
+
+probed-number-zero : (job : Job) (B : Bound) → probedNumber (probed job B) ≡ 0
+unfolding probed
+probed-number-zero job B = go (fits job B)
+  where
+    go : (b : Bool) → probedNumber (cond b Fits (Fails (nextBid job B))) ≡ 0
+    go true = refl
+    go false = refl
+
+-- Measuring.
+module _ (job : Job) (s : List ℕ) where
+  -- The answer's number is the refusal's.
+  pub measure-number : measuredNumber (measureAnswer job s) ≡ refusal job (measureInputs job s)
+  unfolding measureAnswer
+  measure-number = measured-number (refusal job (measureInputs job s)) (bottleneck job (take (suc (processors job)) s))
+
+  accepted-partition : refusal job (measureInputs job s) ≡ 0 → Partition job (take (suc (processors job)) s)
+  unfolding callTests measureInputs partitionTest
+  accepted-partition e =
+      partition-test job (take (suc (processors job)) s) .0
+      (call-accepted job (measureInputs job s) .0 e (partitionTest job s) (Memᴰ·append-right ((jobTests job ++ lengthTest (suc (processors job)) (length s) ∷ []) ++ []) (List·Memᴰ·head refl)))
+
+  -- A bottleneck is given for a partition alone, and it is that partition's.
+  pub measure-promise : {B : Bound} → measureAnswer job s ≡ Bottleneck B
+      → Partition job (take (suc (processors job)) s) × (B ≡ bottleneck job (take (suc (processors job)) s))
+  unfolding measureAnswer
+  measure-promise e = let m = measured-bottleneck e in (accepted-partition (m .0), m .1)
+
+-- The heuristic.
+module _ (job : Job) (s : List ℕ) where
+  pub heuristic-number : measuredNumber (heuristicAnswer job s) ≡ refusal job (heuristicInputs job s)
+  unfolding heuristicAnswer
+  heuristic-number = measured-number (refusal job (heuristicInputs job s)) (bottleneck job (heuristic job))
+
+  -- A refusal leaves the list as it was.
+  pub heuristic-keeps : refusal job (heuristicInputs job s) ≢ 0 → heuristicWrites job s ≡ s
+  unfolding heuristicWrites
+  heuristic-keeps h = lent-refused h (heuristic job) s
+
+  -- The list then begins with a partition whose bottleneck is given; it is within heaviest/slowest of the ideal.
+  pub record Guess (C : Bound) : Type 0 where
+    pub partition : Partition job (take (suc (processors job)) (heuristicWrites job s))
+    pub measured : C ≡ bottleneck job (take (suc (processors job)) (heuristicWrites job s))
+    pub close : C ≼ plus (ideal job) (over (heaviest job) (slowest job))
+    pub behind : drop (suc (processors job)) (heuristicWrites job s) ≡ drop (suc (processors job)) s
+
+  pub heuristic-promise : {C : Bound} → heuristicAnswer job s ≡ Bottleneck C → Guess C
+  unfolding heuristicAnswer heuristicWrites
+  heuristic-promise {C} e =
+      record {
+        partition = front-partition (heuristic job) rest pa written;
+        measured = m .1 ∙ ap (bottleneck job) (sym (taken (heuristic job) rest (pa .count) written));
+        close = subst (λ (B : Bound). B ≼ plus (ideal job) (over (heaviest job) (slowest job))) (sym (m .1)) (heuristic-bound (valid-proper v));
+        behind = ap (drop (suc (processors job))) written ∙ drop-at (heuristic job) rest (suc (processors job)) (pa .count);
+      }
+    where
+      m : (refusal job (heuristicInputs job s) ≡ 0) × (C ≡ bottleneck job (heuristic job))
+      m = measured-bottleneck e
+
+      v : Valid job
+      v = call-valid job (heuristicInputs job s) (m .0)
+
+      pa : Partition job (heuristic job)
+      pa = heuristic-partition (valid-proper v)
+
+      rest : List ℕ
+      rest = drop (suc (processors job)) s
+
+      written : lentAfter (refusal job (heuristicInputs job s)) (heuristic job) s ≡ heuristic job ++ rest
+      written = lent-front (heuristic job) s (m .0) (pa .count)
+
+-- The probe.
+probed-fits : {n : ℕ} (job : Job) (B : Bound) → probedOf n (probed job B) ≡ Fits → (n ≡ 0) × T (fits job B)
+unfolding probedOf probed
+probed-fits {n} job B e = go (eqb n 0) refl (fits job B) e
+  where
+    go : (b : Bool) → eqb n 0 ≡ b → (t : Bool) → cond b (cond t Fits (Fails (nextBid job B))) (ProbeRefused n) ≡ Fits → (n ≡ 0) × T t
+    go true f true h = (eqb→eq n 0 (subst T (sym f) tt), tt)
+    go true f false h = let z : _≡_ {A = ℕ} 0 1 = cc in absurd (let y : ⊥ = omega arith in y)
+    go false f t h = let z : _≡_ {A = ℕ} 0 1 = cc in absurd (let y : ⊥ = omega arith in y)
+
+probed-fails : {n : ℕ} (job : Job) (B : Bound) {C : Bound} → probedOf n (probed job B) ≡ Fails C → (n ≡ 0) × T (not (fits job B)) × (C ≡ nextBid job B)
+unfolding probedOf probed
+probed-fails {n} job B {C} e = go (eqb n 0) refl (fits job B) e
+  where
+    go : (b : Bool) → eqb n 0 ≡ b → (t : Bool) → cond b (cond t Fits (Fails (nextBid job B))) (ProbeRefused n) ≡ Fails C
+        → (n ≡ 0) × T (not t) × (C ≡ nextBid job B)
+    go true f true h = let z : _≡_ {A = ℕ} 0 1 = cc in absurd (let y : ⊥ = omega arith in y)
+    go true f false h = (eqb→eq n 0 (subst T (sym f) tt), tt, cc)
+    go false f t h = let z : _≡_ {A = ℕ} 0 1 = cc in absurd (let y : ⊥ = omega arith in y)
+
+module _ (job : Job) (B : Bound) (s : List ℕ) where
+  pub probe-number : probedNumber (probeAnswer job B s) ≡ refusal job (probeInputs job B s)
+  unfolding probeAnswer
+  probe-number = probed-number (refusal job (probeInputs job B s)) (probed job B) (probed-number-zero job B)
+
+  -- A refusal leaves the list as it was.
+  pub probe-keeps : refusal job (probeInputs job B s) ≢ 0 → probeWrites job B s ≡ s
+  unfolding probeWrites
+  probe-keeps h = go (fits job B) (lent-refused h (walk job B) s)
+    where
+      go : (b : Bool) {l : List ℕ} → l ≡ s → cond b l s ≡ s
+      go true e = e
+      go false e = refl
+
+  accepted-real : refusal job (probeInputs job B s) ≡ 0 → Real B
+  unfolding callTests probeInputs
+  accepted-real e =
+      speed-real
+      (lendable-test B .0
+      (call-accepted job (probeInputs job B s) .0 e (boundTest B)
+      (Memᴰ·append-left [] (Memᴰ·append-right (jobTests job ++ lengthTest (suc (processors job)) (length s) ∷ []) (List·Memᴰ·head refl)))) .speed-positive)
+
+  -- Demand 2: an accepted probe fits exactly when some partition stays within the bound.
+  pub probe-fits-exactly : refusal job (probeInputs job B s) ≡ 0 → (probeAnswer job B s ≡ Fits) ↔ ((t : List ℕ) × Partition job t × Within job t B)
+  unfolding probeAnswer probedOf probed
+  probe-fits-exactly e =
+      let f = walks.fits-exactly (valid-proper (call-valid job (probeInputs job B s) e)) B (accepted-real e) in
+      (λ h. f .0 (probed-fits {n = refusal job (probeInputs job B s)} job B h .1), λ x. ap (λ (n : ℕ). probedOf n (probed job B)) e ∙ ap (λ (b : Bool). cond b Fits (Fails (nextBid job B))) (truth (fits job B) (f .1 x)))
+
+  -- A fit: the list then begins with a partition within the bound, and the entries behind it stay.
+  pub record Fitted : Type 0 where
+    pub partition : Partition job (take (suc (processors job)) (probeWrites job B s))
+    pub within : Within job (take (suc (processors job)) (probeWrites job B s)) B
+    pub behind : drop (suc (processors job)) (probeWrites job B s) ≡ drop (suc (processors job)) s
+
+  pub probe-fitted : probeAnswer job B s ≡ Fits → Fitted
+  unfolding probeAnswer probeWrites
+  probe-fitted e =
+      record {
+        partition = front-partition (walk job B) rest pa written;
+        within = subst (λ (t : List ℕ). Within job t B) (sym (taken (walk job B) rest (pa .count) written)) (walks.walk-within ok B (m .1));
+        behind = ap (drop (suc (processors job))) written ∙ drop-at (walk job B) rest (suc (processors job)) (pa .count);
+      }
+    where
+      m : (refusal job (probeInputs job B s) ≡ 0) × T (fits job B)
+      m = probed-fits job B e
+
+      ok : Proper job
+      ok = valid-proper (call-valid job (probeInputs job B s) (m .0))
+
+      pa : Partition job (walk job B)
+      pa = walks.walk-partition ok B
+
+      rest : List ℕ
+      rest = drop (suc (processors job)) s
+
+      written : cond (fits job B) (lentAfter (refusal job (probeInputs job B s)) (walk job B) s) s ≡ walk job B ++ rest
+      written =
+          ap (λ (b : Bool). cond b (lentAfter (refusal job (probeInputs job B s)) (walk job B) s) s) (truth (fits job B) (m .1))
+          ∙ lent-front (walk job B) s (m .0) (pa .count)
+
+  -- A failure: the next bid is above the bound, no partition stays within a smaller one, and the list is as it was.
+  pub record Failed (C : Bound) : Type 0 where
+    pub above : B ≺ C
+    pub least : (D : Bound) → Real D → (t : List ℕ) → Partition job t → Within job t D → C ≼ D
+    pub kept : probeWrites job B s ≡ s
+
+  pub probe-failed : {C : Bound} → probeAnswer job B s ≡ Fails C → Failed C
+  unfolding probeAnswer probeWrites
+  probe-failed {C} e =
+      record {
+        above = subst (λ (D : Bound). B ≺ D) (sym (m .2)) (bids.next-above ok B (m .1));
+        least = λ D r t pa w.
+            subst (λ (E : Bound). E ≼ D) (sym (m .2)) (bids.next-least ok B D (m .1) r (walks.partition-fits ok r pa w));
+        kept =
+            ap (λ (b : Bool). cond b (lentAfter (refusal job (probeInputs job B s)) (walk job B) s) s) (untruth (fits job B) (m .1));
+      }
+    where
+      m : (refusal job (probeInputs job B s) ≡ 0) × T (not (fits job B)) × (C ≡ nextBid job B)
+      m = probed-fails job B e
+
+      ok : Proper job
+      ok = valid-proper (call-valid job (probeInputs job B s) (m .0))

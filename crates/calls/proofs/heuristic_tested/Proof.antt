@@ -1,0 +1,72 @@
+-- `heuristic_tested` meets its contract.
+-- Assumes nothing.
+use Prim.Native.Nat.{suc}
+use mathlib.Core.List.{List}
+use native.Mathlib.Omega.{arith}
+use lib.ListN.{length, drop}
+use Rattle.chain.specs.Job.{Job, jobOf}
+use Rattle.chain.specs.Heuristic.{heuristic}
+use Rattle.chain.proofs.Parts.{valid-proper}
+use Rattle.chain.proofs.Heuristic.{heuristic-partition}
+use Rattle.jobs.proofs.Limits.{tasks-limit}
+use Rattle.calls.proofs.Ends.{sums-ready, front-partition, front-bottleneck}
+use borrow.Author.Needs.{needs}
+use Rattle.calls.proofs.heuristic_tested.Statement.{statement}
+use Rattle.calls.proofs.heuristic_tested.Tie as tie
+use Rattle.calls.proofs.heuristic_tested.Reads as reads
+use Rattle.calls.proofs.heuristic_tested.Lts as lts
+use Rattle.heuristic.proofs.heuristic_in.Reads as heuristic-in-reads
+use Rattle.heuristic.proofs.measure_in.Reads as measure-in-reads
+use Rattle.parts.proofs.prefix_sums.Reads as prefix-sums-reads
+
+slice-aggregate-prefix-sums : tie.Need-slice-aggregate-prefix-sums
+slice-aggregate-prefix-sums c = search needs
+
+prefix-sums-requires : tie.Need-prefix-sums-requires
+prefix-sums-requires c κs =
+    let s = c .before .before .before .before in (s .pre .0, omega (arith, s .pre .0 .tasks-limit, tasks-limit))
+
+slice-aggregate-heuristic-in : tie.Need-slice-aggregate-heuristic-in
+slice-aggregate-heuristic-in c = search needs
+
+heuristic-in-requires : tie.Need-heuristic-in-requires
+heuristic-in-requires c κs =
+    let s = c .before .before .before .before .before .before .before .before in (sums-ready _ (s .pre .0) (c .before .before .before .prefix-sums .ensures), s .pre .1)
+
+slice-aggregate-measure-in : tie.Need-slice-aggregate-measure-in
+slice-aggregate-measure-in c = search needs
+
+measure-in-requires : tie.Need-measure-in-requires
+measure-in-requires c κs =
+    let s = c .before .before .before .before .before .before .before .before .before .before .before .before .before in
+    let job : Job = jobOf (s .args .weights .now) (s .args .speeds .now) in (
+      sums-ready _ (s .pre .0) (c .before .before .before .before .before .before .before .before .prefix-sums .ensures),
+      front-partition (heuristic job) (drop (suc (length (s .args .speeds .now))) (s .args .separators .now)) (heuristic-partition (valid-proper (s .pre .0)))
+          (c .before .before .before .before .heuristic-in .ensures),
+    )
+
+same-length : tie.Need-same-length
+same-length c = search needs
+
+returns : tie.Need-returns
+returns c =
+    let s = c .before .before .before .before .before .before .before .before .before .before .before .before .before .before in
+    let job : Job = jobOf (s .args .weights .now) (s .args .speeds .now) in
+    let written = c .before .before .before .before .before .heuristic-in .ensures in (
+      front-bottleneck (heuristic job) (drop (suc (length (s .args .speeds .now))) (s .args .separators .now)) (heuristic-partition (valid-proper (s .pre .0))) written
+          (c .measure-in .ensures .1),
+      written,
+    )
+
+pub heuristic-tested-spec : {M : Type 1} → statement M
+heuristic-tested-spec =
+    tie.close
+    (tie.spec
+    slice-aggregate-prefix-sums
+    prefix-sums-requires
+    slice-aggregate-heuristic-in
+    heuristic-in-requires
+    slice-aggregate-measure-in
+    measure-in-requires
+    same-length
+    returns)

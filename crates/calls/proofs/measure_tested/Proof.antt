@@ -1,0 +1,39 @@
+-- `measure_tested` meets its contract.
+-- Assumes nothing.
+use native.Mathlib.Omega.{arith}
+use Rattle.jobs.proofs.Limits.{tasks-limit}
+use Rattle.calls.proofs.Ends.{sums-ready}
+use borrow.Author.Needs.{needs}
+use Rattle.calls.proofs.measure_tested.Statement.{statement}
+use Rattle.calls.proofs.measure_tested.Tie as tie
+use Rattle.calls.proofs.measure_tested.Reads as reads
+use Rattle.calls.proofs.measure_tested.Lts as lts
+use Rattle.heuristic.proofs.measure_in.Reads as measure-in-reads
+use Rattle.parts.proofs.prefix_sums.Reads as prefix-sums-reads
+
+slice-aggregate-prefix-sums : tie.Need-slice-aggregate-prefix-sums
+slice-aggregate-prefix-sums c = search needs
+
+prefix-sums-requires : tie.Need-prefix-sums-requires
+prefix-sums-requires c κs =
+    let s = c .before .before .before .before in (s .pre .0, omega (arith, s .pre .0 .tasks-limit, tasks-limit))
+
+slice-aggregate-measure-in : tie.Need-slice-aggregate-measure-in
+slice-aggregate-measure-in c = search needs
+
+measure-in-requires : tie.Need-measure-in-requires
+measure-in-requires c κs =
+    let s = c .before .before .before .before .before .before .before in (sums-ready _ (s .pre .0) (c .before .before .prefix-sums .ensures), s .pre .1)
+
+returns : tie.Need-returns
+returns c = search needs
+
+pub measure-tested-spec : {M : Type 1} → statement M
+measure-tested-spec =
+    tie.close
+    (tie.spec
+    slice-aggregate-prefix-sums
+    prefix-sums-requires
+    slice-aggregate-measure-in
+    measure-in-requires
+    returns)
