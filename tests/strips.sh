@@ -1,0 +1,227 @@
+#!/bin/sh
+# Runs the program `strips`, which a check has built, and the script ./strips, and compares what they write.
+set -eu
+cd "$(dirname "$0")/.."
+program=target/bin/strips
+[ -x "$program" ] || {
+    echo "tests/strips.sh: no $program; run 'rt check strips' first" >&2
+    exit 1
+}
+work=$(mktemp -d)
+trap 'rm -rf "$work"' EXIT
+passed=0
+failed=0
+
+# same NAME FILE FILE
+same() {
+    if cmp -s "$2" "$3"; then
+        passed=$((passed + 1))
+    else
+        failed=$((failed + 1))
+        echo "tests/strips.sh: $1: differs:" >&2
+        diff "$2" "$3" | head -n 10 >&2 || :
+    fi
+}
+
+# equal NAME WANTED GOT
+equal() {
+    printf '%s\n' "$2" >"$work/wanted"
+    printf '%s\n' "$3" >"$work/got"
+    same "$1" "$work/wanted" "$work/got"
+}
+
+# gives NAME LINE: the program answers the line to what is in $work/job
+gives() {
+    printf '%s\n' "$2" >"$work/wanted"
+    "$program" <"$work/job" >"$work/got"
+    same "$1" "$work/wanted" "$work/got"
+}
+
+# record KIND VALUE: one record of a job file
+record() {
+    printf "$(printf '\\%03o\\000\\000\\000\\%03o\\%03o\\%03o\\%03o' "$1" \
+        $(($2 % 256)) $(($2 / 256 % 256)) $(($2 / 65536 % 256)) $(($2 / 16777216 % 256)))"
+}
+
+# records COUNT KIND VALUE
+records() {
+    record "$2" "$3" >"$work/one"
+    awk -v n="$1" 'BEGIN { for (i = 0; i < n; i++) print "" }' | while read -r _; do cat "$work/one"; done
+}
+
+# every example, whole, by a pipe, and in pieces that end within a record
+for job in examples/*.job; do
+    "$program" <"$job" >"$work/got"
+    same "$job" "${job%.job}.txt" "$work/got"
+    cat "$job" | "$program" >"$work/got"
+    same "$job by a pipe" "${job%.job}.txt" "$work/got"
+    {
+        head -c 3 "$job"
+        sleep 0.1
+        tail -c +4 "$job" | head -c 1000
+        sleep 0.1
+        tail -c +1004 "$job" | head -c 9999
+        sleep 0.1
+        tail -c +11003 "$job"
+    } | "$program" >"$work/got"
+    same "$job in pieces" "${job%.job}.txt" "$work/got"
+done
+
+# byte by byte
+{
+    i=1
+    while [ "$i" -le 40 ]; do
+        tail -c "+$i" examples/A.job | head -c 1
+        sleep 0.01
+        i=$((i + 1))
+    done
+} | "$program" >"$work/got"
+same "A byte by byte" examples/A.txt "$work/got"
+
+# refusals
+: >"$work/job"
+gives "empty file" "refused 7"
+: | "$program" >"$work/got"
+echo "refused 7" >"$work/wanted"
+same "empty pipe" "$work/wanted" "$work/got"
+for length in 1 2 3 4 5 6 7 9 33 39; do
+    head -c "$length" examples/A.job >"$work/job"
+    gives "$length bytes" "refused 2"
+done
+record 3 1 >"$work/job"
+gives "kind 3" "refused 3"
+record 0 1 >"$work/job"
+gives "kind 0" "refused 3"
+for place in 1 2 3; do
+    {
+        record 1 1 | head -c "$place"
+        printf '\001'
+        record 1 1 | tail -c "+$((place + 2))"
+    } >"$work/job"
+    gives "byte $place not zero" "refused 3"
+done
+{
+    record 1 1
+    record 2 1
+    record 1 1
+} >"$work/job"
+gives "machine after tile" "refused 4"
+record 1 0 >"$work/job"
+gives "speed 0" "refused 5"
+record 1 10001 >"$work/job"
+gives "speed 10,001" "refused 5"
+record 1 10000 >"$work/job"
+"$program" <"$work/job" | head -n 1 >"$work/got"
+echo "tiles 0 machines 1 total 0" >"$work/wanted"
+same "speed 10,000" "$work/wanted" "$work/got"
+{
+    record 1 1
+    record 2 1000001
+} >"$work/job"
+gives "weight 1,000,001" "refused 6"
+record 2 5 >"$work/job"
+gives "no machine" "refused 7"
+records 257 1 1 >"$work/job"
+gives "257 machines" "refused 7"
+{
+    record 1 1
+    records 2049 2 0
+} >"$work/job"
+gives "2,049 tiles" "refused 8"
+
+# around the end of what is taken in: large2 is the longest job, 18,432 bytes
+records 2 2 1 >"$work/tail"
+for more in 1 2 3 4 5 6 7; do
+    {
+        cat examples/large2.job
+        head -c "$more" "$work/tail"
+    } >"$work/job"
+    gives "$((18432 + more)) bytes" "refused 2"
+done
+for more in 8 9 15 16; do
+    {
+        cat examples/large2.job
+        head -c "$more" "$work/tail"
+    } >"$work/job"
+    gives "$((18432 + more)) bytes" "refused 8"
+done
+{
+    cat examples/large2.job
+    record 1 1
+} >"$work/job"
+gives "a machine as record 2,305" "refused 4"
+{
+    cat examples/large2.job
+    record 2 1
+    record 9 9
+    printf '\001\002\003'
+} >"$work/job"
+gives "faults past what is taken in" "refused 8"
+{
+    cat examples/large2.job
+    head -c 100000 /dev/zero
+} >"$work/job"
+gives "zeros behind the longest job" "refused 3"
+{
+    record 1 1
+    records 2304 1 1
+    head -c 300000 /dev/zero
+} >"$work/job"
+gives "a longer file, 2,305 machines" "refused 7"
+{
+    {
+        cat examples/large2.job
+        sleep 0.1
+        head -c 4 "$work/tail"
+        sleep 0.1
+        tail -c +5 "$work/tail"
+        head -c 300000 /dev/zero
+    } 2>/dev/null || :
+} | "$program" >"$work/got"
+echo "refused 8" >"$work/wanted"
+same "a longer file in pieces" "$work/wanted" "$work/got"
+
+# input that cannot be read: nothing on standard output, a word on standard error
+"$program" <. >"$work/got" 2>"$work/said" || :
+: >"$work/wanted"
+same "a directory: nothing is listed" "$work/wanted" "$work/got"
+echo "strips: standard input cannot be read" >"$work/wanted"
+same "a directory: said so" "$work/wanted" "$work/said"
+
+# the script: what it writes, and its exit status
+# status NAME STATUS COMMAND..
+status() {
+    name=$1
+    wanted=$2
+    shift 2
+    got=0
+    "$@" >"$work/out" 2>"$work/err" </dev/null || got=$?
+    equal "$name" "$wanted" "$got"
+}
+status "script, a file" 0 ./strips examples/B.job
+same "script, a file: listing" examples/B.txt "$work/out"
+got=0
+./strips <examples/B.job >"$work/out" || got=$?
+equal "script, standard input" 0 "$got"
+same "script, standard input: listing" examples/B.txt "$work/out"
+(cd examples && ../strips -- C.job) >"$work/out"
+same "script, from another folder" examples/C.txt "$work/out"
+cp examples/D.job "$work/a job"
+status "script, a name with a space" 0 ./strips "$work/a job"
+same "script, a name with a space: listing" examples/D.txt "$work/out"
+status "script, a refusal" 1 ./strips -
+equal "script, a refusal: line" "refused 7" "$(cat "$work/out")"
+status "script, --help" 0 ./strips --help
+equal "script, --help: first line" "usage: ./strips [FILE]" "$(head -n 1 "$work/out")"
+status "script, no such file" 2 ./strips "$work/none"
+equal "script, no such file: said so" "strips: $work/none: no such file" "$(cat "$work/err")"
+equal "script, no such file: nothing listed" "" "$(cat "$work/out")"
+status "script, a directory" 2 ./strips examples
+status "script, two files" 2 ./strips examples/A.job examples/B.job
+status "script, unknown option" 2 ./strips --fast
+
+if [ "$failed" -ne 0 ]; then
+    echo "tests/strips.sh: $failed of $((passed + failed)) checks failed" >&2
+    exit 1
+fi
+echo "tests/strips.sh: $passed checks passed"
