@@ -1,0 +1,81 @@
+-- `quick` is safe and ends.
+-- Assumes nothing.
+use Prim.Native.Nat.{ℕ, suc, _-_, _≤_, _<_}
+use mathlib.Core.Path.{_≡_, refl, _∙_}
+use lib.ListN.{length, length-set}
+use borrow.Author.Needs.{needs}
+use native.Mathlib.Omega.{arith}
+use Rattle.calls_run.proofs.plain.quick.Statement.{statement}
+use Rattle.calls_run.proofs.plain.quick.Tie as tie
+use Rattle.calls_run.proofs.plain.quick.Reads as reads
+use Rattle.calls_run.proofs.plain.quick.Lts as lts
+use Rattle.calls_run.proofs.plain.ideal.Reads as ideal-reads
+use Rattle.calls_run.proofs.plain.nearest.Reads as nearest-reads
+use Rattle.calls_run.proofs.plain.product.Reads as product-reads
+use Rattle.calls_run.proofs.plain.put.Reads as put-reads
+use Rattle.calls_run.proofs.plain.sum.Reads as sum-reads
+
+abbrev Inv-loop : tie.InvT-loop
+Inv-loop speeds weights separators₀ all p₀ separators p = length separators ≡ length separators₀
+
+abbrev μ-loop : tie.MeasureT-loop
+μ-loop speeds weights separators₀ all p₀ separators p = length speeds - p
+
+ideal-requires : tie.Need-ideal-requires Inv-loop μ-loop
+ideal-requires c κs = search needs
+
+put-requires : tie.Need-put-requires Inv-loop μ-loop
+put-requires c κs = search needs
+
+loop-holds : tie.Need-loop-holds Inv-loop μ-loop
+loop-holds c = omega arith
+
+sum-requires : tie.Need-sum-requires Inv-loop μ-loop
+sum-requires c κs = search needs
+
+product-requires : tie.Need-product-requires Inv-loop μ-loop
+product-requires c κs = search needs
+
+nearest-requires : tie.Need-nearest-requires Inv-loop μ-loop
+nearest-requires c κs = search needs
+
+put-requires-2 : tie.Need-put-requires-2 Inv-loop μ-loop
+put-requires-2 c κs = search needs
+
+add-p : tie.Need-add-p Inv-loop μ-loop
+add-p c = omega arith
+
+loop-less : tie.Need-loop-less Inv-loop μ-loop
+loop-less c = omega arith
+
+loop-again : tie.Need-loop-again Inv-loop μ-loop
+loop-again c = omega arith
+
+put-requires-3 : tie.Need-put-requires-3 Inv-loop μ-loop
+put-requires-3 c κs = search needs
+
+same-length : tie.Need-same-length Inv-loop μ-loop
+same-length c = search needs
+
+returns : tie.Need-returns Inv-loop μ-loop
+returns c = search needs
+
+pub quick-spec : {M : Type 1} → statement M
+quick-spec =
+    tie.close
+    (tie.spec
+    Inv-loop
+    μ-loop
+    ideal-requires
+    put-requires
+    loop-holds
+    sum-requires
+    product-requires
+    nearest-requires
+    put-requires-2
+    add-p
+    loop-less
+    loop-again
+    put-requires-3
+    same-length
+    returns)
