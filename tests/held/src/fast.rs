@@ -1,0 +1,65 @@
+//! The fast reference, for jobs up to the limits.
+//!
+//! Two unequal bounds with speeds up to 10,000 lie at least 1/100,000,000 apart. On a grid of steps of half of that, the least
+//! step t at which a walk fits has exactly one share's bound between t − 1 (excluded) and t, and it is the least bottleneck. So
+//! the search is a halving of whole numbers t. The result is then checked exactly: no division keeps every share strictly below
+//! the bottleneck found, and the walk at the bottleneck itself gives the furthest division.
+
+use crate::job::Job;
+
+const STEPS: i128 = 200_000_000;
+
+/// Gives each machine but the last as many tiles as `within(load, speed)` allows; None if the last one's rest is too much.
+fn walk(job: &Job, within: impl Fn(i128, i128) -> bool) -> Option<Vec<usize>> {
+    let tiles = job.weights.len();
+    let mut separators = vec![0];
+    let mut at = 0;
+    let (last, others) = job.speeds.split_last().unwrap();
+    for &speed in others {
+        let mut load = 0i128;
+        while at < tiles && within(load + job.weights[at] as i128, speed as i128) {
+            load += job.weights[at] as i128;
+            at += 1;
+        }
+        separators.push(at);
+    }
+    let rest: i128 = job.weights[at..].iter().map(|&w| w as i128).sum();
+    separators.push(tiles);
+    within(rest, *last as i128).then_some(separators)
+}
+
+/// The furthest best division and its bottleneck.
+pub fn solve(job: &Job) -> (Vec<usize>, (u128, u128)) {
+    let total: i128 = job.weights.iter().map(|&w| w as i128).sum();
+    let fits = |t: i128| walk(job, |load, speed| load * STEPS <= t * speed);
+    // At `high` the whole row fits on the last machine.
+    let (mut low, mut high) = (-1i128, total * STEPS);
+    while high - low > 1 {
+        let middle = low + (high - low) / 2;
+        if fits(middle).is_some() {
+            high = middle;
+        } else {
+            low = middle;
+        }
+    }
+    let found = fits(high).expect("the high end fits");
+    let (load, speed) = bottleneck(job, &found);
+    if load > 0 {
+        let better = walk(job, |l, e| l * speed < load * e);
+        assert!(better.is_none(), "the reference is not the best for {:?}", job);
+    }
+    let separators = walk(job, |l, e| l * speed <= load * e).expect("the bottleneck fits");
+    let (load, speed) = bottleneck(job, &separators);
+    (separators, (load as u128, speed as u128))
+}
+
+fn bottleneck(job: &Job, separators: &[usize]) -> (i128, i128) {
+    let mut found = (-1i128, 1i128);
+    for (p, &speed) in job.speeds.iter().enumerate() {
+        let load: i128 = job.weights[separators[p]..separators[p + 1]].iter().map(|&w| w as i128).sum();
+        if load * found.1 > found.0 * speed as i128 {
+            found = (load, speed as i128);
+        }
+    }
+    found
+}

@@ -1,0 +1,65 @@
+//! An independent test of the planner's C call. HELD_SEED sets the seed, HELD_TIMES multiplies the random part.
+
+mod check;
+mod damage;
+mod fast;
+mod guard;
+mod job;
+mod known;
+mod large;
+mod planner;
+mod refusals;
+mod rng;
+mod slow;
+mod small;
+
+use std::time::Instant;
+
+fn number(name: &str, otherwise: u64) -> u64 {
+    match std::env::var(name) {
+        Ok(text) => text.trim().parse().unwrap_or_else(|_| {
+            println!("tests/held: FAILED, {} is not a number: {}", name, text);
+            std::process::exit(1)
+        }),
+        Err(_) => otherwise,
+    }
+}
+
+fn main() {
+    let seed = number("HELD_SEED", 1);
+    let times = number("HELD_TIMES", 1) as usize;
+    let talk = number("HELD_TALK", 0) != 0;
+    let start = Instant::now();
+    guard::watch(seed);
+    let mut c = check::Check::new(seed);
+    let parts: [(&str, &dyn Fn(&mut check::Check)); 5] = [
+        ("known jobs", &known::run),
+        ("refusals", &refusals::run),
+        ("damaged files", &|c| damage::run(c, times)),
+        ("small jobs", &|c| small::run(c, times)),
+        ("large jobs", &|c| large::run(c, times)),
+    ];
+    for (name, part) in parts {
+        let (calls, jobs, failures, from) = (c.calls, c.jobs_seen, c.failures, Instant::now());
+        part(&mut c);
+        if talk || c.failures > failures {
+            eprintln!("{}: {} jobs, {} calls, {} failures, {:.1} s", name, c.jobs_seen - jobs, c.calls - calls, c.failures - failures, from.elapsed().as_secs_f64());
+        }
+    }
+    // A run in which some answer never came up would be no test of it.
+    let unseen: Vec<usize> = (0..=9).filter(|&k| c.by_code[k] == 0).collect();
+    if !unseen.is_empty() {
+        c.fail(&format!("answers never seen: {:?}", unseen), String::new());
+    }
+    let word = if c.failures == 0 { "passed" } else { "FAILED" };
+    println!(
+        "tests/held: {}, {} jobs, {} calls, {} failures, seed {}, {:.0} s",
+        word,
+        c.jobs_seen,
+        c.calls,
+        c.failures,
+        seed,
+        start.elapsed().as_secs_f64()
+    );
+    std::process::exit((c.failures != 0) as i32);
+}

@@ -1,0 +1,60 @@
+//! The slow solver: tries every division of a small job.
+
+use crate::job::Job;
+
+/// A bound: load over speed.
+pub type Bound = (u128, u128);
+
+/// a/b < c/d.
+pub fn less(x: Bound, y: Bound) -> bool {
+    x.0 * y.1 < y.0 * x.1
+}
+
+/// The greatest share's bound; of equal ones that of the lowest machine.
+pub fn bottleneck(job: &Job, separators: &[usize]) -> Bound {
+    let mut greatest = (job.weight(0, separators[1]), job.speeds[0] as u128);
+    for p in 1..job.speeds.len() {
+        let share = (job.weight(separators[p], separators[p + 1]), job.speeds[p] as u128);
+        if less(greatest, share) {
+            greatest = share;
+        }
+    }
+    greatest
+}
+
+fn every_division(separators: &mut Vec<usize>, machines: usize, tiles: usize, visit: &mut dyn FnMut(&[usize])) {
+    if separators.len() == machines {
+        separators.push(tiles);
+        visit(separators);
+        separators.pop();
+        return;
+    }
+    for next in separators[separators.len() - 1]..=tiles {
+        separators.push(next);
+        every_division(separators, machines, tiles, visit);
+        separators.pop();
+    }
+}
+
+/// The best division whose every separator is furthest, and its bottleneck.
+pub fn solve(job: &Job) -> (Vec<usize>, Bound) {
+    let mut best: Vec<Vec<usize>> = Vec::new();
+    let mut least: Option<Bound> = None;
+    every_division(&mut vec![0], job.speeds.len(), job.weights.len(), &mut |separators| {
+        let b = bottleneck(job, separators);
+        match least {
+            Some(l) if less(l, b) => {}
+            Some(l) if !less(b, l) => best.push(separators.to_vec()),
+            _ => {
+                least = Some(b);
+                best = vec![separators.to_vec()];
+            }
+        }
+    });
+    let furthest: Vec<&Vec<usize>> =
+        best.iter().filter(|d| best.iter().all(|other| other.iter().zip(d.iter()).all(|(o, s)| o <= s))).collect();
+    assert_eq!(furthest.len(), 1, "no single furthest division of {:?}", job);
+    let division = furthest[0].clone();
+    let b = bottleneck(job, &division);
+    (division, b)
+}

@@ -1,0 +1,149 @@
+//! Small jobs against the slow solver.
+
+use crate::check::Check;
+use crate::job::Job;
+use crate::rng::Rng;
+use crate::{fast, slow};
+
+/// Both solvers must agree before the planner is asked.
+fn both(c: &mut Check, job: &Job) {
+    let s = slow::solve(job);
+    let f = fast::solve(job);
+    if s != f {
+        c.fail(&format!("the solvers differ: slow {:?}, fast {:?}", s, f), format!("  {:?}", job));
+    }
+    c.accepted(job, &s.0);
+}
+
+pub fn speeds(r: &mut Rng, machines: usize) -> Vec<u32> {
+    let style = r.below(8);
+    let same = r.range(1, 10_000);
+    let near = r.range(9_000, 9_990);
+    (0..machines)
+        .map(|_| match style {
+            0..=2 => r.range(1, 4),
+            3 => r.pick(&[1, 10_000]),
+            4 => r.range(1, 10_000),
+            5 => near + r.range(0, 10),
+            6 => same,
+            _ => r.range(1, 2),
+        })
+        .collect()
+}
+
+pub fn weights(r: &mut Rng, tiles: usize, speeds: &[u32]) -> Vec<u32> {
+    let style = r.below(12);
+    let same = r.range(0, 1_000_000);
+    let rare = 1 + r.below(tiles + 1);
+    let near = r.range(1, 99);
+    (0..tiles)
+        .map(|_| match style {
+            0 => r.range(0, 1),
+            1 => r.range(0, 3),
+            2 => r.range(0, 9),
+            3 => r.pick(&[0, 0, 0, 1, 2]),
+            4 => r.pick(&[0, 1, 2, 4, 8, 16]),
+            5 => r.range(0, 1_000_000),
+            6 => r.range(999_990, 1_000_000),
+            7 => same,
+            8 => r.pick(&[0, 1, 1_000_000]),
+            9 => 0,
+            // Loads that are nearly, or exactly, the same number of turns of some machine.
+            10 => r.pick(speeds) * near + r.range(0, 2) - 1,
+            _ => {
+                if r.once_in(rare) {
+                    r.range(1, 1_000_000)
+                } else {
+                    0
+                }
+            }
+        })
+        .collect()
+}
+
+/// Every job with up to 5 tiles and up to 3 machines of small numbers.
+fn every(c: &mut Check) {
+    for (tiles, machines, heaviest, fastest) in
+        [(0, 3, 0, 3), (1, 3, 5, 4), (2, 3, 5, 3), (3, 3, 4, 3), (4, 3, 2, 3), (5, 2, 3, 2), (5, 3, 2, 2), (6, 2, 2, 2), (3, 4, 2, 2)]
+    {
+        for m in 1..=machines {
+            every_list(m, 1, fastest, &mut |s| {
+                every_list(tiles, 0, heaviest, &mut |w| both(c, &Job::new(s, w)));
+            });
+        }
+    }
+}
+
+fn every_list(len: usize, least: u32, greatest: u32, visit: &mut dyn FnMut(&[u32])) {
+    let mut list = vec![least; len];
+    loop {
+        visit(&list);
+        let mut k = 0;
+        while k < len && list[k] == greatest {
+            list[k] = least;
+            k += 1;
+        }
+        if k == len {
+            return;
+        }
+        list[k] += 1;
+    }
+}
+
+/// A job whose two best cuts give bounds W1/e1 and W2/e2 that are equal or as near as two can be.
+/// With `tiles` tiles on each side of the tile between the cuts.
+pub fn neighbours(r: &mut Rng, tiles: usize) -> Job {
+    loop {
+        let (e1, e2) = (r.range(1, 10_000) as i64, r.range(1, 10_000) as i64);
+        let apart = r.range(0, 2) as i64 - 1;
+        let Some(start) = (0..e1).find(|w| (w * e2 - apart).rem_euclid(e1) == 0) else { continue };
+        let most = tiles as i64 * 1_000_000;
+        let w1 = start + e1 * r.below((most / e1) as usize + 1) as i64;
+        let w2 = (w1 * e2 - apart) / e1;
+        if w1 < 1 || w2 < 1 || w1 > most || w2 > most {
+            continue;
+        }
+        // W1 is the left side with the middle tile, W2 the middle tile with the right side.
+        let middle = r.range(1, w1.min(w2).min(1_000_000) as u32);
+        let mut weights = pieces(r, (w1 - middle as i64) as u32, tiles);
+        weights.push(middle);
+        weights.extend(pieces(r, (w2 - middle as i64) as u32, tiles));
+        return Job { speeds: vec![e1 as u32, e2 as u32], weights };
+    }
+}
+
+/// So many weights with a given sum.
+fn pieces(r: &mut Rng, sum: u32, tiles: usize) -> Vec<u32> {
+    let mut left = sum;
+    let mut list = Vec::new();
+    for k in (0..tiles as u32).rev() {
+        let least = left.saturating_sub(k * 1_000_000);
+        let w = if k == 0 { left } else { r.range(least, left.min(1_000_000).min(2 * (left / (k + 1)) + 1).max(least)) };
+        list.push(w);
+        left -= w;
+    }
+    list
+}
+
+pub fn run(c: &mut Check, times: usize) {
+    every(c);
+    for _ in 0..4_000 * times {
+        let sides = 1 + c.rng.below(3);
+        let mut job = neighbours(&mut c.rng, sides);
+        if c.rng.once_in(2) {
+            // A third machine before or after, with a tile of its own.
+            let (e, w) = (c.rng.range(1, 10_000), c.rng.range(0, 1_000_000));
+            let (p, i) = c.rng.pick(&[(0, 0), (2, job.weights.len())]);
+            job.speeds.insert(p, e);
+            job.weights.insert(i, w);
+        }
+        both(c, &job);
+    }
+    for _ in 0..120_000 * times {
+        let machines = 1 + c.rng.below(4);
+        let tiles = c.rng.below(9);
+        let speeds = speeds(&mut c.rng, machines);
+        let weights = weights(&mut c.rng, tiles, &speeds);
+        both(c, &Job { speeds, weights });
+    }
+}
