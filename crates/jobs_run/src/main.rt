@@ -11,6 +11,14 @@ fn number(n: u64) {
     io::print_decimal(1, n);
 }
 
+fn of_byte(x: u8) -> u64 {
+    x as u64
+}
+
+fn of_entry(x: u32) -> u64 {
+    x as u64
+}
+
 fn set(file: &mut [u8], at: usize, byte: u8) {
     if at < file.len() {
         file[at] = byte;
@@ -59,8 +67,7 @@ fn print_list(name: &[u8], list: &[u32]) {
     text(name);
     let mut i = 0;
     while i < list.len() {
-        let x = list[i];
-        number(x as u64);
+        number(of_entry(list[i]));
         i += 1;
     }
 }
@@ -68,8 +75,7 @@ fn print_list(name: &[u8], list: &[u32]) {
 fn print_byte(name: &[u8], file: &[u8], at: usize) {
     text(name);
     if at < file.len() {
-        let x = file[at];
-        number(x as u64);
+        number(of_byte(file[at]));
     }
 }
 
@@ -173,16 +179,21 @@ fn far(file: &mut [u8]) {
     line(b"3000 records", file, 24000);
 }
 
+// Reads 5 records into the first `p` and `n` entries.
+fn read_into(file: &[u8], speeds: &mut [u32], p: usize, weights: &mut [u32], n: usize) {
+    if p <= speeds.len() {
+        if n <= weights.len() {
+            read(file, 40, &mut speeds[..p], &mut weights[..n]);
+        }
+    }
+}
+
 // Lists of these lengths, 9 in each entry before.
 fn lent(name: &[u8], file: &[u8], p: usize, n: usize) {
     let mut speeds = [9u32; 4];
     let mut weights = [9u32; 5];
     text(name);
-    if p <= 4 {
-        if n <= 5 {
-            read(file, 40, &mut speeds[..p], &mut weights[..n]);
-        }
-    }
+    read_into(file, &mut speeds, p, &mut weights, n);
     print_list(b", speeds", &speeds);
     print_list(b", weights", &weights);
     text(b"\n");
@@ -233,22 +244,23 @@ fn list_ranges() {
     test(b"lists 300 0, speeds 0", &low, 300, &heavy, 0);
 }
 
-// What is written into a buffer of this length, 9 in its bytes 0 and 40 before.
-fn into(name: &[u8], file: &mut [u8], size: usize) {
+// Writes a job into the first `size` bytes.
+fn write(file: &mut [u8], size: usize) {
     let speeds = [10000u32; 2];
     let weights = [1000000u32; 3];
-    text(name);
     if size <= file.len() {
         let r = jobs::write_job(&speeds, &weights, &mut file[..size]);
         show_written(r);
     }
-    print_byte(b", byte 0", file, 0);
-    print_byte(b", byte 40", file, 40);
 }
 
+// A buffer of this length, 9 in its bytes 0 and 40 before; what was written is read back.
 fn buffer(name: &[u8], file: &mut [u8], size: usize) {
+    text(name);
     fill(file, 0, 6, 9, 9);
-    into(name, file, size);
+    write(file, size);
+    print_byte(b", byte 0", file, 0);
+    print_byte(b", byte 40", file, 40);
     lent(b", back", file, 4, 5);
 }
 
