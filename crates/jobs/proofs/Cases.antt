@@ -25,31 +25,31 @@ abbrev pub _gives_ : List ℕ → ℕ → Case
 file gives number = record { file = file; number = number }
 
 -- A machine and a tile.
-abbrev pub machine : ℕ → List ℕ
-machine v = recordBytes 1 v
+abbrev pub processorRecord : ℕ → List ℕ
+processorRecord v = recordBytes 1 v
 
-abbrev pub tile : ℕ → List ℕ
-tile v = recordBytes 2 v
+abbrev pub taskRecord : ℕ → List ℕ
+taskRecord v = recordBytes 2 v
 
 unfoldable pub files : List Case
 unfolding recordBytes fieldBytes recordsBytes
 files =
     ([] gives 7)
     ∷ ((0 ∷ 0 ∷ 0 ∷ 0 ∷ 0 ∷ 0 ∷ 0 ∷ []) gives 2)
-    ∷ (machine 10000 gives 0)
-    ∷ (machine 0 gives 5)
-    ∷ (machine 10001 gives 5)
-    ∷ ((machine 1 ++ tile 1000000) gives 0)
-    ∷ ((machine 1 ++ tile 1000001) gives 6)
-    ∷ (tile 5 gives 7)
+    ∷ (processorRecord 10000 gives 0)
+    ∷ (processorRecord 0 gives 5)
+    ∷ (processorRecord 10001 gives 5)
+    ∷ ((processorRecord 1 ++ taskRecord 1000000) gives 0)
+    ∷ ((processorRecord 1 ++ taskRecord 1000001) gives 6)
+    ∷ (taskRecord 5 gives 7)
     ∷ (recordBytes 3 1 gives 3)
     ∷ ((1 ∷ 0 ∷ 0 ∷ 1 ∷ 1 ∷ 0 ∷ 0 ∷ 0 ∷ []) gives 3)
-    ∷ ((tile 5 ++ machine 1) gives 4)
+    ∷ ((taskRecord 5 ++ processorRecord 1) gives 4)
     -- two faults: in one record in rising order, in two records from the front
-    ∷ ((tile 5 ++ machine 0) gives 4)
-    ∷ ((machine 0 ++ tile 1000001) gives 5)
-    ∷ ((machine 1 ++ tile 1000001 ++ machine 0) gives 6)
-    ∷ ((machine 0 ++ recordBytes 9 0 ++ 0 ∷ []) gives 2)
+    ∷ ((taskRecord 5 ++ processorRecord 0) gives 4)
+    ∷ ((processorRecord 0 ++ taskRecord 1000001) gives 5)
+    ∷ ((processorRecord 1 ++ taskRecord 1000001 ++ processorRecord 0) gives 6)
+    ∷ ((processorRecord 0 ++ recordBytes 9 0 ++ 0 ∷ []) gives 2)
     ∷ []
 
 unfoldable pub everyGives : List Case → Bool
@@ -70,7 +70,7 @@ lists-give = (refl, refl, refl, refl, refl)
 
 -- 9 comes last: a file that gives 7 gives it with lists of no length too.
 pub lent-gives :
-    (readRefusal (machine 1 ++ tile 2) 0 0 ≡ 9) × (readRefusal (machine 1 ++ tile 2) 1 0 ≡ 9) × (readRefusal (machine 1 ++ tile 2) 0 1 ≡ 9)
-    × (readRefusal (machine 1 ++ tile 2) 1 1 ≡ 0) × (readRefusal (tile 2) 0 0 ≡ 7)
+    (readRefusal (processorRecord 1 ++ taskRecord 2) 0 0 ≡ 9) × (readRefusal (processorRecord 1 ++ taskRecord 2) 1 0 ≡ 9) × (readRefusal (processorRecord 1 ++ taskRecord 2) 0 1 ≡ 9)
+    × (readRefusal (processorRecord 1 ++ taskRecord 2) 1 1 ≡ 0) × (readRefusal (taskRecord 2) 0 0 ≡ 7)
 unfolding readRefusal readTests lengthTest fileTests firstRefusal multipleTest recordsTests recordTests formTest orderTest speedTest weightTest valuesOf speedsOf weightsOf processorsTest tasksTest byteAt kindAt valueAt isKind taskBefore blank recordBytes fieldBytes maxTasks maxWeight maxProcessors maxSpeed
 lent-gives = (refl, refl, refl, refl, refl)

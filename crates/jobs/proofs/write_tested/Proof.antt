@@ -31,7 +31,7 @@ put-records-requires-2 : tie.Need-put-records-requires-2
 put-records-requires-2 c κs = search needs
 
 same-length : tie.Need-same-length
-same-length c = search needs
+same-length c = search needs depth 7
 
 returns-2 : tie.Need-returns-2
 returns-2 c = search write-laws
