@@ -1,0 +1,109 @@
+//! A contest: the calls of both sides that do the same work, compared for equality, then timed in turn on the same jobs.
+use crate::sides::{self, Call, Job, Room};
+use std::time::{Duration, Instant};
+
+/// How long a contest goes on, and the least and the most repetitions of it.
+const BUDGET: Duration = Duration::from_millis(300);
+const LEAST: usize = 3;
+const MOST: usize = 40;
+
+pub struct Contest {
+    pub name: &'static str,
+    pub sides: &'static [(&'static str, Call)],
+    /// How many entries of the answer count.
+    pub answers: usize,
+}
+
+pub const CONTESTS: [Contest; 5] = [
+    Contest {
+        name: "table",
+        sides: &[("planner_table", sides::planner_table), ("plain_table", sides::plain_table)],
+        answers: 5,
+    },
+    Contest {
+        name: "bidding",
+        sides: &[
+            ("planner_bidding", sides::planner_bidding),
+            ("plain_bidding", sides::plain_bidding),
+            ("plain_resumed", sides::plain_resumed),
+        ],
+        answers: 5,
+    },
+    Contest {
+        name: "bisection",
+        sides: &[
+            ("planner_bisection", sides::planner_bisection),
+            ("plain_bisection", sides::plain_bisection),
+        ],
+        answers: 5,
+    },
+    Contest {
+        name: "quick plan",
+        sides: &[("planner_quick", sides::planner_quick), ("plain_quick", sides::plain_quick)],
+        answers: 2,
+    },
+    Contest {
+        name: "trial",
+        sides: &[("planner_trial", sides::planner_trial), ("plain_trial", sides::plain_trial)],
+        answers: 3,
+    },
+];
+
+impl Contest {
+    /// One call of a side on buffers that hold a pattern: what it answers and what it leaves in the separators.
+    fn ask(&self, call: Call, job: &Job) -> (u32, Vec<u64>, Vec<u32>) {
+        let mut room = Room::new();
+        room.separators.fill(7);
+        room.answer.fill(9);
+        let refused = call(job, &mut room);
+        (refused, room.answer[..self.answers].to_vec(), room.separators)
+    }
+
+    /// Compares every side's answers and separators on every job, and gives the first side's answers.
+    pub fn compare(&self, jobs: &[Job]) -> Vec<Vec<u64>> {
+        let mut given = Vec::new();
+        for job in jobs {
+            let first = self.ask(self.sides[0].1, job);
+            assert_eq!(first.0, 0, "{}: refused", self.name);
+            for (name, call) in &self.sides[1..] {
+                assert_eq!(first, self.ask(*call, job), "{name}: another answer");
+            }
+            given.push(first.1);
+        }
+        given
+    }
+
+    /// The nanoseconds of a call of each side: for each job the least of the repetitions, and the mean of these over the jobs.
+    /// A repetition goes once round all jobs; on each job the sides take turns, the first one changing with each repetition.
+    pub fn time(&self, jobs: &[Job]) -> Vec<f64> {
+        let mut room = Room::new();
+        let mut least = vec![vec![f64::INFINITY; jobs.len()]; self.sides.len()];
+        let start = Instant::now();
+        for repetition in 0..MOST {
+            if repetition >= LEAST && start.elapsed() > BUDGET {
+                break;
+            }
+            for (j, job) in jobs.iter().enumerate() {
+                for turn in 0..self.sides.len() {
+                    let side = (turn + repetition) % self.sides.len();
+                    let began = Instant::now();
+                    let refused = (self.sides[side].1)(job, &mut room);
+                    let took = began.elapsed().as_nanos() as f64;
+                    assert_eq!(std::hint::black_box(refused), 0);
+                    least[side][j] = least[side][j].min(took);
+                }
+            }
+        }
+        least.iter().map(|times| times.iter().sum::<f64>() / jobs.len() as f64).collect()
+    }
+
+    /// Calls each side once on each job, for an instruction count.
+    pub fn call_all(&self, jobs: &[Job]) {
+        let mut room = Room::new();
+        for (_, call) in self.sides {
+            for job in jobs {
+                assert_eq!(call(job, &mut room), 0);
+            }
+        }
+    }
+}

@@ -1,0 +1,108 @@
+//! The jobs that are measured: three families of weights, three ranges of speeds, from a seed.
+use crate::plain::{Bound, MAX_WEIGHT};
+use crate::sides::Job;
+
+const SEED: u64 = 1;
+
+/// splitmix64.
+struct Random(u64);
+
+impl Random {
+    fn new(seed: u64) -> Random {
+        Random(seed)
+    }
+
+    fn next(&mut self) -> u64 {
+        self.0 = self.0.wrapping_add(0x9e37_79b9_7f4a_7c15);
+        let mut z = self.0;
+        z = (z ^ (z >> 30)).wrapping_mul(0xbf58_476d_1ce4_e5b9);
+        z = (z ^ (z >> 27)).wrapping_mul(0x94d0_49bb_1331_11eb);
+        z ^ (z >> 31)
+    }
+
+    /// A whole number from lo to hi.
+    fn between(&mut self, lo: u32, hi: u32) -> u32 {
+        lo + (self.next() % (hi - lo + 1) as u64) as u32
+    }
+
+    /// A number above 0 and at most 1.
+    fn unit(&mut self) -> f64 {
+        ((self.next() >> 11) + 1) as f64 / (1u64 << 53) as f64
+    }
+
+    /// A standard normal number (Box and Muller).
+    fn normal(&mut self) -> f64 {
+        let radius = (-2.0 * self.unit().ln()).sqrt();
+        radius * (std::f64::consts::TAU * self.unit()).cos()
+    }
+}
+
+/// A family of weights.
+#[derive(Clone, Copy, Debug, PartialEq, Eq, Hash)]
+pub enum Family {
+    Uniform,
+    Lognormal,
+    Heavy,
+}
+
+impl Family {
+    pub const ALL: [Family; 3] = [Family::Uniform, Family::Lognormal, Family::Heavy];
+
+    pub fn name(self) -> &'static str {
+        match self {
+            Family::Uniform => "near-uniform",
+            Family::Lognormal => "lognormal",
+            Family::Heavy => "heavy-tailed",
+        }
+    }
+
+    pub fn named(name: &str) -> Option<Family> {
+        Family::ALL.into_iter().find(|family| family.name() == name)
+    }
+
+    fn weight(self, random: &mut Random) -> u32 {
+        let drawn = match self {
+            Family::Uniform => random.between(900, 1100) as f64,
+            Family::Lognormal => 1000.0 * random.normal().exp(),
+            Family::Heavy => 100.0 * random.unit().powf(-1.0 / 1.1),
+        };
+        drawn.min(MAX_WEIGHT as f64) as u32
+    }
+}
+
+/// A shape of job: N tasks, P processors, speeds from 1 to `fastest`.
+#[derive(Clone, Copy, Debug, PartialEq, Eq, Hash)]
+pub struct Shape {
+    pub family: Family,
+    pub tasks: usize,
+    pub processors: usize,
+    pub fastest: u32,
+}
+
+impl Shape {
+    pub fn speeds_name(&self) -> String {
+        match self.fastest {
+            1 => "equal".to_string(),
+            fastest => format!("1–{fastest}"),
+        }
+    }
+
+    /// The first jobs of the shape, always the same ones.
+    pub fn jobs(&self, count: usize) -> Vec<Job> {
+        let mut random = Random::new(SEED);
+        (0..count).map(|_| self.job(&mut random)).collect()
+    }
+
+    /// A job, with a bound for its trial that lies near the least bottleneck: the ideal and a random part of the heaviest
+    /// weight over the mean speed. Some trials fit, some fail.
+    fn job(&self, random: &mut Random) -> Job {
+        let weights: Vec<u32> = (0..self.tasks).map(|_| self.family.weight(random)).collect();
+        let speeds: Vec<u32> = (0..self.processors).map(|_| random.between(1, self.fastest)).collect();
+        let total: u64 = weights.iter().map(|&w| w as u64).sum();
+        let heaviest = weights.iter().copied().max().unwrap_or(0) as u64;
+        let speed: u64 = speeds.iter().map(|&e| e as u64).sum();
+        let extra = heaviest * self.processors as u64 * random.between(0, 100) as u64 / 100;
+        let trial = Bound { load: total + extra, speed };
+        Job { speeds, weights, trial }
+    }
+}

@@ -1,0 +1,58 @@
+//! The benchmark of the planner against plain Rust. `run` calls it:
+//!     bench measure                         times, counts and imbalances as records, to standard output
+//!     bench count FAMILY N P FASTEST JOBS   calls each side of each contest once a job, for callgrind
+//!     bench shapes                          the shapes that are to be counted, one to a line
+//!     bench tables FILE...                  the tables, from records
+mod contest;
+mod jobs;
+mod measure;
+mod plain;
+mod records;
+mod sides;
+mod tables;
+
+use contest::CONTESTS;
+use jobs::{Family, Shape};
+
+// Moves what is linked behind it (see build.rs).
+std::arch::global_asm!(
+    ".section .text.bench_padding,\"ax\",@progbits",
+    ".p2align 6",
+    ".globl bench_padding",
+    "bench_padding:",
+    concat!(".skip 16 + ", env!("PADDING")),
+    ".text"
+);
+
+extern "C" {
+    fn bench_padding();
+}
+
+fn count(args: &[String]) {
+    let number = |i: usize| args[i].parse::<usize>().expect("a number");
+    let shape = Shape {
+        family: Family::named(&args[0]).expect("a family"),
+        tasks: number(1),
+        processors: number(2),
+        fastest: number(3) as u32,
+    };
+    let jobs = shape.jobs(number(4));
+    for contest in &CONTESTS {
+        contest.call_all(&jobs);
+    }
+}
+
+fn main() {
+    std::hint::black_box(bench_padding as *const ()); // so that the linker keeps it
+    let args: Vec<String> = std::env::args().skip(1).collect();
+    match args.first().map(String::as_str) {
+        Some("measure") if args.len() == 1 => measure::all(),
+        Some("count") if args.len() == 6 => count(&args[1..]),
+        Some("shapes") if args.len() == 1 => measure::print_shapes(),
+        Some("tables") if args.len() > 1 => tables::print(&args[1..]),
+        _ => {
+            eprintln!("usage: bench measure | count FAMILY N P FASTEST JOBS | shapes | tables FILE...");
+            std::process::exit(2);
+        }
+    }
+}

@@ -1,0 +1,97 @@
+//! What is measured: the shapes, and the records of each.
+use crate::contest::CONTESTS;
+use crate::jobs::{Family, Shape};
+use crate::records;
+use crate::sides::Job;
+
+/// The jobs of a shape that are gone round.
+const JOBS: usize = 32;
+
+pub const TASKS: usize = 2048;
+pub const FASTEST: [u32; 3] = [1, 4, 16];
+/// N/P = 8, 32, 128.
+pub const PROCESSORS: [usize; 3] = [256, 64, 16];
+/// The shape of the figures in microseconds, N/P = 16.
+pub const SINGLE: usize = 128;
+pub const GROWTH_TASKS: [usize; 4] = [256, 512, 1024, 2048];
+pub const GROWTH_PROCESSORS: [usize; 5] = [16, 32, 64, 128, 256];
+
+/// The shape of the growth with N or P: lognormal weights, speeds 1 to 4.
+pub fn growth(tasks: usize, processors: usize) -> Shape {
+    Shape { family: Family::Lognormal, tasks, processors, fastest: 4 }
+}
+
+/// Every shape that is measured, each once.
+fn shapes() -> Vec<Shape> {
+    let mut shapes = Vec::new();
+    for family in Family::ALL {
+        for fastest in FASTEST {
+            for processors in PROCESSORS.into_iter().chain([SINGLE]) {
+                shapes.push(Shape { family, tasks: TASKS, processors, fastest });
+            }
+        }
+    }
+    let by_tasks = GROWTH_TASKS.map(|tasks| growth(tasks, 64));
+    let by_processors = GROWTH_PROCESSORS.map(|processors| growth(TASKS, processors));
+    for shape in by_tasks.into_iter().chain(by_processors) {
+        if !shapes.contains(&shape) {
+            shapes.push(shape);
+        }
+    }
+    shapes
+}
+
+/// The shapes whose instructions are counted: those of the ratios.
+pub fn print_shapes() {
+    for shape in shapes() {
+        if shape.tasks == TASKS && PROCESSORS.contains(&shape.processors) {
+            println!("{} {} {} {}", shape.family.name(), shape.tasks, shape.processors, shape.fastest);
+        }
+    }
+}
+
+fn mean(values: impl Iterator<Item = f64>) -> f64 {
+    values.sum::<f64>() / JOBS as f64
+}
+
+/// By how much a bottleneck is above the ideal, as a part of the ideal.
+fn excess(job: &Job, load: u64, speed: u64) -> f64 {
+    let total: u64 = job.weights.iter().map(|&w| w as u64).sum();
+    let all: u64 = job.speeds.iter().map(|&e| e as u64).sum();
+    (load as f64 * all as f64) / (speed as f64 * total as f64) - 1.0
+}
+
+/// Times of all sides, and what the answers say of counts, allowances and imbalances.
+fn measure(shape: Shape) {
+    let jobs = shape.jobs(JOBS);
+    for contest in &CONTESTS {
+        let answers = contest.compare(&jobs);
+        for (side, time) in contest.sides.iter().zip(contest.time(&jobs)) {
+            records::write("time", side.0, shape, time);
+        }
+        let fact = |name: &str, value: f64| {
+            records::write("fact", &format!("{} {name}", contest.name), shape, value);
+        };
+        let bottleneck = match contest.answers {
+            5 => 2,
+            2 => 0,
+            _ => continue,
+        };
+        let parts = jobs.iter().zip(&answers);
+        fact("imbalance", mean(parts.map(|(job, a)| excess(job, a[bottleneck], a[bottleneck + 1]))));
+        if contest.answers == 5 {
+            fact("count", mean(answers.iter().map(|a| a[0] as f64)));
+            fact("allowance", mean(answers.iter().map(|a| a[1] as f64)));
+            fact("most", answers.iter().map(|a| a[0] as f64 / a[1] as f64).fold(0.0, f64::max));
+        }
+    }
+}
+
+pub fn all() {
+    let shapes = shapes();
+    for (k, shape) in shapes.iter().enumerate() {
+        eprint!("\r  shape {} of {}   ", k + 1, shapes.len());
+        measure(*shape);
+    }
+    eprintln!();
+}

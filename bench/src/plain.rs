@@ -1,0 +1,419 @@
+//! The planner's algorithms in plain Rust: the same tests, the same arithmetic, the same steps.
+#![forbid(unsafe_code)]
+
+pub const MAX_TASKS: usize = 2048;
+pub const MAX_WEIGHT: u32 = 1_000_000;
+pub const MAX_PROCESSORS: usize = 256;
+pub const MAX_SPEED: u32 = 10_000;
+pub const MAX_BOUND_LOAD: u64 = 100_000_000_000_000;
+pub const MAX_BOUND_SPEED: u64 = 1_000_000_000;
+
+/// Load over speed, compared by cross products.
+#[derive(Clone, Copy, Debug, PartialEq)]
+pub struct Bound {
+    pub load: u64,
+    pub speed: u64,
+}
+
+impl Bound {
+    /// Greater than every bound that occurs.
+    const ENDLESS: Bound = Bound { load: 1, speed: 0 };
+
+    #[inline]
+    fn at_most(self, other: Bound) -> bool {
+        self.load * other.speed <= other.load * self.speed
+    }
+
+    #[inline]
+    fn lesser(self, other: Bound) -> Bound {
+        if self.at_most(other) { self } else { other }
+    }
+
+    #[inline]
+    fn midpoint(self, other: Bound) -> Bound {
+        Bound {
+            load: self.load * other.speed + other.load * self.speed,
+            speed: 2 * (self.speed * other.speed),
+        }
+    }
+}
+
+/// What a method ends with.
+pub struct Found {
+    pub bound: Bound,
+    pub count: u32,
+}
+
+/// What a plan carries beside its separators.
+pub struct Figures {
+    pub count: u32,
+    pub allowance: u32,
+    pub bottleneck: Bound,
+    pub imbalance: u64,
+}
+
+/// The methods; bidding in two forms, which give the same answers and counts.
+#[derive(Clone, Copy, Debug, PartialEq)]
+pub enum Method {
+    Table,
+    Bidding,
+    BiddingResumed,
+    Bisection,
+}
+
+fn each_between(lo: u32, hi: u32, values: &[u32]) -> bool {
+    values.iter().all(|v| (lo..=hi).contains(v))
+}
+
+/// The tests of the two lists, in document 01's order.
+fn test_job(speeds: &[u32], weights: &[u32]) -> Result<(), u32> {
+    if !each_between(1, MAX_SPEED, speeds) {
+        return Err(5);
+    }
+    if !each_between(0, MAX_WEIGHT, weights) {
+        return Err(6);
+    }
+    if speeds.is_empty() || speeds.len() > MAX_PROCESSORS {
+        return Err(7);
+    }
+    if weights.len() > MAX_TASKS {
+        return Err(8);
+    }
+    Ok(())
+}
+
+/// Writes W(1,0) to W(1,N) to the front of the list and hands that front back.
+fn prefix_sums<'a>(weights: &[u32], list: &'a mut [u32]) -> &'a [u32] {
+    let sums = &mut list[..=weights.len()];
+    let mut sum = 0;
+    sums[0] = 0;
+    for (slot, weight) in sums[1..].iter_mut().zip(weights) {
+        sum += weight;
+        *slot = sum;
+    }
+    sums
+}
+
+fn total_speed(speeds: &[u32]) -> u64 {
+    speeds.iter().map(|&e| e as u64).sum()
+}
+
+fn ideal(speeds: &[u32], sums: &[u32]) -> Bound {
+    Bound {
+        load: sums[sums.len() - 1] as u64,
+        speed: total_speed(speeds),
+    }
+}
+
+/// The last index from a on whose sum is at most the cap, by galloping and halving; the last sum is above it.
+#[inline]
+fn last_at_most(sums: &[u32], a: usize, cap: u32) -> usize {
+    let n = sums.len() - 1;
+    let mut low = a;
+    let mut high = n + 1;
+    let mut step = 1;
+    while step <= n - low {
+        let next = low + step;
+        if sums[next] > cap {
+            high = next;
+            break;
+        }
+        low = next;
+        step += step;
+    }
+    while high - low > 1 {
+        let mid = low + (high - low) / 2;
+        if sums[mid] <= cap {
+            low = mid;
+        } else {
+            high = mid;
+        }
+    }
+    low
+}
+
+/// The greatest end of a part from a on that is within the bound on a machine of this speed.
+#[inline]
+fn part_end(sums: &[u32], a: usize, speed: u32, bound: Bound) -> usize {
+    let n = sums.len() - 1;
+    let limit = bound.load * speed as u64 / bound.speed;
+    if (sums[n] - sums[a]) as u64 <= limit {
+        return n;
+    }
+    last_at_most(sums, a, sums[a] + limit as u32)
+}
+
+/// The bound of the part from a to b.
+#[inline]
+fn part_bound(sums: &[u32], a: usize, b: usize, speed: u32) -> Bound {
+    Bound {
+        load: (sums[b] - sums[a]) as u64,
+        speed: speed as u64,
+    }
+}
+
+/// One walk at the bound from machine `first` on, whose part begins at separators[first]; `best` is the least bid before it.
+/// Writes the separators behind it. None where it fits, else the least next bid.
+fn walk(
+    speeds: &[u32],
+    sums: &[u32],
+    bound: Bound,
+    first: usize,
+    mut best: Bound,
+    separators: &mut [u32],
+) -> Option<Bound> {
+    let n = sums.len() - 1;
+    let last = speeds.len() - 1;
+    let separators = &mut separators[..=speeds.len()];
+    let mut a = separators[first] as usize;
+    for (&speed, end) in speeds[first..last].iter().zip(&mut separators[first + 1..]) {
+        let b = part_end(sums, a, speed, bound);
+        best = best.lesser(part_bound(sums, a, (b + 1).min(n), speed));
+        *end = b as u32;
+        a = b;
+    }
+    separators[last + 1] = n as u32;
+    let rest = part_bound(sums, a, n, speeds[last]);
+    if rest.at_most(bound) { None } else { Some(best.lesser(rest)) }
+}
+
+/// The walk of all machines.
+fn trial(speeds: &[u32], sums: &[u32], bound: Bound, separators: &mut [u32]) -> Option<Bound> {
+    separators[0] = 0;
+    walk(speeds, sums, bound, 0, Bound::ENDLESS, separators)
+}
+
+fn bidding(speeds: &[u32], sums: &[u32], separators: &mut [u32]) -> Found {
+    let mut bound = ideal(speeds, sums);
+    let mut count = 1;
+    while let Some(next) = trial(speeds, sums, bound, separators) {
+        bound = next;
+        count += 1;
+    }
+    Found { bound, count }
+}
+
+/// The first machine whose bid is at most the bound, and the least bid before it; the last machine bids all that remains.
+fn first_bidder(speeds: &[u32], sums: &[u32], separators: &[u32], bound: Bound) -> (usize, Bound) {
+    let n = sums.len() - 1;
+    let last = speeds.len() - 1;
+    let mut best = Bound::ENDLESS;
+    for (p, (pair, &speed)) in separators.windows(2).zip(&speeds[..last]).enumerate() {
+        let bid = part_bound(sums, pair[0] as usize, (pair[1] as usize + 1).min(n), speed);
+        if bid.at_most(bound) {
+            return (p, best);
+        }
+        best = best.lesser(bid);
+    }
+    (last, best)
+}
+
+/// Bidding whose walks begin at the first machine whose separator moves.
+fn bidding_resumed(speeds: &[u32], sums: &[u32], separators: &mut [u32]) -> Found {
+    let mut bound = ideal(speeds, sums);
+    let mut count = 1;
+    let mut first = 0;
+    let mut best = Bound::ENDLESS;
+    separators[0] = 0;
+    while let Some(next) = walk(speeds, sums, bound, first, best, separators) {
+        bound = next;
+        count += 1;
+        (first, best) = first_bidder(speeds, sums, separators, bound);
+    }
+    Found { bound, count }
+}
+
+/// The bottleneck of the division in front of the list.
+fn bottleneck(speeds: &[u32], sums: &[u32], separators: &[u32]) -> Bound {
+    let mut parts = separators.windows(2).zip(speeds).map(|(pair, &speed)| {
+        part_bound(sums, pair[0] as usize, pair[1] as usize, speed)
+    });
+    let first = parts.next().expect("a machine");
+    parts.fold(first, |most, part| if part.at_most(most) { most } else { part })
+}
+
+/// The smallest index from a to before b whose sum is at least the limit, else b.
+#[inline]
+fn first_at_least(sums: &[u32], a: usize, b: usize, limit: u64) -> usize {
+    match sums[a..b].iter().position(|&sum| sum as u64 >= limit) {
+        Some(i) => a + i,
+        None => b,
+    }
+}
+
+/// The quick plan's separators.
+fn quick(speeds: &[u32], sums: &[u32], separators: &mut [u32]) {
+    let n = sums.len() - 1;
+    let last = speeds.len() - 1;
+    let total = total_speed(speeds);
+    let weight = sums[n] as u64;
+    let separators = &mut separators[..=speeds.len()];
+    let mut speed = 0;
+    let mut past = 1;
+    let mut s = 0;
+    separators[0] = 0;
+    for (&e, slot) in speeds[..last].iter().zip(&mut separators[1..]) {
+        speed += e as u64;
+        let target = weight * speed;
+        past = first_at_least(sums, past, n + 1, target / total + 1);
+        let low = sums[past - 1] as u64;
+        let nearer = past <= n && sums[past] as u64 * total - target < target - low * total;
+        s = if nearer { past } else { first_at_least(sums, s, past - 1, low) };
+        *slot = s as u32;
+    }
+    separators[last + 1] = n as u32;
+}
+
+fn bisection(speeds: &[u32], sums: &[u32], separators: &mut [u32]) -> Found {
+    let bound = ideal(speeds, sums);
+    let mut count = 1;
+    let Some(mut low) = trial(speeds, sums, bound, separators) else {
+        return Found { bound, count };
+    };
+    quick(speeds, sums, separators);
+    let mut high = bottleneck(speeds, sums, separators);
+    while !high.at_most(low) {
+        match trial(speeds, sums, low.midpoint(high), separators) {
+            None => high = bottleneck(speeds, sums, separators),
+            Some(next) => low = next,
+        }
+        count += 1;
+    }
+    Found { bound: low, count }
+}
+
+/// A row's entry as a bound.
+#[inline]
+fn entry(pair: [u32; 2]) -> Bound {
+    Bound {
+        load: pair[0] as u64,
+        speed: pair[1] as u64,
+    }
+}
+
+/// Fills the row of a machine of this speed from the row before it, and gives the moves of its pointer.
+fn fill_row(sums: &[u32], speed: u32, before: &[[u32; 2]], row: &mut [[u32; 2]]) -> u32 {
+    let before = &before[..sums.len()];
+    let mut at = 0;
+    for (i, slot) in row[..sums.len()].iter_mut().enumerate() {
+        while at < i && !part_bound(sums, at, i, speed).at_most(entry(before[at])) {
+            at += 1;
+        }
+        *slot = before[at];
+        if at > 0 {
+            let load = sums[i] - sums[at - 1];
+            let part = Bound { load: load as u64, speed: speed as u64 };
+            if !entry(before[at]).at_most(part) {
+                *slot = [load, speed];
+            }
+        }
+    }
+    at as u32
+}
+
+/// The table; `rows` is room for two rows of N + 1 pairs.
+fn table(speeds: &[u32], sums: &[u32], rows: &mut [u32]) -> Found {
+    let (first, second) = rows.split_at_mut(2 * sums.len());
+    let mut row = first.as_chunks_mut::<2>().0;
+    let mut other = second.as_chunks_mut::<2>().0;
+    for (slot, &sum) in row.iter_mut().zip(sums) {
+        *slot = [sum, speeds[0]];
+    }
+    let mut count = 0;
+    for &speed in &speeds[1..] {
+        count += fill_row(sums, speed, row, other);
+        std::mem::swap(&mut row, &mut other);
+    }
+    Found {
+        bound: entry(row[sums.len() - 1]),
+        count,
+    }
+}
+
+fn allowance(method: Method, speeds: &[u32], weights: &[u32]) -> u32 {
+    let moves = ((speeds.len() - 1) * weights.len()) as u32;
+    match method {
+        Method::Table => moves,
+        Method::Bidding | Method::BiddingResumed => moves + 1,
+        Method::Bisection => {
+            let heaviest = weights.iter().copied().max().unwrap_or(0) as u64;
+            let fastest = speeds.iter().copied().max().unwrap_or(0) as u64;
+            let slowest = speeds.iter().copied().min().unwrap_or(1) as u64;
+            1 + (64 - (heaviest * (fastest * fastest) / slowest).leading_zeros())
+        }
+    }
+}
+
+fn imbalance(speeds: &[u32], total: u64, bottleneck: Bound) -> u64 {
+    if total == 0 {
+        return 0;
+    }
+    let ideal = total * bottleneck.speed;
+    1000 * (bottleneck.load * total_speed(speeds) - ideal) / ideal
+}
+
+/// A plan by a method.
+pub fn plan(
+    method: Method,
+    speeds: &[u32],
+    weights: &[u32],
+    separators: &mut [u32],
+    scratch: &mut [u32],
+) -> Result<Figures, u32> {
+    test_job(speeds, weights)?;
+    if separators.len() <= speeds.len() || scratch.len() < 5 * (weights.len() + 1) {
+        return Err(9);
+    }
+    let (front, rows) = scratch.split_at_mut(weights.len() + 1);
+    let sums = prefix_sums(weights, front);
+    let found = match method {
+        Method::Table => table(speeds, sums, rows),
+        Method::Bidding => bidding(speeds, sums, separators),
+        Method::BiddingResumed => bidding_resumed(speeds, sums, separators),
+        Method::Bisection => bisection(speeds, sums, separators),
+    };
+    trial(speeds, sums, found.bound, separators);
+    let bottleneck = bottleneck(speeds, sums, separators);
+    Ok(Figures {
+        count: found.count,
+        allowance: allowance(method, speeds, weights),
+        bottleneck,
+        imbalance: imbalance(speeds, sums[weights.len()] as u64, bottleneck),
+    })
+}
+
+/// The quick plan and its bottleneck.
+pub fn heuristic(speeds: &[u32], weights: &[u32], separators: &mut [u32]) -> Result<Bound, u32> {
+    test_job(speeds, weights)?;
+    if separators.len() <= speeds.len() {
+        return Err(9);
+    }
+    let mut room = [0; MAX_TASKS + 1];
+    let sums = prefix_sums(weights, &mut room);
+    quick(speeds, sums, separators);
+    Ok(bottleneck(speeds, sums, separators))
+}
+
+/// The trial at a lent bound: None where it fits, else the least next bid. Only a fit writes the separators.
+pub fn probe(
+    speeds: &[u32],
+    weights: &[u32],
+    bound: Bound,
+    separators: &mut [u32],
+) -> Result<Option<Bound>, u32> {
+    test_job(speeds, weights)?;
+    if separators.len() <= speeds.len() {
+        return Err(9);
+    }
+    if bound.load > MAX_BOUND_LOAD || bound.speed == 0 || bound.speed > MAX_BOUND_SPEED {
+        return Err(10);
+    }
+    let mut room = [0; MAX_TASKS + 1];
+    let mut walked = [0; MAX_PROCESSORS + 1];
+    let sums = prefix_sums(weights, &mut room);
+    let next = trial(speeds, sums, bound, &mut walked);
+    if next.is_none() {
+        separators[..=speeds.len()].copy_from_slice(&walked[..=speeds.len()]);
+    }
+    Ok(next)
+}

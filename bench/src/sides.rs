@@ -1,0 +1,225 @@
+//! The two sides of the comparison behind one signature each: the planner's archive and plain Rust. Every function is kept
+//! whole, under a name of its own, so that callgrind can count inside it.
+use crate::plain::{self, Bound, Method};
+
+extern "C" {
+    fn exported_heuristic(
+        speeds: *const u32,
+        speeds_len: usize,
+        weights: *const u32,
+        weights_len: usize,
+        separators: *mut u32,
+        separators_len: usize,
+        answer: *mut u64,
+        answer_len: usize,
+    ) -> u32;
+
+    fn exported_probe(
+        speeds: *const u32,
+        speeds_len: usize,
+        weights: *const u32,
+        weights_len: usize,
+        load: u64,
+        speed: u64,
+        separators: *mut u32,
+        separators_len: usize,
+        answer: *mut u64,
+        answer_len: usize,
+    ) -> u32;
+
+    fn exported_plan(
+        method: u32,
+        speeds: *const u32,
+        speeds_len: usize,
+        weights: *const u32,
+        weights_len: usize,
+        separators: *mut u32,
+        separators_len: usize,
+        scratch: *mut u32,
+        scratch_len: usize,
+        answer: *mut u64,
+        answer_len: usize,
+    ) -> u32;
+}
+
+/// The buffers that a call is lent, never cleared between calls.
+pub struct Room {
+    pub separators: Vec<u32>,
+    pub scratch: Vec<u32>,
+    pub answer: [u64; 5],
+}
+
+impl Room {
+    pub fn new() -> Room {
+        Room {
+            separators: vec![0; plain::MAX_PROCESSORS + 1],
+            scratch: vec![0; 5 * (plain::MAX_TASKS + 1)],
+            answer: [0; 5],
+        }
+    }
+}
+
+/// A job by lists, and the bound at which its single trial is made.
+pub struct Job {
+    pub speeds: Vec<u32>,
+    pub weights: Vec<u32>,
+    pub trial: Bound,
+}
+
+/// A call by one side: 0 or the refusal's number, the results in the room.
+pub type Call = fn(&Job, &mut Room) -> u32;
+
+fn planner_plan(method: u32, job: &Job, room: &mut Room) -> u32 {
+    // SAFETY: each pointer comes with the length of the list that it is taken from.
+    unsafe {
+        exported_plan(
+            method,
+            job.speeds.as_ptr(),
+            job.speeds.len(),
+            job.weights.as_ptr(),
+            job.weights.len(),
+            room.separators.as_mut_ptr(),
+            room.separators.len(),
+            room.scratch.as_mut_ptr(),
+            room.scratch.len(),
+            room.answer.as_mut_ptr(),
+            room.answer.len(),
+        )
+    }
+}
+
+#[no_mangle]
+#[inline(never)]
+pub fn planner_table(job: &Job, room: &mut Room) -> u32 {
+    planner_plan(1, job, room)
+}
+
+#[no_mangle]
+#[inline(never)]
+pub fn planner_bidding(job: &Job, room: &mut Room) -> u32 {
+    planner_plan(2, job, room)
+}
+
+#[no_mangle]
+#[inline(never)]
+pub fn planner_bisection(job: &Job, room: &mut Room) -> u32 {
+    planner_plan(3, job, room)
+}
+
+#[no_mangle]
+#[inline(never)]
+pub fn planner_quick(job: &Job, room: &mut Room) -> u32 {
+    // SAFETY: as above.
+    unsafe {
+        exported_heuristic(
+            job.speeds.as_ptr(),
+            job.speeds.len(),
+            job.weights.as_ptr(),
+            job.weights.len(),
+            room.separators.as_mut_ptr(),
+            room.separators.len(),
+            room.answer.as_mut_ptr(),
+            room.answer.len(),
+        )
+    }
+}
+
+#[no_mangle]
+#[inline(never)]
+pub fn planner_trial(job: &Job, room: &mut Room) -> u32 {
+    // SAFETY: as above.
+    unsafe {
+        exported_probe(
+            job.speeds.as_ptr(),
+            job.speeds.len(),
+            job.weights.as_ptr(),
+            job.weights.len(),
+            job.trial.load,
+            job.trial.speed,
+            room.separators.as_mut_ptr(),
+            room.separators.len(),
+            room.answer.as_mut_ptr(),
+            room.answer.len(),
+        )
+    }
+}
+
+/// A plan by plain Rust, its figures in the order of the planner's.
+#[inline(always)]
+fn plain_plan(method: Method, job: &Job, room: &mut Room) -> u32 {
+    let planned = plain::plan(
+        method,
+        &job.speeds,
+        &job.weights,
+        &mut room.separators,
+        &mut room.scratch,
+    );
+    match planned {
+        Err(number) => number,
+        Ok(figures) => {
+            room.answer = [
+                figures.count as u64,
+                figures.allowance as u64,
+                figures.bottleneck.load,
+                figures.bottleneck.speed,
+                figures.imbalance,
+            ];
+            0
+        }
+    }
+}
+
+#[no_mangle]
+#[inline(never)]
+pub fn plain_table(job: &Job, room: &mut Room) -> u32 {
+    plain_plan(Method::Table, job, room)
+}
+
+#[no_mangle]
+#[inline(never)]
+pub fn plain_bidding(job: &Job, room: &mut Room) -> u32 {
+    plain_plan(Method::Bidding, job, room)
+}
+
+#[no_mangle]
+#[inline(never)]
+pub fn plain_resumed(job: &Job, room: &mut Room) -> u32 {
+    plain_plan(Method::BiddingResumed, job, room)
+}
+
+#[no_mangle]
+#[inline(never)]
+pub fn plain_bisection(job: &Job, room: &mut Room) -> u32 {
+    plain_plan(Method::Bisection, job, room)
+}
+
+#[no_mangle]
+#[inline(never)]
+pub fn plain_quick(job: &Job, room: &mut Room) -> u32 {
+    match plain::heuristic(&job.speeds, &job.weights, &mut room.separators) {
+        Err(number) => number,
+        Ok(bound) => {
+            room.answer[0] = bound.load;
+            room.answer[1] = bound.speed;
+            0
+        }
+    }
+}
+
+#[no_mangle]
+#[inline(never)]
+pub fn plain_trial(job: &Job, room: &mut Room) -> u32 {
+    match plain::probe(&job.speeds, &job.weights, job.trial, &mut room.separators) {
+        Err(number) => number,
+        Ok(None) => {
+            room.answer[0] = 1;
+            0
+        }
+        Ok(Some(next)) => {
+            room.answer[0] = 0;
+            room.answer[1] = next.load;
+            room.answer[2] = next.speed;
+            0
+        }
+    }
+}

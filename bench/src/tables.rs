@@ -1,0 +1,209 @@
+//! The tables of docs/BENCHMARKS.md, from the records of a run.
+use crate::jobs::{Family, Shape};
+use crate::measure::{growth, FASTEST, GROWTH_PROCESSORS, GROWTH_TASKS, PROCESSORS, SINGLE, TASKS};
+use crate::records::Records;
+
+/// A table of ratios: its title and the two sides.
+const RATIOS: [(&str, &str, &str); 6] = [
+    ("Table", "planner_table", "plain_table"),
+    ("Bidding, plain Rust in the same resumed form", "planner_bidding", "plain_resumed"),
+    ("Bidding, plain Rust with every walk from machine 1", "planner_bidding", "plain_bidding"),
+    ("Bisection", "planner_bisection", "plain_bisection"),
+    ("Quick plan", "planner_quick", "plain_quick"),
+    ("Single trial", "planner_trial", "plain_trial"),
+];
+
+/// A side's name as a column's title, with the plain Rust beside it.
+const PAIRS: [(&str, &str, &str); 5] = [
+    ("table", "planner_table", "plain_table"),
+    ("bidding", "planner_bidding", "plain_resumed"),
+    ("bisection", "planner_bisection", "plain_bisection"),
+    ("quick plan", "planner_quick", "plain_quick"),
+    ("single trial", "planner_trial", "plain_trial"),
+];
+
+fn head(columns: &[String]) {
+    println!("| {} |", columns.join(" | "));
+    println!("|{}", "---|".repeat(columns.len()));
+}
+
+fn row(cells: &[String]) {
+    println!("| {} |", cells.join(" | "));
+}
+
+fn texts(words: &[&str]) -> Vec<String> {
+    words.iter().map(|word| word.to_string()).collect()
+}
+
+/// The shapes of a table's rows: every family with every range of speeds.
+fn rows(processors: usize) -> Vec<Shape> {
+    let mut shapes = Vec::new();
+    for family in Family::ALL {
+        for fastest in FASTEST {
+            shapes.push(Shape { family, tasks: TASKS, processors, fastest });
+        }
+    }
+    shapes
+}
+
+fn label(shape: Shape) -> Vec<String> {
+    vec![shape.family.name().to_string(), shape.speeds_name()]
+}
+
+/// A time in microseconds, with three figures or so.
+fn micros(nanoseconds: f64) -> String {
+    let value = nanoseconds / 1000.0;
+    match value {
+        v if v < 10.0 => format!("{v:.2}"),
+        v if v < 100.0 => format!("{v:.1}"),
+        v => format!("{v:.0}"),
+    }
+}
+
+fn ratios(records: &Records) {
+    println!("## Planner against plain Rust: time and instructions\n");
+    println!("Each pair is the ratio of times, then the ratio of instructions, planner / plain Rust; N = {TASKS}.\n");
+    for (title, planner, plain) in RATIOS {
+        println!("### {title}\n");
+        let mut columns = texts(&["weights", "speeds"]);
+        for processors in PROCESSORS {
+            columns.push(format!("N/P = {}: time", TASKS / processors));
+            columns.push("instructions".to_string());
+        }
+        head(&columns);
+        for shape in rows(0) {
+            let mut cells = label(shape);
+            for processors in PROCESSORS {
+                let shape = Shape { processors, ..shape };
+                for kind in ["time", "count"] {
+                    let ratio = records.get(kind, planner, shape) / records.get(kind, plain, shape);
+                    cells.push(format!("{ratio:.2}"));
+                }
+            }
+            row(&cells);
+        }
+        println!();
+    }
+}
+
+/// The geometric mean and the greatest of all ratios of each table.
+fn summary(records: &Records) {
+    println!("## In short\n");
+    println!("Over the 27 shapes below (three families, three ranges of speeds, N/P = 8, 32, 128), planner / plain Rust:\n");
+    head(&texts(&["", "time: mean", "greatest", "instructions: mean", "greatest"]));
+    for (title, planner, plain) in RATIOS {
+        let mut cells = vec![title.to_string()];
+        for kind in ["time", "count"] {
+            let mut logs = Vec::new();
+            for processors in PROCESSORS {
+                for shape in rows(processors) {
+                    logs.push((records.get(kind, planner, shape) / records.get(kind, plain, shape)).ln());
+                }
+            }
+            cells.push(format!("{:.2}", (logs.iter().sum::<f64>() / logs.len() as f64).exp()));
+            cells.push(format!("{:.2}", logs.iter().copied().fold(f64::MIN, f64::max).exp()));
+        }
+        row(&cells);
+    }
+    println!("\nThe mean is the geometric one.\n");
+}
+
+fn single(records: &Records) {
+    println!("## A plan at N = {TASKS}, P = {SINGLE}, in microseconds\n");
+    println!("Planner, and plain Rust behind the stroke (bidding: the resumed form).\n");
+    let mut columns = texts(&["weights", "speeds"]);
+    columns.extend(PAIRS.iter().map(|pair| pair.0.to_string()));
+    head(&columns);
+    for shape in rows(SINGLE) {
+        let mut cells = label(shape);
+        for (_, planner, plain) in PAIRS {
+            let time = |side: &str| micros(records.get("time", side, shape));
+            cells.push(format!("{} / {}", time(planner), time(plain)));
+        }
+        row(&cells);
+    }
+    println!();
+}
+
+fn counts(records: &Records) {
+    println!("## Moves and trials against allowances\n");
+    println!("Speeds 1–4, N = {TASKS}: the mean count, the mean allowance, and the greatest part of its allowance that a job took.\n");
+    let mut columns = texts(&["weights", "N/P"]);
+    for method in ["table: moves", "bidding: trials", "bisection: trials"] {
+        columns.extend([method.to_string(), "allowance".to_string(), "most".to_string()]);
+    }
+    head(&columns);
+    for family in Family::ALL {
+        for processors in PROCESSORS {
+            let shape = Shape { family, tasks: TASKS, processors, fastest: 4 };
+            let mut cells = vec![family.name().to_string(), (TASKS / processors).to_string()];
+            for method in ["table", "bidding", "bisection"] {
+                let fact = |name: &str| records.get("fact", &format!("{method} {name}"), shape);
+                cells.push(format!("{:.1}", fact("count")));
+                cells.push(format!("{:.1}", fact("allowance")));
+                cells.push(format!("{:.2} %", 100.0 * fact("most")));
+            }
+            row(&cells);
+        }
+    }
+    println!();
+}
+
+fn imbalances(records: &Records) {
+    println!("## Imbalance: the quick plan against the best plan\n");
+    println!("Mean of (bottleneck − ideal) / ideal in per cent; the factor is quick plan's over best plan's; the time is bisection's");
+    println!("over quick plan's (source: Pinar, Tabak, Aykanat 2008, who give factors of 4.9 and 8.7 and a time of 2.20 for P = 128).\n");
+    let mut columns = texts(&["weights", "speeds"]);
+    let all = [256, SINGLE, 64, 16];
+    for processors in all {
+        columns.push(format!("P = {processors}: quick"));
+        columns.extend(texts(&["best", "factor", "time"]));
+    }
+    head(&columns);
+    for shape in rows(0) {
+        let mut cells = label(shape);
+        for processors in all {
+            let shape = Shape { processors, ..shape };
+            let quick = records.get("fact", "quick plan imbalance", shape);
+            let best = records.get("fact", "bisection imbalance", shape);
+            let time = |side: &str| records.get("time", side, shape);
+            cells.push(format!("{:.2}", 100.0 * quick));
+            cells.push(format!("{:.2}", 100.0 * best));
+            cells.push(format!("{:.1}", quick / best));
+            cells.push(format!("{:.1}", time("planner_bisection") / time("planner_quick")));
+        }
+        row(&cells);
+    }
+    println!();
+}
+
+fn growth_table(records: &Records, shapes: &[Shape]) {
+    let mut columns = texts(&["N", "P"]);
+    columns.extend(PAIRS.iter().map(|pair| pair.0.to_string()));
+    columns.extend(texts(&["table, ns an entry", "a bisection's trial"]));
+    head(&columns);
+    for &shape in shapes {
+        let mut cells = vec![shape.tasks.to_string(), shape.processors.to_string()];
+        let time = |side: &str| records.get("time", side, shape);
+        cells.extend(PAIRS.iter().map(|pair| micros(time(pair.1))));
+        let entries = (shape.tasks + 1) * shape.processors;
+        cells.push(format!("{:.1}", time("planner_table") / entries as f64));
+        let trials = records.get("fact", "bisection count", shape) + 1.0;
+        cells.push(micros(time("planner_bisection") / trials));
+        row(&cells);
+    }
+    println!();
+}
+
+pub fn print(files: &[String]) {
+    let records = Records::read(files);
+    summary(&records);
+    single(&records);
+    ratios(&records);
+    counts(&records);
+    imbalances(&records);
+    println!("## Growth with N and with P, in microseconds\n");
+    println!("The planner; lognormal weights, speeds 1–4. The last column is bisection's time over its trials and the closing walk.\n");
+    growth_table(&records, &GROWTH_TASKS.map(|tasks| growth(tasks, 64)));
+    growth_table(&records, &GROWTH_PROCESSORS.map(|processors| growth(TASKS, processors)));
+}
