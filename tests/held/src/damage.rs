@@ -1,20 +1,24 @@
 //! Random bytes and damaged files; the expected answer comes from the solver's own reader.
 
 use crate::check::Check;
-use crate::job::{self, machine, tile, Job, Record};
-use crate::{fast, slow, small};
+use crate::job::{machine, tile, Job, Record};
+use crate::planner::Call;
+use crate::{every, small};
 
-/// Asks the reader, then the solver, then the planner.
+/// Whether every division of the job can be tried.
+pub fn is_tiny(job: &Job) -> bool {
+    job.speeds.len() <= 4 && job.weights.len() <= 9
+}
+
+/// The C call and reading, with lists of any length.
 fn judge(c: &mut Check, file: &[u8], method: u32, plan_len: usize) {
     c.jobs_seen += 1;
-    match job::read(file, method, plan_len) {
-        Err(number) => c.call(file, method, plan_len, Err(number)),
-        Ok(job) => {
-            let tiny = job.speeds.len() <= 4 && job.weights.len() <= 8;
-            let separators = if tiny { slow::solve(&job).0 } else { fast::solve(&job).0 };
-            c.call(file, method, plan_len, Ok(&job::plan_of(&job, &separators)));
-        }
-    }
+    let plan = c.rng.pattern(plan_len);
+    c.judge(Call::Host { method }, &[file, &plan], None);
+    let records = file.len() / 8;
+    let (e, w) = (c.rng.below(records + 3), c.rng.below(records + 3));
+    let (e, w) = if c.rng.once_in(3) { (records, records) } else { (e, w) };
+    every::read_into(c, file, e, w);
 }
 
 fn some_method(c: &mut Check) -> u32 {

@@ -1,12 +1,13 @@
 //! Middle-sized and large jobs against the fast reference.
 
+use crate::answers::Solved;
 use crate::check::Check;
 use crate::job::Job;
-use crate::{fast, guard, job, planner, small};
+use crate::planner::{self, Call};
+use crate::{every, fast, guard, job, small};
 
 fn one(c: &mut Check, job: &Job) {
-    let (separators, _) = fast::solve(job);
-    c.accepted(job, &separators);
+    every::job(c, &Solved::of(job), false);
 }
 
 const N: usize = 2_048;
@@ -22,7 +23,7 @@ pub fn run(c: &mut Check, times: usize) {
         one(c, &Job { speeds, weights });
     }
     // Any size up to the limits.
-    for k in 0..120 * times {
+    for k in 0..1_200 * times {
         let machines = if k % 3 == 0 { P } else { 1 + c.rng.below(P) };
         let tiles = if k % 3 == 0 { N } else { c.rng.below(N + 1) };
         let speeds = small::speeds(&mut c.rng, machines);
@@ -113,7 +114,7 @@ fn threads(c: &mut Check) {
         })
         .collect();
     c.jobs_seen += list.len() as u64;
-    guard::note(list[0].0.as_ptr(), list[0].0.len(), 0, 4_096);
+    guard::note(Call::Host { method: 1 }, &[(list[0].0.as_ptr() as *mut u8, list[0].0.len()), (std::ptr::null_mut(), 0)]);
     let good = std::thread::scope(|scope| {
         let running: Vec<_> = list
             .iter()
@@ -121,7 +122,8 @@ fn threads(c: &mut Check) {
                 let work = move || {
                     (0..6u32).all(|k| {
                         let mut plan = vec![0xA5u8; 16 * P];
-                        let code = unsafe { planner::call(file.as_ptr(), file.len(), 1 + k % 3, plan.as_mut_ptr(), plan.len()) };
+                        let at = [(file.as_ptr() as *mut u8, file.len()), (plan.as_mut_ptr(), plan.len())];
+                        let code = unsafe { planner::call(Call::Host { method: 1 + k % 3 }, &at) };
                         code == 0 && &plan == wanted
                     })
                 };
@@ -134,7 +136,7 @@ fn threads(c: &mut Check) {
     c.calls += 6 * list.len() as u64;
     for (k, ok) in good.iter().enumerate() {
         if !ok {
-            c.fail("a wrong plan from several threads at once", crate::check::describe(&list[k].0, 0, 4_096));
+            c.fail("a wrong plan from several threads at once", crate::check::describe(Call::Host { method: 0 }, &[&list[k].0, &[]]));
         }
     }
 }

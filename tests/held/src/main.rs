@@ -1,12 +1,19 @@
-//! An independent test of the planner's C call. HELD_SEED sets the seed, HELD_TIMES multiplies the random part.
+//! An independent test of every call of the planner. HELD_SEED sets the seed, HELD_TIMES multiplies the random part.
 
+mod answers;
 mod check;
 mod damage;
+mod every;
+#[cfg(feature = "faults")]
+mod faults;
 mod fast;
 mod guard;
 mod job;
 mod known;
 mod large;
+mod lent;
+mod lists;
+mod methods;
 mod planner;
 mod refusals;
 mod rng;
@@ -32,9 +39,11 @@ fn main() {
     let start = Instant::now();
     guard::watch(seed);
     let mut c = check::Check::new(seed);
-    let parts: [(&str, &dyn Fn(&mut check::Check)); 5] = [
+    c.hasty = number("HELD_HASTY", 0) != 0;
+    let parts: [(&str, &dyn Fn(&mut check::Check)); 6] = [
         ("known jobs", &known::run),
         ("refusals", &refusals::run),
+        ("lists", &|c| lists::run(c, times)),
         ("damaged files", &|c| damage::run(c, times)),
         ("small jobs", &|c| small::run(c, times)),
         ("large jobs", &|c| large::run(c, times)),
@@ -47,9 +56,9 @@ fn main() {
         }
     }
     // A run in which some answer never came up would be no test of it.
-    let unseen: Vec<usize> = (0..=9).filter(|&k| c.by_code[k] == 0).collect();
-    if !unseen.is_empty() {
-        c.fail(&format!("answers never seen: {:?}", unseen), String::new());
+    let unseen = c.unseen();
+    if !unseen.is_empty() || c.fits == 0 {
+        c.fail(&format!("answers never seen: {:?}; {} fits", unseen, c.fits), String::new());
     }
     let word = if c.failures == 0 { "passed" } else { "FAILED" };
     println!(

@@ -1,20 +1,29 @@
 //! Each refusal, every pair of faults, and null pointers.
 
-use crate::check::Check;
+use crate::check::{self, Check};
 use crate::guard;
-use crate::job::{self, machine, record, tile, Record};
-use crate::planner;
+use crate::job::{machine, record, tile, Record};
+use crate::planner::{self, At, Call};
 
 /// Methods that are none, some of which look like one when cut short.
 const NO_METHOD: [u32; 11] = [0, 4, 5, 255, 256, 257, 258, 65_537, 0x0100_0002, 0x8000_0003, u32::MAX];
 
-/// A call that must be refused; the number is written by rule here, and the solver's reader must say the same.
+/// A call that must be refused; the number is written by rule here, and the solver's reader must say the same. Where the number
+/// comes from the file alone, reading must give it too.
 fn refuse(c: &mut Check, file: &[u8], method: u32, plan_len: usize, number: u32) {
-    let read = job::read(file, method, plan_len).err().unwrap_or(0);
-    if read != number {
-        c.fail(&format!("the solver's reader says {}, the rule {}", read, number), crate::check::describe(file, method, plan_len));
+    let plan = c.rng.pattern(plan_len);
+    c.refuse(Call::Host { method }, &[file, &plan], number);
+    if (2..=8).contains(&number) {
+        let (e, w) = (c.rng.pattern(4 * records(file)), c.rng.pattern(4 * records(file)));
+        let answer = c.rng.pattern(8 * 2);
+        c.refuse(Call::Read, &[file, &e, &w, &answer], number);
+        c.refuse(Call::Read, &[file, &[], &[], &[]], number);
     }
-    c.call(file, method, plan_len, Err(number));
+}
+
+/// Lists of this length hold any part of the file.
+fn records(file: &[u8]) -> usize {
+    file.len() / 8
 }
 
 /// By the three methods the number given, by any other 1.
@@ -215,43 +224,46 @@ fn pairs(c: &mut Check) {
 
 /// Null with length 0, on either side.
 fn nulls(c: &mut Check) {
-    let null = std::ptr::null();
-    let null_mut = std::ptr::null_mut();
     let one = machine(1);
     let broken = [0u8; 8];
     for method in (1..=3).chain(NO_METHOD) {
         let known = (1..=3).contains(&method);
-        let cases: [(&[u8], u32); 5] = [
-            (&[], 7),        // no job at all
-            (&one, 9),       // a job, no room
-            (&broken, 3),    // a broken job
-            (&one[..7], 2),  // a cut one
-            (&broken[..1], 2),
-        ];
+        // No job at all; a job and no room; a broken job; cut ones.
+        let cases: [(&[u8], u32); 5] = [(&[], 7), (&one, 9), (&broken, 3), (&one[..7], 2), (&broken[..1], 2)];
         for (file, number) in cases {
-            let job_at = if file.is_empty() { null } else { file.as_ptr() };
-            guard::note(job_at, file.len(), method, 0);
-            let code = unsafe { planner::call(job_at, file.len(), method, null_mut, 0) };
-            guard::done();
-            c.calls += 1;
             let wanted = if known { number } else { 1 };
-            if code != wanted {
-                c.fail(&format!("answer {} instead of {} with a null plan", code, wanted), crate::check::describe(file, method, 0));
-            }
+            null_plan(c, file, method, wanted);
         }
         // A null job beside a real plan buffer, which stays.
         for plan_len in [1usize, 15, 16, 64] {
             let mut plan = vec![0x5Au8; plan_len];
-            guard::note(null, 0, method, plan_len);
-            let code = unsafe { planner::call(null, 0, method, plan.as_mut_ptr(), plan_len) };
-            guard::done();
-            c.calls += 1;
+            let call = Call::Host { method };
+            let code = direct(c, call, &[(std::ptr::null_mut(), 0), (plan.as_mut_ptr(), plan_len)]);
             let wanted = if known { 7 } else { 1 };
             if code != wanted || plan.iter().any(|&b| b != 0x5A) {
-                c.fail(&format!("answer {} instead of {} with a null job, or the plan changed", code, wanted), crate::check::describe(&[], method, plan_len));
+                let what = format!("answer {} instead of {} with a null job, or the plan changed", code, wanted);
+                c.fail(&what, check::describe(call, &[&[], &plan]));
             }
         }
     }
+}
+
+fn null_plan(c: &mut Check, file: &[u8], method: u32, wanted: u32) {
+    let job_at = if file.is_empty() { std::ptr::null_mut() } else { file.as_ptr() as *mut u8 };
+    let call = Call::Host { method };
+    let code = direct(c, call, &[(job_at, file.len()), (std::ptr::null_mut(), 0)]);
+    if code != wanted {
+        c.fail(&format!("answer {} instead of {} with a null plan", code, wanted), check::describe(call, &[file, &[]]));
+    }
+}
+
+/// A call on lists as they are.
+fn direct(c: &mut Check, call: Call, at: &[At]) -> u32 {
+    guard::note(call, at);
+    let code = unsafe { planner::call(call, at) };
+    guard::done();
+    c.calls += 1;
+    code
 }
 
 pub fn run(c: &mut Check) {

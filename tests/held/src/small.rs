@@ -1,18 +1,14 @@
 //! Small jobs against the slow solver.
 
 use crate::check::Check;
+use crate::every;
 use crate::job::Job;
 use crate::rng::Rng;
-use crate::{fast, slow};
 
-/// Both solvers must agree before the planner is asked.
+/// Every call on the job; now and then with lists of all lengths together.
 fn both(c: &mut Check, job: &Job) {
-    let s = slow::solve(job);
-    let f = fast::solve(job);
-    if s != f {
-        c.fail(&format!("the solvers differ: slow {:?}, fast {:?}", s, f), format!("  {:?}", job));
-    }
-    c.accepted(job, &s.0);
+    let thorough = c.rng.once_in(60);
+    every::both(c, job, thorough);
 }
 
 pub fn speeds(r: &mut Rng, machines: usize) -> Vec<u32> {
