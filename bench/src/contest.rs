@@ -3,15 +3,17 @@ use crate::sides::{self, Call, Job, Room};
 use std::time::{Duration, Instant};
 
 /// How long a contest goes on, and the least and the most repetitions of it.
-const BUDGET: Duration = Duration::from_millis(300);
+const BUDGET: Duration = Duration::from_millis(150);
 const LEAST: usize = 3;
-const MOST: usize = 40;
+const MOST: usize = 30;
 
 pub struct Contest {
     pub name: &'static str,
     pub sides: &'static [(&'static str, Call)],
     /// How many entries of the answer count.
     pub answers: usize,
+    /// How many jobs are gone round: many where a call is short, so that no branch is learnt by heart.
+    pub jobs: usize,
 }
 
 pub const CONTESTS: [Contest; 5] = [
@@ -19,6 +21,7 @@ pub const CONTESTS: [Contest; 5] = [
         name: "table",
         sides: &[("planner_table", sides::planner_table), ("plain_table", sides::plain_table)],
         answers: 5,
+        jobs: 12,
     },
     Contest {
         name: "bidding",
@@ -28,6 +31,7 @@ pub const CONTESTS: [Contest; 5] = [
             ("plain_resumed", sides::plain_resumed),
         ],
         answers: 5,
+        jobs: 12,
     },
     Contest {
         name: "bisection",
@@ -36,16 +40,19 @@ pub const CONTESTS: [Contest; 5] = [
             ("plain_bisection", sides::plain_bisection),
         ],
         answers: 5,
+        jobs: 64,
     },
     Contest {
         name: "quick plan",
         sides: &[("planner_quick", sides::planner_quick), ("plain_quick", sides::plain_quick)],
         answers: 2,
+        jobs: 64,
     },
     Contest {
         name: "trial",
         sides: &[("planner_trial", sides::planner_trial), ("plain_trial", sides::plain_trial)],
         answers: 3,
+        jobs: 64,
     },
 ];
 

@@ -4,9 +4,6 @@ use crate::jobs::{Family, Shape};
 use crate::records;
 use crate::sides::Job;
 
-/// The jobs of a shape that are gone round.
-const JOBS: usize = 32;
-
 pub const TASKS: usize = 2048;
 pub const FASTEST: [u32; 3] = [1, 4, 16];
 /// N/P = 8, 32, 128.
@@ -50,8 +47,9 @@ pub fn print_shapes() {
     }
 }
 
-fn mean(values: impl Iterator<Item = f64>) -> f64 {
-    values.sum::<f64>() / JOBS as f64
+fn mean(values: impl ExactSizeIterator<Item = f64>) -> f64 {
+    let count = values.len();
+    values.sum::<f64>() / count as f64
 }
 
 /// By how much a bottleneck is above the ideal, as a part of the ideal.
@@ -63,8 +61,8 @@ fn excess(job: &Job, load: u64, speed: u64) -> f64 {
 
 /// Times of all sides, and what the answers say of counts, allowances and imbalances.
 fn measure(shape: Shape) {
-    let jobs = shape.jobs(JOBS);
     for contest in &CONTESTS {
+        let jobs = shape.jobs(contest.jobs);
         let answers = contest.compare(&jobs);
         for (side, time) in contest.sides.iter().zip(contest.time(&jobs)) {
             records::write("time", side.0, shape, time);
