@@ -4,7 +4,7 @@ use std::time::{Duration, Instant};
 
 /// How long a contest goes on, and the least and the most repetitions of it.
 const BUDGET: Duration = Duration::from_millis(150);
-const LEAST: usize = 3;
+const LEAST: usize = 5;
 const MOST: usize = 30;
 
 pub struct Contest {

@@ -61,8 +61,9 @@ pub enum Method {
     Bisection,
 }
 
+/// No early end, so that several are tested at once.
 fn each_between(lo: u32, hi: u32, values: &[u32]) -> bool {
-    values.iter().all(|v| (lo..=hi).contains(v))
+    values.iter().fold(true, |all, v| all & (lo..=hi).contains(v))
 }
 
 /// The tests of the two lists, in document 01's order.
@@ -291,21 +292,19 @@ fn entry(pair: [u32; 2]) -> Bound {
     }
 }
 
-/// Fills the row of a machine of this speed from the row before it, and gives the moves of its pointer.
+/// Fills the row of a machine of this speed from the row before it, and gives the moves of its pointer. At i itself the part is
+/// 0, so the pointer stops there at the latest.
 fn fill_row(sums: &[u32], speed: u32, before: &[[u32; 2]], row: &mut [[u32; 2]]) -> u32 {
     let before = &before[..sums.len()];
     let mut at = 0;
-    for (i, slot) in row[..sums.len()].iter_mut().enumerate() {
-        while at < i && !part_bound(sums, at, i, speed).at_most(entry(before[at])) {
+    for (&sum, slot) in sums.iter().zip(row) {
+        let part = |a: usize| Bound { load: (sum - sums[a]) as u64, speed: speed as u64 };
+        while !part(at).at_most(entry(before[at])) {
             at += 1;
         }
         *slot = before[at];
-        if at > 0 {
-            let load = sums[i] - sums[at - 1];
-            let part = Bound { load: load as u64, speed: speed as u64 };
-            if !entry(before[at]).at_most(part) {
-                *slot = [load, speed];
-            }
+        if at > 0 && !entry(before[at]).at_most(part(at - 1)) {
+            *slot = [sum - sums[at - 1], speed];
         }
     }
     at as u32
