@@ -52,7 +52,8 @@ returns c =
 lesser-bound-requires : tie.Need-lesser-bound-requires Inv-loop μ-loop
 lesser-bound-requires c κs =
     let s = c .before .before .before .before .before .before .before .before .before .before .before in
-    (c .before .before .before .before .before .before .loop .inv (s .pre .1) .small, c .before .before .bid-of .ensures .1)
+    let n = c .before .before .before .before .before .before .loop .inv (s .pre .1) .small in
+    let m = c .before .before .bid-of .ensures .1 in search needs
 
 add-p : tie.Need-add-p Inv-loop μ-loop
 add-p c = omega arith
