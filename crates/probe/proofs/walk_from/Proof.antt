@@ -3,7 +3,7 @@
 use Prim.Native.Nat.{_-_}
 use mathlib.Core.Path.{sym, _∙_}
 use native.Mathlib.Omega.{arith}
-use lib.ListN.{length-set}
+use lib.ListN.{length, length-set}
 use Rattle.chain.specs.Job.{jobOf}
 use Rattle.chain.proofs.Ranges.{index-fits}
 use Rattle.probe.proofs.Walked.{Walked, walked-start, walked-turn, walked-end, answer-fits, answer-fails, rest-products, end-after, end-inside}
@@ -16,7 +16,7 @@ Inv-loop speeds weights sums bound separators₀ last n best₀ a₀ p₀ separa
     Walked (jobOf weights speeds) bound separators₀ separators p a best
 
 abbrev μ-loop : tie.MeasureT-loop
-μ-loop speeds weights sums bound separators₀ last n best₀ a₀ p₀ separators best a p = last - p
+μ-loop speeds weights sums bound separators₀ last n best₀ a₀ p₀ separators best a p = length speeds - p
 
 sub-last : tie.Need-sub-last Inv-loop μ-loop
 sub-last c = omega arith
