@@ -1,5 +1,6 @@
 -- `advance` meets its contract: the loop keeps `Moving`.
 -- Assumes nothing.
+use borrow.Author.Needs.{needs}
 use Prim.Native.Nat.{ℕ, suc, _+_, _-_, _≤_, _<_}
 use mathlib.Core.Path.{_≡_, _∙_}
 use mathlib.Core.Bool.{false}
@@ -58,7 +59,8 @@ at-most-requires : tie.Need-at-most-requires Inv-loop μ-loop
 at-most-requires c κs =
     let s = start c in
     let v = s .pre .0 .ready .valid in
-    small-products (small-same (part-is c) (part-small v (suc (s .args .p)) (at c) (s .args .i))) (small-same (value-is c) (table-small v (s .args .p) (at c)))
+    let h = small-products (small-same (part-is c) (part-small v (suc (s .args .p)) (at c) (s .args .i))) (small-same (value-is c) (table-small v (s .args .p) (at c))) in
+    search needs
 
 returns : tie.Need-returns Inv-loop μ-loop
 returns c =
