@@ -39,13 +39,14 @@ pub enum JobWritten {
 fn and_between(all: bool, lo: u32, hi: u32, value: u32) -> bool
     ensures { λ r. ⌜ r ≡ (all && between lo hi value) ⌝ }
 {
+    let mut still = all;
     if value < lo {
-        return false;
+        still = false;
     }
     if hi < value {
-        return false;
+        still = false;
     }
-    all
+    still
 }
 
 // Whether every number of the list is from lo to hi. Inner. It reads them all, so that several are tested at once.
