@@ -21,6 +21,7 @@ use Rattle.chain.proofs.Heuristic.{heuristic-partition}
 use Rattle.jobs.specs.Answers.{lentAfter}
 use Rattle.jobs.proofs.Lent.{lent-refused, lent-accepted}
 use Rattle.parts.specs.Prefix.{prefixes, Prefix, Ready}
+use Rattle.parts.proofs.Front.{taken}
 use Rattle.parts.proofs.Laws.{prefixes-are}
 use Rattle.probe.proofs.Answer.{walk-count}
 use Rattle.calls.specs.declared.Measured.{Measured}
@@ -32,17 +33,6 @@ use Rattle.calls.specs.Answers.{measureInputs, probeInputs, heuristicInp
 -- A list in whose front the prefix sums were written.
 pub sums-ready : {job : Job} {xs : List ℕ} (l : List ℕ) → Valid job → xs ≡ prefixes job ++ l → Ready job xs
 sums-ready {job} {xs} l v e = record { valid = v; prefix = subst (Prefix job) (sym e) (prefixes-are job l) }
-
--- A list in whose front a partition was written.
-pub taken : {n : ℕ} (new l : List ℕ) {ys : List ℕ} → length new ≡ n → ys ≡ new ++ l → take n ys ≡ new
-taken {n} new l h e = ap (take n) e ∙ take-at new l n h
-
-pub front-partition : {job : Job} (new l : List ℕ) {ys : List ℕ} → Partition job new → ys ≡ new ++ l → Partition job (take (suc (processors job)) ys)
-front-partition {job} new l pa e = subst (Partition job) (sym (taken new l (pa .count) e)) pa
-
-pub front-bottleneck : {job : Job} (new l : List ℕ) {ys : List ℕ} {B : Bound} → Partition job new → ys ≡ new ++ l
-    → B ≡ bottleneck job (take (suc (processors job)) ys) → B ≡ bottleneck job new
-front-bottleneck {job} new l pa e h = h ∙ ap (bottleneck job) (taken new l (pa .count) e)
 
 -- A list in whose front a walk was written has P + 1 entries.
 pub walk-room : {job : Job} (B : Bound) {xs : List ℕ} (l : List ℕ) → Valid job → xs ≡ walk job B ++ l → processors job + 1 ≤ length xs

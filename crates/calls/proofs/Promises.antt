@@ -30,7 +30,8 @@ use Rattle.calls.specs.declared.Measured.the-variants.{Bottleneck, Refus
 use Rattle.calls.specs.declared.Probed.{Probed}
 use Rattle.calls.specs.declared.Probed.the-variants.{Fits, Fails, Refused as ProbeRefused}
 use Rattle.calls.specs.Answers.{measuredNumber, probedNumber, measureInputs, probeInputs, heuristicInputs, measuredOf, measureAnswer, probed, probedOf, probeAnswer, probeWrites, heuristicAnswer, heuristicWrites}
-use Rattle.calls.proofs.Ends.{measured-refused, probed-refused, lent-front, taken, front-partition, front-bottleneck}
+use Rattle.parts.proofs.Front.{taken, front-partition, front-bottleneck}
+use Rattle.calls.proofs.Ends.{measured-refused, probed-refused, lent-front}
 
 truth : (b : Bool) → T b → b ≡ true
 truth true t = refl

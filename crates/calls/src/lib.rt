@@ -10,6 +10,7 @@ ghost use Rattle.chain.specs.Probe.{walk, fits};
 ghost use Rattle.chain.specs.Refusal.{isPartition, boundTest};
 ghost use Rattle.chain.specs.Heuristic as quick;
 ghost use Rattle.chain.proofs.Ranges.{Lendable};
+ghost use Rattle.parts.specs.Prefix.{Ready};
 ghost use Rattle.calls.specs.Answers.{measureAnswer, probed, probeAnswer, probeWrites, heuristicAnswer, heuristicWrites};
 use bound::Bound;
 use heuristic::heuristic_in;
@@ -110,6 +111,31 @@ pub fn measure(speeds: &[u32], weights: &[u32], separators: &[u32]) -> Measured
     Measured::Bottleneck(measure_tested(speeds, weights, separators))
 }
 
+// Inner. The probe at the bound over prefix sums, its walk in a list beside: only a fit is copied to the separators.
+fn probe_beside(
+    speeds: &[u32],
+    weights: &[u32],
+    sums: &[u32],
+    bound: Bound,
+    walked: &mut [u32],
+    separators: &mut [u32],
+) -> Probed
+    requires { ⌜ Ready (jobOf (now weights) (now speeds)) (now sums) ⌝ }
+    requires { ⌜ Lendable bound ⌝ }
+    requires { ⌜ (length (now speeds) < length (now walked)) × (length (now speeds) < length (now separators)) ⌝ }
+    ensures { λ r. ⌜ r ≡ probed (jobOf (now (weights .entry)) (now (speeds .entry))) bound ⌝ }
+    ensures { λ r. ⌜ now (separators .exit) ≡ cond (fits (jobOf (now (weights .entry)) (now (speeds .entry))) bound) (walk (jobOf (now (weights .entry)) (now (speeds .entry))) bound ++ drop (suc (length (now (speeds .entry)))) (now (separators .entry))) (now (separators .entry)) ⌝ }
+{
+    let answer = probe_in(speeds, weights, sums, bound, walked);
+    match answer {
+        Outcome::Fits => {
+            copy_front(walked, separators, speeds.len() + 1);
+            Probed::Fits
+        }
+        Outcome::Fails(next) => Probed::Fails(next),
+    }
+}
+
 // Inner. The probe at the bound: a fit writes the walk's P + 1 separators, a failure writes nothing.
 fn probe_tested(speeds: &[u32], weights: &[u32], bound: Bound, separators: &mut [u32]) -> Probed
     requires { ⌜ Valid (jobOf (now weights) (now speeds)) ⌝ }
@@ -121,14 +147,7 @@ fn probe_tested(speeds: &[u32], weights: &[u32], bound: Bound, separators: &mut 
     let mut sums = [0u32; MAX_TASKS + 1];
     let mut walked = [0u32; MAX_PROCESSORS + 1];
     prefix_sums(speeds, weights, &mut sums);
-    let answer = probe_in(speeds, weights, &sums, bound, &mut walked);
-    match answer {
-        Outcome::Fits => {
-            copy_front(&walked, separators, speeds.len() + 1);
-            Probed::Fits
-        }
-        Outcome::Fails(next) => Probed::Fails(next),
-    }
+    probe_beside(speeds, weights, &sums, bound, &mut walked, separators)
 }
 
 // The probe at a lent bound: whether it fits, or the refusal: 5, 6, 7, 8, 9 or 10, in this order. A fit writes the P + 1
@@ -141,10 +160,12 @@ pub fn probe(speeds: &[u32], weights: &[u32], bound: Bound, separators: &mut [u3
     if found != 0 {
         return Probed::Refused(found);
     }
-    if separators.len() <= speeds.len() {
+    let short = separators.len() <= speeds.len();
+    let lendable = can_lend(bound);
+    if short {
         return Probed::Refused(9);
     }
-    if !can_lend(bound) {
+    if !lendable {
         return Probed::Refused(10);
     }
     probe_tested(speeds, weights, bound, separators)

@@ -1,7 +1,8 @@
--- The next bid of a probe that fails is above its bound and at most every bound that fits.
+-- The next bid of a probe that fails is above its bound and at most every bound that fits; a walk at a greater bound agrees
+-- with a failed walk up to the first processor whose bid is within that bound.
 -- Assumes nothing.
 use Prim.Native.Nat.{ℕ, zero, suc, _+_, _-_, _≤_, _<_}
-use mathlib.Core.Path.{_≡_, refl, sym, ap, subst, _∙_}
+use mathlib.Core.Path.{_≡_, refl, sym, ap, ap₂, subst, _∙_}
 use mathlib.Core.Bool.{Bool, true, false, not}
 use mathlib.Core.Logic.{_⊎_, inl, inr}
 use native.Mathlib.Omega.{arith}
@@ -111,12 +112,11 @@ module _ {job : Job} (ok : Proper job) where
   pub next-above : (B : Bound) → T (not (fits job B)) → B ≺ nextBid job B
   next-above B t = next-cases job B (λ C. B ≺ C) (bid-above B t)
 
-  -- A bound below every bid walks no further.
-  behind : (B C : Bound) → T (not (fits job B)) → ((p : ℕ) → p ≤ last job → C ≺ bid job B p) → (p : ℕ) → p ≤ last job
-      → separator job C p ≤ separator job B p
+  -- A bound below the bids of the processors before p walks no further up to p.
+  behind : (B C : Bound) (p : ℕ) → p ≤ last job → ((q : ℕ) → q < p → C ≺ bid job B q) → separator job C p ≤ separator job B p
   unfolding separator
-  behind B C t h zero l = omega arith
-  behind B C t h (suc p) l = step (behind B C t h p (omega arith))
+  behind B C zero l h = omega arith
+  behind B C (suc p) l h = step (behind B C p (omega arith) (λ q k. h q (omega arith)))
     where
       step : separator job C p ≤ separator job B p → separator job C (suc p) ≤ separator job B (suc p)
       step m =
@@ -133,6 +133,24 @@ module _ {job : Job} (ok : Proper job) where
                 (omega (arith, separator-grows job B p)) (omega arith)) (separator-within job C p)))))
           ]
 
+  -- So a greater bound that is below those bids walks just as far up to p: each separator stays,
+  module _ {B C : Bound} (b : Real B) (c : Real C) (m : B ≼ C) (p : ℕ) (l : p ≤ last job) (h : (q : ℕ) → q < p → C ≺ bid job B q) where
+    pub separator-stays : (q : ℕ) → q ≤ p → separator job C q ≡ separator job B q
+    separator-stays q k = omega (arith, behind B C q (omega arith) (λ i n. h i (omega arith)), growing ok b c m q)
+
+    -- and so does each bid before p,
+    bid-stays : (q : ℕ) → q < p → bid job C q ≡ bid job B q
+    bid-stays q k =
+        bid-before job C q (omega arith)
+        ∙ ap₂ (λ (i j : ℕ). partBound job q i (suc j)) (separator-stays q (omega arith)) (separator-stays (suc q) k)
+        ∙ sym (bid-before job B q (omega arith))
+
+    -- and the least of them.
+    pub least-stays : (q : ℕ) → q < p → leastBidTo job C q ≡ leastBidTo job B q
+    unfolding leastBidTo
+    least-stays zero k = bid-stays 0 k
+    least-stays (suc q) k = ap₂ lesser (least-stays q (omega arith)) (bid-stays (suc q) k)
+
   -- The next bid is at most every bound that fits.
   pub next-least : (B C : Bound) → T (not (fits job B)) → Real C → T (fits job C) → nextBid job B ≼ C
   next-least B C t r f = elim (le-or-lt (nextBid job B) C) [ inl x ↦ x | inr x ↦ absurd (below x) ]
@@ -143,7 +161,7 @@ module _ {job : Job} (ok : Proper job) where
           (subst (λ (D : Bound). D ≼ C) (sym (bid-last job B))
           (le-trans (part-real job ok (last job) (separator job C (last job)) (tasks job))
           (part-left job (last job) (separator job C (last job)) (separator job B (last job)) (tasks job)
-          (behind B C t each (last job) (omega arith)) (separator-to job B (last job))) (fits-le ok C f)))
+          (behind B C (last job) (omega arith) (λ q k. each q (omega arith))) (separator-to job B (last job))) (fits-le ok C f)))
         where
           each : (p : ℕ) → p ≤ last job → C ≺ bid job B p
           each p h = lt-le-trans (bid-real B p) x (next-le-bid B p h)

@@ -26,7 +26,15 @@ pub loads-fit : maxTasks * maxWeight < 2 ^ 32
 unfolding maxTasks maxWeight
 loads-fit = lit< tt
 
--- and so do speeds,
+-- and so do indices,
+tasks-fit : maxTasks < 2 ^ 32
+unfolding maxTasks
+tasks-fit = lit< tt
+
+pub index-fits : {job : Job} {i : ℕ} → Valid job → i ≤ tasks job → i < 2 ^ 32
+index-fits v h = lt-of-le-of-lt (le-trans h (v .tasks-limit)) tasks-fit
+
+-- and speeds,
 pub speeds-fit : maxSpeed < 2 ^ 32
 unfolding maxSpeed
 speeds-fit = lit< tt

@@ -7,19 +7,20 @@ use mathlib.Core.Logic.{inl, inr}
 use native.Mathlib.Omega.{arith}
 use native.Mathlib.Decide.{decLe}
 use native.Mathlib.Nat.{mul-le-mul}
-use native.Mathlib.Numerals.{add-one}
 use lib.Dec.{lit<}
+use lib.ListN.{getD}
 use Rattle.bound.specs.declared.Bound.{Bound}
 use Rattle.bound.specs.Order.{le, pick, greater, lesser}
 use Rattle.bound.proofs.Order.{le-true, greater-cases}
 use Rattle.chain.specs.Limits.{maxTasks, maxProcessors}
 use Rattle.chain.specs.Lists.{sumTo}
-use Rattle.chain.specs.Job.{Job, Valid, tasks, processors, partBound}
+use Rattle.chain.specs.Job.{Job, Valid, tasks, processors, speedOf, partBound}
 use Rattle.chain.specs.Dynamic.{candidate, crossingOf, lesserAt, tableValue, crossing, movesTo}
 use Rattle.chain.proofs.Indices.{Smallest, smallest-is}
 use Rattle.chain.proofs.Parts.{valid-proper, part-empty}
 use Rattle.chain.proofs.Ranges.{Small, part-small, small-lendable, probe-products}
 use Rattle.chain.proofs.Table.{crossing-le, table-attained, moves-to-crossing}
+use Rattle.parts.proofs.Laws.{speed-read}
 
 -- The greater and the lesser of two bounds, by the test's answer.
 greater-first : (B C : Bound) → le C B ≡ true → greater B C ≡ B
@@ -49,9 +50,9 @@ small-products s t = probe-products s (small-lendable t)
 pub small-same : {B C : Bound} → B ≡ C → Small C → Small B
 small-same e s = subst Small (sym e) s
 
--- The code's p + 1 is the processor after p.
-pub next-part : (job : Job) (p a b : ℕ) → partBound job (p + 1) a b ≡ partBound job (suc p) a b
-next-part job p a b = ap (λ (q : ℕ). partBound job q a b) (add-one p)
+-- The speed that the code reads is that of the processor after p.
+pub next-speed : (job : Job) (p k : ℕ) {speed : ℕ} → speed ≡ getD (job .speeds) k 0 → k ≡ suc p → suc p < processors job → speed ≡ speedOf job (suc p)
+next-speed job p k e f h = e ∙ ap (λ (q : ℕ). getD (job .speeds) q 0) f ∙ speed-read job (suc p) h
 
 -- Pointers of all rows make no more moves than 32 bits count.
 moves-limit : maxProcessors * maxTasks < 2 ^ 32
@@ -84,7 +85,7 @@ module _ {job : Job} (v : Valid job) where
 
 module _ (job : Job) (p i : ℕ) where
   -- The test by which the pointer stops at k.
-  abbrev stops : ℕ → Bool
+  abbrev pub stops : ℕ → Bool
   stops k = le (partBound job (suc p) k i) (tableValue job p k)
 
   crossing-is : Smallest stops 0 i (crossing job p i)

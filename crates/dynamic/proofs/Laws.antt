@@ -29,6 +29,12 @@ pub record Moving (job : Job) (p i from count at counted : ℕ) : Type 0 where
 pub moving-start : {job : Job} {p i from count : ℕ} → from ≤ crossing job p i → Moving job p i from count from count
 moving-start h = record { to = h; carried = omega arith }
 
+-- A pointer that does not stop is before i.
+pub moving-before : {job : Job} {p i from count at counted : ℕ} → Valid job → Moving job p i from count at counted
+    → le (partBound job (suc p) at i) (tableValue job p at) ≡ false → at < i
+moving-before {job} {p} {i} {from} {count} {at} v w e =
+    omega (arith, crossing-past job p i at (w .to) e, crossing-le (valid-proper v) p i)
+
 -- One move, and one more counted.
 pub moving-turn : {job : Job} {p i from count at counted at′ counted′ : ℕ} → Moving job p i from count at counted
     → le (partBound job (suc p) at i) (tableValue job p at) ≡ false → at′ ≡ at + 1 → counted′ ≡ counted + 1
@@ -39,10 +45,6 @@ moving-turn {job} {p} {i} {from} {count} {at} {counted} w e f g =
 pub moving-stop : {job : Job} {p i from count at counted : ℕ} → Moving job p i from count at counted
     → le (partBound job (suc p) at i) (tableValue job p at) ≡ true → Advanced job p i from count at counted
 moving-stop {job} {p} {i} {from} {count} {at} w e = record { arrived = crossing-here job p i at (w .to) e; carried = w .carried }
-
-pub moving-end : {job : Job} {p i from count at counted : ℕ} → Valid job → Moving job p i from count at counted → i ≤ at
-    → Advanced job p i from count at counted
-moving-end {job} {p} {i} v w h = record { arrived = omega (arith, w .to, crossing-le (valid-proper v) p i); carried = w .carried }
 
 -- A row that is being written from o on, with i entries so far.
 pub record Writing (job : Job) (xs ys : List ℕ) (o q i : ℕ) : Type 0 where

@@ -3,7 +3,7 @@
 ghost use Prim.Native.Nat.{ℕ, suc, _+_, _*_, _≤_, _<_, _^_};
 ghost use mathlib.Core.Path.{_≡_};
 ghost use lib.ListN.{length};
-ghost use Rattle.chain.specs.Job.{jobOf};
+ghost use Rattle.chain.specs.Job.{jobOf, speedOf, partBound};
 ghost use Rattle.chain.specs.Dynamic.{tableValue, crossing};
 ghost use Rattle.parts.specs.Prefix.{Ready};
 ghost use Rattle.dynamic.specs.Rows.{entryAt, stored, RowReady, Places, Advanced, Filled, FirstRow, Tabled};
@@ -41,32 +41,54 @@ fn put(scratch: &mut [u32], row: usize, i: usize, value: Bound)
     scratch[at + 1] = value.speed as u32;
 }
 
-// Inner. The pointer moves on to the crossing of i in the row after row p, which begins at `before`.
+// Inner. The bound of the part from a to b in the row after row p, whose processor has this speed.
+fn next_part(
+    speeds: &[u32],
+    weights: &[u32],
+    sums: &[u32],
+    p: usize,
+    speed: u64,
+    a: usize,
+    b: usize,
+) -> Bound
+    requires { ⌜ Ready (jobOf (now weights) (now speeds)) (now sums) ⌝ }
+    requires { ⌜ speed ≡ speedOf (jobOf (now weights) (now speeds)) (suc p) ⌝ }
+    requires { ⌜ (a ≤ b) × (b ≤ length (now weights)) ⌝ }
+    ensures { λ r. ⌜ r ≡ partBound (jobOf (now (weights .entry)) (now (speeds .entry))) (suc p) a b ⌝ }
+{
+    Bound {
+        load: wide(sums[b] - sums[a]),
+        speed,
+    }
+}
+
+// Inner. The pointer moves on to the crossing of i in the row after row p, which begins at `before`. At i at the latest it
+// stops: the part is empty there.
 fn advance(
     speeds: &[u32],
     weights: &[u32],
     scratch: &[u32],
     before: usize,
     p: usize,
+    speed: u64,
     i: usize,
     start: Pointer,
 ) -> Pointer
     requires { ⌜ RowReady (jobOf (now weights) (now speeds)) (now scratch) before p ⌝ }
+    requires { ⌜ speed ≡ speedOf (jobOf (now weights) (now speeds)) (suc p) ⌝ }
     requires { ⌜ (i ≤ length (now weights)) × (start .at ≤ crossing (jobOf (now weights) (now speeds)) p i) × (start .moves + i < 2 ^ 32 + start .at) ⌝ }
     ensures { λ r. ⌜ Advanced (jobOf (now (weights .entry)) (now (speeds .entry))) p i (start .at) (start .moves) (r .at) (r .moves) ⌝ }
 {
-    let next = p + 1;
     let mut at = start.at;
     let mut moves = start.moves;
-    while at < i {
-        let part = part_bound(speeds, weights, scratch, next, at, i);
+    loop {
+        let part = next_part(speeds, weights, scratch, p, speed, at, i);
         if Bound::at_most(part, entry(scratch, before, at)) {
             return Pointer { at, moves };
         }
         at += 1;
         moves += 1;
     }
-    Pointer { at, moves }
 }
 
 // Inner. The value at i in the row after row p. At the crossing the row before is the greater of the two, before the crossing
@@ -77,10 +99,12 @@ fn value_at(
     scratch: &[u32],
     before: usize,
     p: usize,
+    speed: u64,
     i: usize,
     at: usize,
 ) -> Bound
     requires { ⌜ RowReady (jobOf (now weights) (now speeds)) (now scratch) before p ⌝ }
+    requires { ⌜ speed ≡ speedOf (jobOf (now weights) (now speeds)) (suc p) ⌝ }
     requires { ⌜ (i ≤ length (now weights)) × (at ≡ crossing (jobOf (now weights) (now speeds)) p i) ⌝ }
     ensures { λ r. ⌜ r ≡ tableValue (jobOf (now (weights .entry)) (now (speeds .entry))) (suc p) i ⌝ }
 {
@@ -88,7 +112,7 @@ fn value_at(
     if at == 0 {
         return here;
     }
-    let part = part_bound(speeds, weights, scratch, p + 1, at - 1, i);
+    let part = next_part(speeds, weights, scratch, p, speed, at - 1, i);
     if Bound::at_most(here, part) {
         here
     } else {
@@ -96,7 +120,7 @@ fn value_at(
     }
 }
 
-// Inner. Fills the row after row p; the pointer starts at 0.
+// Inner. Fills the row after row p; the pointer starts at 0. The speed is read once, before the stores.
 fn fill_row(
     speeds: &[u32],
     weights: &[u32],
@@ -111,12 +135,13 @@ fn fill_row(
     requires { ⌜ (start .at ≡ 0) × (start .moves + length (now weights) < 2 ^ 32) ⌝ }
     ensures { λ r. ⌜ Filled (jobOf (now (weights .entry)) (now (speeds .entry))) (now (scratch .entry)) (now (scratch .exit)) row p (start .moves) (r .moves) ⌝ }
 {
+    let speed = wide(speeds[p + 1]);
     let mut pointer = start;
     let mut i = 0;
     while i <= weights.len() {
-        pointer = advance(speeds, weights, scratch, before, p, i, pointer);
+        pointer = advance(speeds, weights, scratch, before, p, speed, i, pointer);
         let at = pointer.at;
-        let value = value_at(speeds, weights, scratch, before, p, i, at);
+        let value = value_at(speeds, weights, scratch, before, p, speed, i, at);
         put(scratch, row, i, value);
         i += 1;
     }

@@ -13,7 +13,6 @@ use lib.Dec.{ltb, lit<}
 use lib.ListN.{length, getD, set, drop, length-set}
 use lib.Seq.{getD-set-same, drop-set-lt, ext-getD}
 use borrow.Author.Tests.{le-leb, lt-leb, ltb-true, ltb-false}
-use Rattle.chain.specs.Limits.{maxTasks}
 use Rattle.chain.specs.Lists.{tabulate, sumTo, distance}
 use Rattle.chain.specs.Job.{Job, Valid, tasks, processors, last, speedOf, partWeight, totalWeight, totalSpeed, at, bottleneck}
 use Rattle.chain.specs.Heuristic.{nearest, heuristic}
@@ -21,20 +20,12 @@ use Rattle.chain.proofs.Parts.{Proper, valid-proper, weight-all}
 use Rattle.chain.proofs.Indices.{length-tabulate, at-tabulate}
 use Rattle.chain.proofs.Ideal.{total-speed-is}
 use Rattle.chain.proofs.Heuristic.{nearest-le, nearest-first, nearest-grows, heuristic-at, heuristic-end, heuristic-partition}
-use Rattle.chain.proofs.Ranges.{speeds-to-limit, total-speed-fits, total-weight-limit, loads-fit, heuristic-products}
+use Rattle.chain.proofs.Ranges.{speeds-to-limit, index-fits, total-speed-fits, total-weight-limit, loads-fit, heuristic-products}
 use Rattle.parts.specs.Prefix.{Prefix, Ready}
 use Rattle.parts.proofs.Front.{Front, front-store, front-end}
 use Rattle.parts.proofs.Laws.{speed-read}
 use Rattle.heuristic.specs.Target.{firstAtLeast, off, nearestTo, Target, Behind, FirstPast}
 use Rattle.heuristic.proofs.Nearest.{smallest-unique, first-past-is, nearest-high, nearest-low, targetOf, nearest-to-target, target-grows, target-most, behind-first, behind-more}
-
--- An index of a job fits 32 bits.
-tasks-fit : maxTasks < 2 ^ 32
-unfolding maxTasks
-tasks-fit = lit< tt
-
-pub index-fits : {job : Job} → Valid job → (i : ℕ) → i ≤ tasks job → i < 2 ^ 32
-index-fits v i h = lt-of-le-of-lt (le-trans h (v .tasks-limit)) tasks-fit
 
 -- The sum of the speeds of the first p processors.
 pub record SpeedTo (job : Job) (p total : ℕ) : Type 0 where
@@ -208,7 +199,7 @@ module _ {job : Job} {xs ys : List ℕ} {total weight p speed past s e : ℕ} (v
       nearest-next = y ∙ ap (nearestTo job) placed-aim ∙ sym (nearest-to-target job (suc p))
 
       pub placed-narrow : q < 2 ^ 32
-      placed-narrow = index-fits v q (omega (arith, nearest-next, nearest-le job (suc p)))
+      placed-narrow = index-fits v (omega (arith, nearest-next, nearest-le job (suc p)))
 
       pub placed-turn : {i : ℕ} → i ≡ q → Placed job xs (set ys (p + 1) i) total weight (p + 1) (speed + e) r q
       placed-turn {i} z =

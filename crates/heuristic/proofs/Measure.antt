@@ -74,17 +74,6 @@ pub bottleneck-take : (job : Job) (s : List ℕ) → 1 ≤ processors job → bo
 bottleneck-take job s some =
     bottleneck-same job s (take (suc (processors job)) s) some (λ k h. sym (getD-take (suc (processors job)) s k 0 (omega arith)))
 
--- A partition with anything behind it, as a function that writes one leaves it.
-module _ {job : Job} {s : List ℕ} (part : Partition job s) (l : List ℕ) where
-  pub front-is : take (suc (processors job)) (s ++ l) ≡ s
-  front-is = take-at s l (suc (processors job)) (part .count)
-
-  pub front-partition : Partition job (take (suc (processors job)) (s ++ l))
-  front-partition = subst (λ (t : List ℕ). Partition job t) (sym front-is) part
-
-  pub bottleneck-front : 1 ≤ processors job → bottleneck job (s ++ l) ≡ bottleneck job s
-  bottleneck-front some = bottleneck-take job (s ++ l) some ∙ ap (bottleneck job) front-is
-
 -- The loop over the processors: the greatest bound of the first p.
 pub record Measured (job : Job) (s : List ℕ) (p : ℕ) (B : Bound) : Type 0 where
   pub from : 1 ≤ p

@@ -13,21 +13,8 @@ ghost use Rattle.parts.specs.Prefix.{Ready};
 ghost use Rattle.heuristic.specs.Target.{firstAtLeast, nearestTo, Target, Behind, FirstPast};
 use bound::Bound;
 use figures::total_speed;
-
-// An index as a number of 32 bits. Inner: it fits.
-fn narrow(i: usize) -> u32
-    requires { ⌜ i < 2 ^ 32 ⌝ }
-    ensures { λ r. ⌜ r ≡ i ⌝ }
-{
-    i as u32
-}
-
-// A separator as an index.
-fn index(x: u32) -> usize
-    ensures { λ r. ⌜ r ≡ x ⌝ }
-{
-    x as usize
-}
+use parts::index;
+use parts::narrow;
 
 // Inner. The smallest index from a to b whose entry is at least the limit, b if there is none.
 fn first_at_least(xs: &[u32], a: usize, b: usize, limit: u64) -> usize

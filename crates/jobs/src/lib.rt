@@ -1,6 +1,7 @@
 // A job by lists and by file: the tests, reading and writing.
 ghost use Prim.Native.Nat.{_+_, _*_, _<_, _≤_};
 ghost use mathlib.Core.Path.{_≡_};
+ghost use mathlib.Core.Bool.{_&&_};
 ghost use mathlib.Core.List.{[], _∷_, _++_};
 ghost use lib.ListN.{length, take, drop};
 ghost use lib.Dec.{leb};
@@ -34,22 +35,31 @@ pub enum JobWritten {
     Refused(u32),
 }
 
-// Whether every number of the list is from lo to hi. Inner.
+// Whether all before were and this number is from lo to hi. Inner.
+fn and_between(all: bool, lo: u32, hi: u32, value: u32) -> bool
+    ensures { λ r. ⌜ r ≡ (all && between lo hi value) ⌝ }
+{
+    let mut still = all;
+    if value < lo {
+        still = false;
+    }
+    if hi < value {
+        still = false;
+    }
+    still
+}
+
+// Whether every number of the list is from lo to hi. Inner. It reads them all, so that several are tested at once.
 fn each_between(lo: u32, hi: u32, values: &[u32]) -> bool
     ensures { λ r. ⌜ r ≡ eachBetween lo hi (now (values .entry)) ⌝ }
 {
+    let mut all = true;
     let mut i = 0;
     while i < values.len() {
-        let v = values[i];
-        if v < lo {
-            return false;
-        }
-        if hi < v {
-            return false;
-        }
+        all = and_between(all, lo, hi, values[i]);
         i += 1;
     }
-    true
+    all
 }
 
 // The tests of the two counts: 0, 7 or 8. Inner.

@@ -6,9 +6,11 @@ use mathlib.Core.List.{List, [], _∷_, _++_}
 use native.Mathlib.Omega.{arith}
 use native.Mathlib.Decide.{decLe}
 use native.Mathlib.Numerals.{add-one}
-use lib.ListN.{length, getD, set, drop, length-append, length-drop, length-set}
-use lib.Seq.{getD-set-same, getD-set-other, getD-drop, drop-at, ext-getD}
+use lib.ListN.{length, getD, set, take, drop, length-append, length-drop, length-set}
+use lib.Seq.{getD-set-same, getD-set-other, getD-drop, take-at, drop-at, ext-getD}
+use Rattle.bound.specs.declared.Bound.{Bound}
 use Rattle.chain.specs.Lists.{tabulate}
+use Rattle.chain.specs.Job.{Job, Partition, processors, bottleneck}
 use Rattle.chain.proofs.Indices.{length-tabulate, at-tabulate, after-tabulate}
 
 -- ys is xs with f 0, .. f (n - 1) in front.
@@ -84,3 +86,16 @@ behind-written {n} {before} {now} new later b h l e =
 
 pub behind-is : {n : ℕ} {before now later : List ℕ} (new : List ℕ) → Behind n before now → later ≡ new ++ drop n now → later ≡ new ++ drop n before
 behind-is {n} new b e = e ∙ ap (λ (l : List ℕ). new ++ l) (b .rest)
+
+-- A list in whose front n entries were written: these entries,
+pub taken : {n : ℕ} (new l : List ℕ) {ys : List ℕ} → length new ≡ n → ys ≡ new ++ l → take n ys ≡ new
+taken {n} new l h e = ap (take n) e ∙ take-at new l n h
+
+-- that they are a partition where they were one,
+pub front-partition : {job : Job} (new l : List ℕ) {ys : List ℕ} → Partition job new → ys ≡ new ++ l → Partition job (take (suc (processors job)) ys)
+front-partition {job} new l pa e = subst (Partition job) (sym (taken new l (pa .count) e)) pa
+
+-- and that their bottleneck is that one's.
+pub front-bottleneck : {job : Job} (new l : List ℕ) {ys : List ℕ} {B : Bound} → Partition job new → ys ≡ new ++ l
+    → B ≡ bottleneck job (take (suc (processors job)) ys) → B ≡ bottleneck job new
+front-bottleneck {job} new l pa e h = h ∙ ap (bottleneck job) (taken new l (pa .count) e)

@@ -1,6 +1,6 @@
 // Prefix sums of the weights, and what is read off them: the bound of a part, and the bottleneck of a partition.
 // All functions here are inner: their callers have tested the job.
-ghost use Prim.Native.Nat.{ℕ, suc, _+_, _≤_, _<_};
+ghost use Prim.Native.Nat.{ℕ, suc, _+_, _≤_, _<_, _^_};
 ghost use mathlib.Core.Path.{_≡_};
 ghost use mathlib.Core.List.{_++_};
 ghost use lib.ListN.{length, drop};
@@ -19,6 +19,21 @@ pub fn wide(x: u32) -> u64
     ensures { λ r. ⌜ r ≡ x ⌝ }
 {
     x as u64
+}
+
+// A separator as an index.
+pub fn index(x: u32) -> usize
+    ensures { λ r. ⌜ r ≡ x ⌝ }
+{
+    x as usize
+}
+
+// Inner. An index that fits 32 bits.
+pub fn narrow(i: usize) -> u32
+    requires { ⌜ i < 2 ^ 32 ⌝ }
+    ensures { λ r. ⌜ r ≡ i ⌝ }
+{
+    i as u32
 }
 
 // Inner. Writes W(1,0) to W(1,N) to the front of the list.

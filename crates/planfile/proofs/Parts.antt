@@ -8,16 +8,10 @@ use native.Mathlib.Nat.{le-trans, lt-of-le-of-lt}
 use lib.Dec.{lit<}
 use lib.ListN.{length, take, length-take}
 use lib.Seq.{getD-take}
-use Rattle.chain.specs.Limits.{maxTasks}
 use Rattle.chain.specs.Lists.{sumTo}
 use Rattle.chain.specs.Job.{Job, Valid, tasks, processors, speedOf, partWeight, partLoad, totalWeight, at, Partition}
 use Rattle.chain.proofs.Parts.{weight-split, weight-empty, weight-all}
-use Rattle.chain.proofs.Ranges.{loads-fit, speeds-fit, load-limit}
-
--- An index fits 32 bits.
-tasks-fit : maxTasks < 2 ^ 32
-unfolding maxTasks
-tasks-fit = lit< tt
+use Rattle.chain.proofs.Ranges.{index-fits, loads-fit, speeds-fit, load-limit}
 
 -- The four fields of processor p's record fit 32 bits.
 pub record FieldsFit (job : Job) (s : List ℕ) (p : ℕ) : Type 0 where
@@ -51,8 +45,8 @@ module _ {job : Job} {s : List ℕ} (w : Partition job s) where
   pub fields-fit : Valid job → (p : ℕ) → p < processors job → FieldsFit job s p
   fields-fit v p h =
       record {
-        from = lt-of-le-of-lt (le-trans (separator-below p (omega arith)) (v .tasks-limit)) tasks-fit;
-        to = lt-of-le-of-lt (le-trans (separator-below (suc p) h) (v .tasks-limit)) tasks-fit;
+        from = index-fits v (separator-below p (omega arith));
+        to = index-fits v (separator-below (suc p) h);
         load = lt-of-le-of-lt (load-limit v (at s p) (at s (suc p))) loads-fit;
         speed = lt-of-le-of-lt (v .speeds-limit p) speeds-fit;
       }

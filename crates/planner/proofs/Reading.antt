@@ -22,7 +22,7 @@ use Rattle.jobs.proofs.Limits.{tasks-limit, processors-limit}
 use Rattle.jobs.proofs.RoundTrip.{accepted-valid}
 use Rattle.planfile.specs.PlanFile.{planBytes}
 use Rattle.planfile.proofs.Records.{length-plan, plan-take}
-use Rattle.search.proofs.Laws.{taken}
+use Rattle.parts.proofs.Front.{taken}
 use Rattle.planner.specs.Answers.{scratchNeeded}
 use Rattle.planner.specs.HostCall.{Host, hostTests, hostAnswer, hostBytes}
 

@@ -18,6 +18,7 @@ use Rattle.chain.proofs.Extremes.{weight-one}
 use Rattle.chain.proofs.NextBid.{bid-before, bid-last}
 use Rattle.chain.proofs.Ranges.{Small, part-small, small-fits}
 use Rattle.probe.specs.Outcome.{Narrow, OneMore}
+use Rattle.probe.specs.Walk.{none, leastBefore}
 
 -- The products of a comparison of two narrow bounds fit.
 pub narrow-products : {B C : Bound} → Narrow B → Narrow C → (B .load * C .speed < 2 ^ 64) × (C .load * B .speed < 2 ^ 64)
@@ -45,9 +46,6 @@ unfolding lesser
 lesser-second B C e = ap (λ (t : Bool). pick t B C) (sym e)
 
 -- 1/0 is above every bound with a speed.
-abbrev pub none : Bound
-none = over 1 0
-
 pub none-narrow : Narrow none
 none-narrow = record { load-fits = lit< tt; speed-fits = lit< tt }
 
@@ -71,28 +69,19 @@ module _ (job : Job) where
   part-past p a h = ap (λ (n : ℕ). over n (speedOf job p)) (load-past a h)
 
   -- So a bid stops at the last task.
-  bid-stops : (p a : ℕ) {i r : ℕ} → a ≤ i → i ≤ tasks job → OneMore i (tasks job) r → partBound job p a r ≡ partBound job p a (suc i)
-  bid-stops p a {i} {r} h k w =
-      elim (decLe (suc i) (tasks job)) [
+  pub bid-stops : (p : ℕ) {a i r : ℕ} {C : Bound} → a ≤ i → i ≤ tasks job → OneMore i (tasks job) r → C ≡ partBound job p a r → C ≡ partBound job p a (suc i)
+  bid-stops p {a} {i} {r} h k w e =
+      e
+      ∙ elim (decLe (suc i) (tasks job)) [
         | yes x ↦ ap (partBound job p a) (w .next x)
         | no x ↦
-            ap (partBound job p a) (let e : r ≡ tasks job = omega (arith, w .from, w .to) in e) ∙ sym (part-past p a (omega arith))
-            ∙ ap (λ (j : ℕ). partBound job p a (suc j)) (let e : tasks job ≡ i = omega arith in e)
+            ap (partBound job p a) (let f : r ≡ tasks job = omega (arith, w .from, w .to) in f) ∙ sym (part-past p a (omega arith))
+            ∙ ap (λ (j : ℕ). partBound job p a (suc j)) (let f : tasks job ≡ i = omega arith in f)
       ]
-
-  -- The lesser of the best bid so far and a bid that stops there.
-  pub bid-lesser : (best : Bound) {C D : Bound} (p : ℕ) {a i r : ℕ} → a ≤ i → i ≤ tasks job → OneMore i (tasks job) r → C ≡ partBound job p a r → D ≡ lesser best C
-      → D ≡ lesser best (partBound job p a (suc i))
-  bid-lesser best p {a} h k w e f = f ∙ ap (lesser best) (e ∙ bid-stops p a h k w)
 
 -- The bound of a part is narrow.
 pub part-narrow : {job : Job} {C : Bound} (p a b : ℕ) → Valid job → C ≡ partBound job p a b → Narrow C
 part-narrow p a b v e = subst Narrow (sym e) (small-narrow (part-small v p a b))
-
--- The least bid of the processors below p, 1/0 of none.
-unfoldable pub leastBefore : Job → Bound → ℕ → Bound
-leastBefore job B zero = none
-leastBefore job B (suc p) = leastBidTo job B p
 
 module _ {job : Job} (v : Valid job) (B : Bound) where
   least-next : (p : ℕ) → 1 ≤ (bid job B p) .speed → lesser (leastBefore job B p) (bid job B p) ≡ leastBidTo job B p

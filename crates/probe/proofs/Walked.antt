@@ -5,13 +5,10 @@ use mathlib.Core.Path.{_≡_, refl, sym, ap, subst, _∙_}
 use mathlib.Core.Bool.{true, false}
 use mathlib.Core.List.{List, [], _∷_, _++_}
 use native.Mathlib.Omega.{arith}
-use native.Mathlib.Nat.{lt-of-le-of-lt, le-trans}
 use native.Mathlib.Numerals.{add-one}
-use lib.Dec.{lit<}
 use lib.ListN.{length, set, drop}
 use Rattle.bound.specs.declared.Bound.{Bound}
 use Rattle.bound.specs.Order.{le, lesser}
-use Rattle.chain.specs.Limits.{maxTasks}
 use Rattle.chain.specs.Lists.{tabulate}
 use Rattle.chain.specs.Job.{Job, Valid, tasks, processors, last, partBound, within, at}
 use Rattle.chain.specs.Probe.{reach, separator, walk, fits}
@@ -19,19 +16,13 @@ use Rattle.chain.proofs.Parts.{valid-proper}
 use Rattle.chain.proofs.Bottleneck.{processors-last}
 use Rattle.chain.proofs.Walk.{reach-from, reach-to, separator-to, walk-at, walk-end}
 use Rattle.chain.proofs.Ranges.{Small, Lendable, part-small, probe-products}
-use Rattle.parts.proofs.Front.{Front, front-start, front-store, front-end}
+use Rattle.parts.proofs.Front.{Front, front-store, front-end}
+use Rattle.probe.specs.declared.Point.{Point}
 use Rattle.probe.specs.declared.Outcome.the-variants.{Fits, Fails}
 use Rattle.probe.specs.Outcome.{Narrow, outcomeOf}
-use Rattle.probe.proofs.Bids.{small-narrow, lesser-narrow, none, none-narrow, leastBefore, least-turn, least-end}
+use Rattle.probe.specs.Walk.{none, leastBefore, Reached}
+use Rattle.probe.proofs.Bids.{small-narrow, lesser-narrow, none-narrow, least-turn, least-end}
 use Rattle.probe.proofs.Answer.{outcome-fits, outcome-fails, walk-count}
-
--- Separators fit 32 bits.
-tasks-fit : maxTasks < 2 ^ 32
-unfolding maxTasks
-tasks-fit = lit< tt
-
-pub index-fits : {job : Job} {i : ℕ} → Valid job → i ≤ tasks job → i < 2 ^ 32
-index-fits v h = lt-of-le-of-lt (le-trans h (v .tasks-limit)) tasks-fit
 
 -- The products of the test of the last part fit.
 pub rest-products : {job : Job} {B C : Bound} (p a b : ℕ) → Valid job → Lendable B → C ≡ partBound job p a b
@@ -54,16 +45,34 @@ pub record Walked (job : Job) (B : Bound) (before now : List ℕ) (p a : ℕ) (b
   pub small : Narrow best
   pub front : Front (at (walk job B)) p before now
 
-pub walked-start : (job : Job) (B : Bound) (xs : List ℕ) → Walked job B xs xs 0 0 none
+-- Every walk reaches its first point,
+pub reached-first : (job : Job) (B : Bound) (xs : List ℕ) → Reached job B xs (record { processor = 0; start = 0; least = none })
 unfolding separator leastBefore
-walked-start job B xs =
+reached-first job B xs =
     record {
       to = omega arith;
-      reached = refl;
-      inside = omega arith;
-      least = refl;
+      start-is = refl;
+      least-is = refl;
       small = none-narrow;
-      front = front-start (at (walk job B)) xs;
+      before = λ k h. absurd (let z : ⊥ = omega arith in z);
+    }
+
+-- and the loop can go on from any that is reached.
+pub walked-start : {job : Job} {B : Bound} {xs : List ℕ} {point : Point} → Reached job B xs point
+    → Walked job B xs xs (point .processor) (point .start) (point .least)
+walked-start {job} {B} {xs} {point} w =
+    record {
+      to = w .to;
+      reached = w .start-is;
+      inside = subst (λ (i : ℕ). i ≤ tasks job) (sym (w .start-is)) (separator-to job B (point .processor));
+      least = w .least-is;
+      small = w .small;
+      front =
+          record {
+            same = refl;
+            done = λ k h. w .before k h ∙ sym (walk-at job B k (omega (arith, w .to)));
+            rest = λ k h. refl;
+          };
     }
 
 module _ {job : Job} (v : Valid job) {B : Bound} {xs ys : List ℕ} {p a : ℕ} {best : Bound} (l : processors job < length xs)
@@ -78,10 +87,10 @@ module _ {job : Job} (v : Valid job) {B : Bound} {xs ys : List ℕ} {p a : ℕ} 
   pub end-inside : {b : ℕ} → b ≡ reach job p a B → b ≤ tasks job
   end-inside e = omega (arith, reach-to job p a B (w .inside))
 
-  pub walked-turn : {s b : ℕ} {C : Bound} → p < last job → s ≡ a → b ≡ reach job p a B → C ≡ lesser best (partBound job p a (suc b))
+  pub walked-turn : {s b : ℕ} {D C : Bound} → p < last job → s ≡ a → b ≡ reach job p a B → D ≡ partBound job p a (suc b) → C ≡ lesser best D
       → Walked job B xs (set ys p s) (p + 1) b C
   unfolding separator
-  walked-turn {s} {b} {C} h e f g =
+  walked-turn {s} {b} {D} {C} h e f d k =
       subst (λ (i : ℕ). Walked job B xs (set ys p s) i b C) (sym (add-one p))
       (record {
         to = h;
@@ -97,6 +106,9 @@ module _ {job : Job} (v : Valid job) {B : Bound} {xs ys : List ℕ} {p a : ℕ} 
         front = store e;
       })
     where
+      g : C ≡ lesser best (partBound job p a (suc b))
+      g = k ∙ ap (lesser best) d
+
       next : b ≡ separator job B (suc p)
       next = f ∙ ap (λ (i : ℕ). reach job p i B) (w .reached)
 

@@ -11,7 +11,9 @@ ghost use Rattle.chain.proofs.Ranges.{Lendable};
 ghost use Rattle.parts.specs.Prefix.{Ready};
 ghost use Rattle.probe.specs.Search.{Bracket, LastAtMost};
 ghost use Rattle.probe.specs.Outcome.{Narrow, OneMore, outcomeOf};
+ghost use Rattle.probe.specs.Walk.{Reached};
 use bound::Bound;
+use parts::narrow;
 use parts::part_bound;
 use parts::wide;
 
@@ -65,14 +67,6 @@ pub fn last_at_most(xs: &[u32], a: usize, n: usize, cap: u32) -> usize
 {
     let span = gallop(xs, a, n, cap);
     halve(xs, span.low, span.high, cap)
-}
-
-// Inner. A number that fits 32 bits.
-pub fn narrow(x: usize) -> u32
-    requires { ⌜ x < 2 ^ 32 ⌝ }
-    ensures { λ r. ⌜ r ≡ x ⌝ }
-{
-    x as u32
 }
 
 // Inner. The greatest load within the bound on a processor of this speed.
@@ -130,9 +124,8 @@ pub fn one_more(i: usize, n: usize) -> usize
     if i < n { i + 1 } else { n }
 }
 
-// Inner. The lesser of the least bid so far and the bid of processor p, its part from a to end with one more task.
-pub fn least_bid(
-    best: Bound,
+// Inner. The bid of processor p: the bound of its part from a to end with one more task.
+pub fn bid_of(
     speeds: &[u32],
     weights: &[u32],
     sums: &[u32],
@@ -141,18 +134,63 @@ pub fn least_bid(
     end: usize,
 ) -> Bound
     requires { ⌜ Ready (jobOf (now weights) (now speeds)) (now sums) ⌝ }
-    requires { ⌜ Narrow best ⌝ }
     requires { ⌜ (p < length (now speeds)) × (a ≤ end) × (end ≤ length (now weights)) ⌝ }
-    ensures { λ r. ⌜ r ≡ lesser best (partBound (jobOf (now (weights .entry)) (now (speeds .entry))) p a (suc end)) ⌝ }
+    ensures { λ r. ⌜ r ≡ partBound (jobOf (now (weights .entry)) (now (speeds .entry))) p a (suc end) ⌝ }
+    ensures { λ r. ⌜ Narrow r ⌝ }
 {
     let next = one_more(end, weights.len());
-    lesser_bound(best, part_bound(speeds, weights, sums, p, a, next))
+    part_bound(speeds, weights, sums, p, a, next)
 }
 
 // The answer of a probe ("trial at a bound"): it fits, or it fails with the least next bid.
 pub enum Outcome {
     Fits,
     Fails(Bound),
+}
+
+// Where a walk stands: before the part of a processor, with that part's start and the least bid of the processors before it.
+pub struct Point {
+    pub processor: usize,
+    pub start: usize,
+    pub least: Bound,
+}
+
+// Inner. The probe at the bound from a point on that its walk has reached: writes the separators from there on, whether it fits
+// or not, and answers.
+pub fn walk_from(
+    speeds: &[u32],
+    weights: &[u32],
+    sums: &[u32],
+    bound: Bound,
+    point: Point,
+    separators: &mut [u32],
+) -> Outcome
+    requires { ⌜ Ready (jobOf (now weights) (now speeds)) (now sums) ⌝ }
+    requires { ⌜ Lendable bound ⌝ }
+    requires { ⌜ length (now speeds) < length (now separators) ⌝ }
+    requires { ⌜ Reached (jobOf (now weights) (now speeds)) bound (now separators) point ⌝ }
+    ensures { λ r. ⌜ r ≡ outcomeOf (jobOf (now (weights .entry)) (now (speeds .entry))) bound ⌝ }
+    ensures { λ r. ⌜ now (separators .exit) ≡ walk (jobOf (now (weights .entry)) (now (speeds .entry))) bound ++ drop (suc (length (now (speeds .entry)))) (now (separators .entry)) ⌝ }
+{
+    let last = speeds.len() - 1;
+    let n = weights.len();
+    let mut best = point.least;
+    let mut a = point.start;
+    let mut p = point.processor;
+    while p < last {
+        separators[p] = narrow(a);
+        let end = part_end(speeds, weights, sums, p, a, bound);
+        best = lesser_bound(best, bid_of(speeds, weights, sums, p, a, end));
+        a = end;
+        p += 1;
+    }
+    separators[p] = narrow(a);
+    separators[p + 1] = narrow(n);
+    let rest = part_bound(speeds, weights, sums, p, a, n);
+    if Bound::at_most(rest, bound) {
+        return Outcome::Fits;
+    }
+    Outcome::Fails(lesser_bound(best, rest))
 }
 
 // Inner. The probe at the bound: writes the walk's P + 1 separators, whether it fits or not, and answers.
@@ -169,23 +207,10 @@ pub fn probe_in(
     ensures { λ r. ⌜ r ≡ outcomeOf (jobOf (now (weights .entry)) (now (speeds .entry))) bound ⌝ }
     ensures { λ r. ⌜ now (separators .exit) ≡ walk (jobOf (now (weights .entry)) (now (speeds .entry))) bound ++ drop (suc (length (now (speeds .entry)))) (now (separators .entry)) ⌝ }
 {
-    let last = speeds.len() - 1;
-    let n = weights.len();
-    let mut best = Bound { load: 1, speed: 0 };
-    let mut a = 0;
-    let mut p = 0;
-    while p < last {
-        separators[p] = narrow(a);
-        let end = part_end(speeds, weights, sums, p, a, bound);
-        best = least_bid(best, speeds, weights, sums, p, a, end);
-        a = end;
-        p += 1;
-    }
-    separators[p] = narrow(a);
-    separators[p + 1] = narrow(n);
-    let rest = part_bound(speeds, weights, sums, p, a, n);
-    if Bound::at_most(rest, bound) {
-        return Outcome::Fits;
-    }
-    Outcome::Fails(lesser_bound(best, rest))
+    let first = Point {
+        processor: 0,
+        start: 0,
+        least: Bound { load: 1, speed: 0 },
+    };
+    walk_from(speeds, weights, sums, bound, first, separators)
 }

@@ -194,17 +194,6 @@ rounds-fit (suc k) v w =
 pub ended-at-once : {job : Job} {bound : Bound} → bound ≡ ideal job → T (fits job bound) → BisectionEnds job 1 bound
 ended-at-once {job} {bound} e t = at-once (subst (λ (B : Bound). T (fits job B)) e t) refl e
 
--- A list with n entries in front: these entries, and that a partition among them is one there.
-pub taken : {n : ℕ} (new l : List ℕ) {ys : List ℕ} → length new ≡ n → ys ≡ new ++ l → take n ys ≡ new
-taken {n} new l h e = ap (take n) e ∙ take-at new l n h
-
-pub front-partition : {job : Job} (new l : List ℕ) {ys : List ℕ} → Partition job new → ys ≡ new ++ l → Partition job (take (suc (processors job)) ys)
-front-partition {job} new l pa e = subst (Partition job) (sym (taken new l (pa .count) e)) pa
-
-pub front-bottleneck : {job : Job} (new l : List ℕ) {ys : List ℕ} {B : Bound} → Partition job new → ys ≡ new ++ l
-    → B ≡ bottleneck job (take (suc (processors job)) ys) → B ≡ bottleneck job new
-front-bottleneck {job} new l pa e h = h ∙ ap (bottleneck job) (taken new l (pa .count) e)
-
 pub behind-trans : {n : ℕ} {a b c : List ℕ} → Behind n a b → Behind n b c → Behind n a c
 behind-trans x y = record { same = y .same ∙ x .same; rest = y .rest ∙ x .rest }
 

@@ -10,15 +10,21 @@ ghost use Rattle.chain.specs.Search.{narrow};
 ghost use Rattle.chain.proofs.Ranges.{Lendable, Small};
 ghost use Rattle.parts.proofs.Front.{Behind};
 ghost use Rattle.parts.specs.Prefix.{Ready};
-ghost use Rattle.search.specs.Start.{Rejected, endsOf};
+ghost use Rattle.search.specs.Start.{Rejected, FailedWalk, endsOf};
+ghost use Rattle.probe.specs.Walk.{Reached};
 use bound::Bound;
 use figures::total_speed;
 use heuristic::heuristic_in;
 use heuristic::measure_in;
 use parts::Found;
+use parts::index;
 use parts::wide;
 use probe::Outcome;
+use probe::Point;
+use probe::bid_of;
+use probe::lesser_bound;
 use probe::probe_in;
+use probe::walk_from;
 
 // Inner. The ideal, all weight over all speed.
 fn ideal_of(speeds: &[u32], weights: &[u32], sums: &[u32]) -> Bound
@@ -31,7 +37,40 @@ fn ideal_of(speeds: &[u32], weights: &[u32], sums: &[u32]) -> Bound
     }
 }
 
-// Inner. Bidding: a trial at the ideal, then at each least next bid until one fits. It leaves the walk at the bound found.
+// Inner. Where the walk at the next bid parts from the failed walk in front of the list: before the first processor whose bid is
+// within it. Up to there the separators and the bids stay.
+fn parting(speeds: &[u32], weights: &[u32], sums: &[u32], next: Bound, separators: &[u32]) -> Point
+    requires { ⌜ Ready (jobOf (now weights) (now speeds)) (now sums) ⌝ }
+    requires { ⌜ FailedWalk (jobOf (now weights) (now speeds)) next (now separators) ⌝ }
+    ensures { λ r. ⌜ Reached (jobOf (now (weights .entry)) (now (speeds .entry))) next (now (separators .entry)) r ⌝ }
+{
+    let last = speeds.len() - 1;
+    let mut least = Bound { load: 1, speed: 0 };
+    let mut a = 0;
+    let mut p = 0;
+    while p < last {
+        let end = index(separators[p + 1]);
+        let bid = bid_of(speeds, weights, sums, p, a, end);
+        if Bound::at_most(bid, next) {
+            return Point {
+                processor: p,
+                start: a,
+                least,
+            };
+        }
+        least = lesser_bound(least, bid);
+        a = end;
+        p += 1;
+    }
+    Point {
+        processor: p,
+        start: a,
+        least,
+    }
+}
+
+// Inner. Bidding: a trial at the ideal, then at each least next bid until one fits. Each walk goes on from where it parts from the
+// one before. It leaves the walk at the bound found.
 pub fn bidding_in(speeds: &[u32], weights: &[u32], sums: &[u32], separators: &mut [u32]) -> Found
     requires { ⌜ Ready (jobOf (now weights) (now speeds)) (now sums) ⌝ }
     requires { ⌜ length (now speeds) < length (now separators) ⌝ }
@@ -39,9 +78,14 @@ pub fn bidding_in(speeds: &[u32], weights: &[u32], sums: &[u32], separators: &mu
     ensures { λ r. ⌜ now (separators .exit) ≡ walk (jobOf (now (weights .entry)) (now (speeds .entry))) (r .bound) ++ drop (suc (length (now (speeds .entry)))) (now (separators .entry)) ⌝ }
 {
     let mut bound = ideal_of(speeds, weights, sums);
+    let mut point = Point {
+        processor: 0,
+        start: 0,
+        least: Bound { load: 1, speed: 0 },
+    };
     let mut failures = 0u32;
     loop {
-        let answer = probe_in(speeds, weights, sums, bound, separators);
+        let answer = walk_from(speeds, weights, sums, bound, point, separators);
         match answer {
             Outcome::Fits => {
                 return Found {
@@ -50,6 +94,7 @@ pub fn bidding_in(speeds: &[u32], weights: &[u32], sums: &[u32], separators: &mu
                 };
             }
             Outcome::Fails(next) => {
+                point = parting(speeds, weights, sums, next, separators);
                 bound = next;
                 failures += 1;
             }
@@ -100,7 +145,7 @@ fn bisect(
 ) -> Found
     requires { ⌜ Ready (jobOf (now weights) (now speeds)) (now sums) ⌝ }
     requires { ⌜ length (now speeds) < length (now separators) ⌝ }
-    requires { ⌜ Rejected (jobOf (now weights) (now speeds)) next ⌝ }
+    requires { ⌜ Rejected (jobOf (now weights) (now speeds)) (ideal (jobOf (now weights) (now speeds))) next ⌝ }
     ensures { λ r. ⌜ BisectionEnds (jobOf (now (weights .entry)) (now (speeds .entry))) (r .count) (r .bound) ⌝ }
     ensures { λ r. ⌜ Lendable (r .bound) ⌝ }
     ensures { λ r. ⌜ Behind (suc (length (now (speeds .entry)))) (now (separators .entry)) (now (separators .exit)) ⌝ }

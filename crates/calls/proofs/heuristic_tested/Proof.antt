@@ -9,7 +9,8 @@ use Rattle.chain.specs.Heuristic.{heuristic}
 use Rattle.chain.proofs.Parts.{valid-proper}
 use Rattle.chain.proofs.Heuristic.{heuristic-partition}
 use Rattle.jobs.proofs.Limits.{tasks-limit}
-use Rattle.calls.proofs.Ends.{sums-ready, front-partition, front-bottleneck}
+use Rattle.parts.proofs.Front.{front-partition, front-bottleneck}
+use Rattle.calls.proofs.Ends.{sums-ready}
 use borrow.Author.Needs.{needs}
 use Rattle.calls.proofs.heuristic_tested.Statement.{statement}
 use Rattle.calls.proofs.heuristic_tested.Tie as tie

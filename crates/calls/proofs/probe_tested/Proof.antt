@@ -1,72 +1,34 @@
--- `probe_tested` meets its contract, by what the probe answers.
+-- `probe_tested` meets its contract.
 -- Assumes nothing.
-use mathlib.Core.Path.{sym, _∙_}
 use native.Mathlib.Omega.{arith}
-use Rattle.chain.specs.Job.{Job, jobOf}
-use Rattle.jobs.proofs.Limits.{tasks-limit, processors-limit}
-use Rattle.probe.proofs.Answer.{fits-outcome, fails-outcome}
-use Rattle.calls.proofs.Ends.{sums-ready, walk-room, probe-fits, probe-fails}
 use borrow.Author.Needs.{needs}
+use Rattle.jobs.proofs.Limits.{tasks-limit, processors-limit}
+use Rattle.calls.proofs.Ends.{sums-ready}
 use Rattle.calls.proofs.probe_tested.Statement.{statement}
 use Rattle.calls.proofs.probe_tested.Tie as tie
-use Rattle.calls.proofs.probe_tested.Reads as reads
-use Rattle.calls.proofs.probe_tested.Lts as lts
-use Rattle.calls.proofs.copy_front.Reads as copy-front-reads
-use Rattle.parts.proofs.prefix_sums.Reads as prefix-sums-reads
-use Rattle.probe.proofs.probe_in.Reads as probe-in-reads
 
 slice-aggregate-prefix-sums : tie.Need-slice-aggregate-prefix-sums
 slice-aggregate-prefix-sums c = search needs
 
 prefix-sums-requires : tie.Need-prefix-sums-requires
-prefix-sums-requires c κs =
-    let s = c .before .before .before .before in (s .pre .0, omega (arith, s .pre .0 .tasks-limit, tasks-limit))
+prefix-sums-requires c κs = let s = c .before .before .before .before in (s .pre .0, omega (arith, s .pre .0 .tasks-limit, tasks-limit))
 
-slice-aggregate-probe-in : tie.Need-slice-aggregate-probe-in
-slice-aggregate-probe-in c = search needs
+slice-aggregate-probe-beside : tie.Need-slice-aggregate-probe-beside
+slice-aggregate-probe-beside c = search needs
 
-slice-aggregate-probe-in-2 : tie.Need-slice-aggregate-probe-in-2
-slice-aggregate-probe-in-2 c = search needs
+slice-aggregate-probe-beside-2 : tie.Need-slice-aggregate-probe-beside-2
+slice-aggregate-probe-beside-2 c = search needs
 
-probe-in-requires : tie.Need-probe-in-requires
-probe-in-requires c κs =
-    let s = c .before .before .before .before .before .before .before .before in
-    (sums-ready _ (s .pre .0) (c .before .before .before .prefix-sums .ensures), (s .pre .1 .0, omega (arith, s .pre .0 .processors-limit, processors-limit)))
-
-enum-told : tie.Need-enum-told
-enum-told c = search needs
-
-slice-aggregate-copy-front : tie.Need-slice-aggregate-copy-front
-slice-aggregate-copy-front c = search needs
-
-add-copy-front : tie.Need-add-copy-front
-add-copy-front c = search needs
-
-copy-front-requires : tie.Need-copy-front-requires
-copy-front-requires c κs =
-    let s = c .before .before .before .before .before .before .before .before .before .before .before .before .before .before in
-    (walk-room (s .args .bound) _ (s .pre .0) (c .before .before .before .before .before .probe-in .ensures .1), omega (arith, s .pre .1 .1))
-
-enum-known-answer : tie.Need-enum-known-answer
-enum-known-answer c = search needs
+probe-beside-requires : tie.Need-probe-beside-requires
+probe-beside-requires c κs =
+    let s = c .before .before .before .before .before .before .before .before .before in
+    (sums-ready _ (s .pre .0) (c .before .before .before .before .prefix-sums .ensures), (s .pre .1 .0, (omega (arith, s .pre .0 .processors-limit, processors-limit), s .pre .1 .1)))
 
 same-length : tie.Need-same-length
 same-length c = search needs
 
 returns : tie.Need-returns
-returns c =
-    let s = c .before .before .before .before .before .before .before .before .before .before .before .before .before .before .before .before .before in
-    let job : Job = jobOf (s .args .weights .now) (s .args .speeds .now) in
-    let y = c .before .before .before .before .before .before .before .before .probe-in .ensures in
-    probe-fits job (s .args .bound) (s .args .separators .now) _ (s .pre .0) (fits-outcome job (s .args .bound) (sym (y .0) ∙ c .before .before .before .before .before .enum-told .given .1)) (y .1) (c .before .before .copy-front .ensures)
-
-returns-2 : tie.Need-returns-2
-returns-2 c =
-    let s = c .before .before .before .before .before .before .before .before .before .before .before .before .before in
-    let job : Job = jobOf (s .args .weights .now) (s .args .speeds .now) in
-    let y = c .before .before .before .before .probe-in .ensures in
-    let f = fails-outcome job (s .args .bound) (sym (y .0) ∙ c .before .answer .given .1) in
-    probe-fails job (s .args .bound) (s .args .separators .now) (f .0) (f .1)
+returns c = search needs
 
 pub probe-tested-spec : {M : Type 1} → statement M
 probe-tested-spec =
@@ -74,14 +36,8 @@ probe-tested-spec =
     (tie.spec
     slice-aggregate-prefix-sums
     prefix-sums-requires
-    slice-aggregate-probe-in
-    slice-aggregate-probe-in-2
-    probe-in-requires
-    enum-told
-    slice-aggregate-copy-front
-    add-copy-front
-    copy-front-requires
-    enum-known-answer
+    slice-aggregate-probe-beside
+    slice-aggregate-probe-beside-2
+    probe-beside-requires
     same-length
-    returns
-    returns-2)
+    returns)

@@ -1,82 +1,96 @@
 -- `advance` meets its contract: the loop keeps `Moving`.
 -- Assumes nothing.
-use Prim.Native.Nat.{ℕ, suc, _+_, _-_}
+use borrow.Author.Needs.{needs}
+use Prim.Native.Nat.{ℕ, suc, _+_, _-_, _≤_, _<_}
 use mathlib.Core.Path.{_≡_, _∙_}
+use mathlib.Core.Bool.{false}
 use native.Mathlib.Omega.{arith}
 use Rattle.chain.specs.Job.{Job, jobOf, partBound}
 use Rattle.chain.specs.Dynamic.{tableValue}
+use Rattle.chain.proofs.Parts.{valid-proper}
 use Rattle.chain.proofs.Ranges.{part-small}
-use Rattle.dynamic.proofs.Crossing.{table-small, tested, small-products, small-same, next-part}
-use Rattle.dynamic.proofs.Laws.{Moving, moving-start, moving-turn, moving-stop, moving-end}
+use Rattle.chain.proofs.Table.{crossing-le}
+use Rattle.dynamic.proofs.Crossing.{table-small, stops, tested, small-products, small-same}
+use Rattle.dynamic.proofs.Laws.{Moving, moving-start, moving-before, moving-turn, moving-stop}
 use Rattle.dynamic.proofs.advance.Statement.{statement}
 use Rattle.dynamic.proofs.advance.Tie as tie
 
 abbrev Inv-loop : tie.InvT-loop
-Inv-loop speeds weights scratch before p i next at₀ moves₀ at moves = Moving (jobOf weights speeds) p i at₀ moves₀ at moves
+Inv-loop speeds weights scratch before p speed i at₀ moves₀ at moves = Moving (jobOf weights speeds) p i at₀ moves₀ at moves
 
 abbrev μ-loop : tie.MeasureT-loop
-μ-loop speeds weights scratch before p i next at₀ moves₀ at moves = i - at
-
-add-next : tie.Need-add-next Inv-loop μ-loop
-add-next c = omega arith
+μ-loop speeds weights scratch before p speed i at₀ moves₀ at moves = i - at
 
 loop-holds : tie.Need-loop-holds Inv-loop μ-loop
-loop-holds c = moving-start (c .before .before .before .pre .1 .1)
+loop-holds c = moving-start (c .before .before .before .pre .1 .1 .1)
 
-part-bound-requires : tie.Need-part-bound-requires Inv-loop μ-loop
-part-bound-requires c κs = let s = c .before .before .before .before .before in (s .pre .0 .ready, omega arith)
+-- The pointer is at most i.
+at-le : (c : tie.At-loop Inv-loop μ-loop) → c .loop .at ≤ c .before .before .before .before .args .i
+at-le c =
+    let s = c .before .before .before .before in
+    omega (arith, c .loop .inv .to, crossing-le (valid-proper (s .pre .0 .ready .valid)) (s .args .p) (s .args .i))
+
+next-part-requires : tie.Need-next-part-requires Inv-loop μ-loop
+next-part-requires c κs =
+    let s = c .before .before .before .before in
+    (s .pre .0 .ready, (s .pre .1 .0, (at-le c, s .pre .1 .1 .0)))
 
 entry-requires : tie.Need-entry-requires Inv-loop μ-loop
-entry-requires c κs = omega (arith, c .before .before .before .before .before .before .pre .0 .inside)
+entry-requires c κs = omega (arith, c .before .before .before .before .before .pre .0 .inside, at-le (c .before))
 
 -- The two bounds that are compared.
 module _ (c : tie.After-entry Inv-loop μ-loop) where
   abbrev start : tie.Start Inv-loop μ-loop
-  start = c .before .before .before .before .before .before .before
+  start = c .before .before .before .before .before .before
 
   abbrev job : Job
   job = jobOf (start .args .weights .now) (start .args .speeds .now)
 
   abbrev at : ℕ
-  at = c .before .before .before .loop .at
+  at = c .before .before .loop .at
 
-  part-is : c .before .part-bound .result ≡ partBound job (suc (start .args .p)) at (start .args .i)
-  part-is = c .before .part-bound .ensures ∙ next-part job (start .args .p) at (start .args .i)
+  part-is : c .before .next-part .result ≡ partBound job (suc (start .args .p)) at (start .args .i)
+  part-is = c .before .next-part .ensures
 
   value-is : c .entry .result ≡ tableValue job (start .args .p) at
-  value-is = c .entry .ensures ∙ start .pre .0 .row .entries at (omega arith)
+  value-is = c .entry .ensures ∙ start .pre .0 .row .entries at (omega (arith, at-le (c .before .before)))
 
 at-most-requires : tie.Need-at-most-requires Inv-loop μ-loop
 at-most-requires c κs =
     let s = start c in
     let v = s .pre .0 .ready .valid in
-    small-products (small-same (part-is c) (part-small v (suc (s .args .p)) (at c) (s .args .i))) (small-same (value-is c) (table-small v (s .args .p) (at c)))
+    let h = small-products (small-same (part-is c) (part-small v (suc (s .args .p)) (at c) (s .args .i))) (small-same (value-is c) (table-small v (s .args .p) (at c))) in
+    search needs
 
 returns : tie.Need-returns Inv-loop μ-loop
 returns c =
-    let i = c .before .before .before .before .before .loop .inv in
+    let i = c .before .before .before .before .loop .inv in
     let t = tested (part-is (c .before .before)) (value-is (c .before .before)) (c .before .at-most .ensures) (c .if1 .taken) in
     let w = moving-stop i t in
     record { arrived = w .arrived; carried = omega (arith, w .carried) }
 
+-- A pointer that does not stop is before the crossing, and so before i.
+module _ (c : tie.Else1 Inv-loop μ-loop) where
+  abbrev tests : tie.After-entry Inv-loop μ-loop
+  tests = c .before .before
+
+  goes-on : stops (job tests) (start tests .args .p) (start tests .args .i) (at tests) ≡ false
+  goes-on = tested (part-is tests) (value-is tests) (c .before .at-most .ensures) (c .if1 .left)
+
+  at-lt : at tests < start tests .args .i
+  at-lt = moving-before (start tests .pre .0 .ready .valid) (tests .before .before .loop .inv) goes-on
+
 add-at : tie.Need-add-at Inv-loop μ-loop
-add-at c = omega arith
+add-at c = omega (arith, at-lt c)
 
 add-moves : tie.Need-add-moves Inv-loop μ-loop
-add-moves c = omega arith
+add-moves c = omega (arith, at-lt c, c .before .before .before .before .loop .inv .carried)
 
 loop-less : tie.Need-loop-less Inv-loop μ-loop
-loop-less c = omega arith
+loop-less c = omega (arith, at-lt c)
 
 loop-again : tie.Need-loop-again Inv-loop μ-loop
-loop-again c =
-    moving-turn (c .before .before .before .before .before .loop .inv)
-    (tested (part-is (c .before .before)) (value-is (c .before .before)) (c .before .at-most .ensures) (c .if1 .left))
-    (omega arith)
-    (omega arith)
-
-returns-2 : tie.Need-returns-2 Inv-loop μ-loop
-returns-2 c = moving-end (c .before .before .before .before .before .pre .0 .ready .valid) (c .before .loop .inv) (omega arith)
+loop-again c = moving-turn (c .before .before .before .before .loop .inv) (goes-on c) (omega arith) (omega arith)
 
 pub advance-spec : {M : Type 1} → statement M
 advance-spec =
@@ -84,14 +98,12 @@ advance-spec =
     (tie.spec
     Inv-loop
     μ-loop
-    add-next
     loop-holds
-    part-bound-requires
+    next-part-requires
     entry-requires
     at-most-requires
     returns
     add-at
     add-moves
     loop-less
-    loop-again
-    returns-2)
+    loop-again)

@@ -1,39 +1,55 @@
 -- `fill_row` meets its contract: the loop keeps `Filling`.
 -- Assumes nothing.
 use Prim.Native.Nat.{suc, _-_, _≤_}
+use mathlib.Core.Path.{_≡_}
 use native.Mathlib.Omega.{arith}
 use lib.ListN.{length}
-use Rattle.chain.specs.Job.{Job, jobOf}
+use Rattle.chain.specs.Job.{Job, jobOf, speedOf}
 use Rattle.chain.specs.Dynamic.{crossing}
 use Rattle.chain.proofs.Ranges.{small-fits}
 use Rattle.dynamic.specs.Rows.{RowReady}
-use Rattle.dynamic.proofs.Crossing.{table-small, small-same}
+use Rattle.dynamic.proofs.Crossing.{table-small, small-same, next-speed}
 use Rattle.dynamic.proofs.Laws.{Filling, filling-start, filling-turn, filling-end, writing-ready, passed-le}
 use Rattle.dynamic.proofs.fill_row.Statement.{statement}
 use Rattle.dynamic.proofs.fill_row.Tie as tie
 
 abbrev Inv-loop : tie.InvT-loop
-Inv-loop speeds weights scratch₀ before row p pointer₀ i₀ scratch pointer i =
+Inv-loop speeds weights scratch₀ before row p speed pointer₀ i₀ scratch pointer i =
     Filling (jobOf weights speeds) scratch₀ scratch row p (pointer₀ .moves) i (pointer .at) (pointer .moves)
 
 abbrev μ-loop : tie.MeasureT-loop
-μ-loop speeds weights scratch₀ before row p pointer₀ i₀ scratch pointer i = suc (length weights) - i
+μ-loop speeds weights scratch₀ before row p speed pointer₀ i₀ scratch pointer i = suc (length weights) - i
+
+add-wide : tie.Need-add-wide Inv-loop μ-loop
+add-wide c = omega (arith, c .before .before .before .pre .0 .next)
+
+mul-wide : tie.Need-mul-wide Inv-loop μ-loop
+mul-wide c = omega (arith, c .before .before .before .pre .0 .next)
+
+shared-slice-read-wide : tie.Need-shared-slice-read-wide Inv-loop μ-loop
+shared-slice-read-wide c = omega (arith, c .before .before .before .before .pre .0 .next)
+
+wide-requires : tie.Need-wide-requires Inv-loop μ-loop
+wide-requires c κs = tt
 
 loop-holds : tie.Need-loop-holds Inv-loop μ-loop
 loop-holds c =
-    let s = c .before .before .before in
+    let s = c .before .before .before .before .before in
     filling-start (s .args .scratch .now) (s .args .row) (s .args .p) (s .pre .1 .1 .0)
 
 -- What each turn starts from.
 module _ (c : tie.At-loop Inv-loop μ-loop) where
   abbrev start : tie.Start Inv-loop μ-loop
-  start = c .before .before .before .before
+  start = c .before .before .before .before .before .before
 
   abbrev job : Job
   job = jobOf (start .args .weights .now) (start .args .speeds .now)
 
   still-ready : RowReady job (c .loop .scratch) (start .args .before) (start .args .p)
   still-ready = writing-ready (start .pre .0) (start .pre .1 .0) (c .loop .inv .writing)
+
+  speed-is : c .before .wide .result ≡ speedOf job (suc (start .args .p))
+  speed-is = next-speed job (start .args .p) _ (c .before .wide .ensures) (omega arith) (start .pre .0 .next)
 
   pointer-le : c .loop .pointer .at ≤ crossing job (start .args .p) (c .loop .i)
   pointer-le = omega (arith, c .loop .inv .pointer, passed-le (start .pre .0 .ready .valid) (start .args .p) (c .loop .i))
@@ -42,10 +58,12 @@ advance-requires : tie.Need-advance-requires Inv-loop μ-loop
 advance-requires c κs =
     let l = c .before .before in
     let s = start l in
-    (still-ready l, (omega arith, pointer-le l, omega (arith, l .loop .inv .carried, s .pre .1 .1 .1)))
+    (still-ready l, (speed-is l, (omega arith, pointer-le l, omega (arith, l .loop .inv .carried, s .pre .1 .1 .1))))
 
 value-at-requires : tie.Need-value-at-requires Inv-loop μ-loop
-value-at-requires c κs = (still-ready (c .before .before .before .before), (omega arith, c .before .advance .ensures .arrived))
+value-at-requires c κs =
+    let l = c .before .before .before .before in
+    (still-ready l, (speed-is l, (omega arith, c .before .advance .ensures .arrived)))
 
 put-requires : tie.Need-put-requires Inv-loop μ-loop
 put-requires c κs =
@@ -69,7 +87,7 @@ same-length : tie.Need-same-length Inv-loop μ-loop
 same-length c = c .before .loop .inv .writing .kept .same
 
 returns : tie.Need-returns Inv-loop μ-loop
-returns c = filling-end (c .before .before .before .before .before .pre .0 .ready .valid) (c .before .loop .inv) (omega arith)
+returns c = filling-end (start (c .before) .pre .0 .ready .valid) (c .before .loop .inv) (omega arith)
 
 pub fill-row-spec : {M : Type 1} → statement M
 fill-row-spec =
@@ -77,6 +95,10 @@ fill-row-spec =
     (tie.spec
     Inv-loop
     μ-loop
+    add-wide
+    mul-wide
+    shared-slice-read-wide
+    wide-requires
     loop-holds
     advance-requires
     value-at-requires

@@ -9,7 +9,7 @@ use Rattle.chain.specs.Dynamic.{tableValue}
 use Rattle.chain.proofs.Ranges.{part-small}
 use Rattle.chain.proofs.Parts.{valid-proper}
 use Rattle.chain.proofs.Table.{crossing-le}
-use Rattle.dynamic.proofs.Crossing.{table-small, tested, small-products, small-same, next-part, value-first, value-at-crossing, value-before-crossing}
+use Rattle.dynamic.proofs.Crossing.{table-small, tested, small-products, small-same, value-first, value-at-crossing, value-before-crossing}
 use Rattle.dynamic.proofs.value_at.Statement.{statement}
 use Rattle.dynamic.proofs.value_at.Tie as tie
 
@@ -32,29 +32,26 @@ returns : tie.Need-returns
 returns c =
     let s = c .before .before .before .before .before in
     let job = jobOf (s .args .weights .now) (s .args .speeds .now) in
-    here-is (c .before) ∙ ap (tableValue job (s .args .p)) (c .if1 .taken) ∙ value-first job (s .args .p) (s .args .i) (sym (s .pre .1 .1) ∙ c .if1 .taken)
+    here-is (c .before) ∙ ap (tableValue job (s .args .p)) (c .if1 .taken) ∙ value-first job (s .args .p) (s .args .i) (sym (s .pre .1 .1 .1) ∙ c .if1 .taken)
 
-add-part-bound : tie.Need-add-part-bound
-add-part-bound c = search needs
+sub-next-part : tie.Need-sub-next-part
+sub-next-part c = search needs
 
-sub-part-bound : tie.Need-sub-part-bound
-sub-part-bound c = search needs
-
-part-bound-requires : tie.Need-part-bound-requires
-part-bound-requires c κs =
+next-part-requires : tie.Need-next-part-requires
+next-part-requires c κs =
     let s = c .before .before .before .before .before in
-    (s .pre .0 .ready, omega (arith, at-le s, s .pre .0 .next))
+    (s .pre .0 .ready, (s .pre .1 .0, omega (arith, at-le s)))
 
 -- The part before the crossing.
-module _ (c : tie.After-part-bound) where
+module _ (c : tie.After-next-part) where
   abbrev start : tie.Start
   start = c .before .before .before .before .before .before
 
   abbrev job : Job
   job = jobOf (start .args .weights .now) (start .args .speeds .now)
 
-  part-is : c .part-bound .result ≡ partBound job (suc (start .args .p)) (start .args .at - 1) (start .args .i)
-  part-is = c .part-bound .ensures ∙ next-part job (start .args .p) (start .args .at - 1) (start .args .i)
+  part-is : c .next-part .result ≡ partBound job (suc (start .args .p)) (start .args .at - 1) (start .args .i)
+  part-is = c .next-part .ensures
 
 at-most-requires : tie.Need-at-most-requires
 at-most-requires c κs =
@@ -67,14 +64,14 @@ returns-2 : tie.Need-returns-2
 returns-2 c =
     let s = start (c .before .before) in
     here-is (c .before .before .before .before)
-    ∙ value-at-crossing (job (c .before .before)) (s .args .p) (s .args .i) (s .args .at) (s .pre .1 .1) (c .before .before .before .if1 .left)
+    ∙ value-at-crossing (job (c .before .before)) (s .args .p) (s .args .i) (s .args .at) (s .pre .1 .1 .1) (c .before .before .before .if1 .left)
     (tested (here-is (c .before .before .before .before)) (part-is (c .before .before)) (c .before .at-most .ensures) (c .if2 .taken))
 
 returns-3 : tie.Need-returns-3
 returns-3 c =
     let s = start (c .before .before) in
     part-is (c .before .before)
-    ∙ value-before-crossing (job (c .before .before)) (s .args .p) (s .args .i) (s .args .at) (s .pre .1 .1) (c .before .before .before .if1 .left)
+    ∙ value-before-crossing (job (c .before .before)) (s .args .p) (s .args .i) (s .args .at) (s .pre .1 .1 .1) (c .before .before .before .if1 .left)
     (tested (here-is (c .before .before .before .before)) (part-is (c .before .before)) (c .before .at-most .ensures) (c .if2 .left))
 
 pub value-at-spec : {M : Type 1} → statement M
@@ -83,9 +80,8 @@ value-at-spec =
     (tie.spec
     entry-requires
     returns
-    add-part-bound
-    sub-part-bound
-    part-bound-requires
+    sub-next-part
+    next-part-requires
     at-most-requires
     returns-2
     returns-3)

@@ -6,7 +6,8 @@ use native.Mathlib.Omega.{arith}
 use lib.ListN.{length, length-set}
 use borrow.Author.Needs.{needs}
 use Rattle.chain.specs.Job.{jobOf}
-use Rattle.heuristic.proofs.Laws.{Placed, index-fits, speed-fits, placed-start, placed-fits, placed-target, placed-behind, placed-near, placed-narrow, placed-turn, placed-end}
+use Rattle.chain.proofs.Ranges.{index-fits}
+use Rattle.heuristic.proofs.Laws.{Placed, speed-fits, placed-start, placed-fits, placed-target, placed-behind, placed-near, placed-narrow, placed-turn, placed-end}
 use Rattle.heuristic.proofs.heuristic_in.Statement.{statement}
 use Rattle.heuristic.proofs.heuristic_in.Tie as tie
 
@@ -103,7 +104,7 @@ loop-again c =
 narrow-requires-2 : tie.Need-narrow-requires-2 Inv-loop μ-loop
 narrow-requires-2 c κs =
     let s = c .before .before .before .before .before .before .before .before .before in
-    let h = index-fits (s .pre .0 .valid) (length (s .args .weights .now)) (omega arith) in omega (arith, c .before .loop .inv .narrow)
+    let h = index-fits {i = length (s .args .weights .now)} (s .pre .0 .valid) (omega arith) in omega (arith, c .before .loop .inv .narrow)
 
 add-separators : tie.Need-add-separators Inv-loop μ-loop
 add-separators c = omega arith

@@ -1,43 +1,33 @@
--- `each_between` meets its contract. The invariant: what is left of the list decides.
+-- `each_between` meets its contract. The invariant: whether all before were in range, and what is left, decide together.
 -- Assumes nothing.
-use Prim.Native.Nat.{ℕ, _+_, _-_, _≤_, _<_}
-use mathlib.Core.Path.{_≡_, refl, sym, ap, _∙_}
+use Prim.Native.Nat.{_-_, _≤_}
+use mathlib.Core.Path.{_≡_, refl}
+use mathlib.Core.Bool.{_&&_}
 use native.Mathlib.Omega.{arith}
-use native.Mathlib.Numerals.{add-one}
 use lib.ListN.{length, drop}
+use borrow.Author.Needs.{needs}
 use Rattle.chain.specs.Refusal.{eachBetween}
-use Rattle.jobs.proofs.Each.{each-low, each-high, each-next, each-none}
+use Rattle.jobs.proofs.Each.{each-next, each-end}
 use Rattle.jobs.proofs.each_between.Statement.{statement}
 use Rattle.jobs.proofs.each_between.Tie as tie
-use Rattle.jobs.proofs.each_between.Reads as reads
-use Rattle.jobs.proofs.each_between.Lts as lts
 
 abbrev Inv-loop : tie.InvT-loop
-Inv-loop lo hi values i₀ i = (i ≤ length values) × (eachBetween lo hi values ≡ eachBetween lo hi (drop i values))
+Inv-loop lo hi values all₀ i₀ all i = (i ≤ length values) × (eachBetween lo hi values ≡ (all && eachBetween lo hi (drop i values)))
 
 abbrev μ-loop : tie.MeasureT-loop
-μ-loop lo hi values i₀ i = length values - i
+μ-loop lo hi values all₀ i₀ all i = length values - i
 
 loop-holds : tie.Need-loop-holds Inv-loop μ-loop
 loop-holds c = (omega arith, refl)
 
-mul-v : tie.Need-mul-v Inv-loop μ-loop
-mul-v c = omega arith
+mul-and-between : tie.Need-mul-and-between Inv-loop μ-loop
+mul-and-between c = omega arith
 
-shared-slice-read-v : tie.Need-shared-slice-read-v Inv-loop μ-loop
-shared-slice-read-v c = omega arith
+shared-slice-read-and-between : tie.Need-shared-slice-read-and-between Inv-loop μ-loop
+shared-slice-read-and-between c = omega arith
 
-returns : tie.Need-returns Inv-loop μ-loop
-returns c =
-    let s = c .before .before .before .before in
-    let i = c .before .before .before .loop .i in
-    sym (c .before .before .before .loop .inv .1 ∙ each-low (s .args .lo) (s .args .hi) (s .args .values .now) i (omega arith) (c .if1 .taken))
-
-returns-2 : tie.Need-returns-2 Inv-loop μ-loop
-returns-2 c =
-    let s = c .before .before .before .before .before in
-    let i = c .before .before .before .before .loop .i in
-    sym (c .before .before .before .before .loop .inv .1 ∙ each-high (s .args .lo) (s .args .hi) (s .args .values .now) i (omega arith) (c .if2 .taken))
+and-between-requires : tie.Need-and-between-requires Inv-loop μ-loop
+and-between-requires c κs = search needs
 
 add-i : tie.Need-add-i Inv-loop μ-loop
 add-i c = omega arith
@@ -47,20 +37,27 @@ loop-less c = omega arith
 
 loop-again : tie.Need-loop-again Inv-loop μ-loop
 loop-again c =
-    let s = c .before .before .before .before .before in
-    let i = c .before .before .before .before .loop .i in (
-      omega arith,
-      c .before .before .before .before .loop .inv .1
-          ∙ each-next (s .args .lo) (s .args .hi) (s .args .values .now) i (omega arith) (c .before .if1 .left) (c .if2 .left)
-          ∙ ap (λ (n : ℕ). eachBetween (s .args .lo) (s .args .hi) (drop n (s .args .values .now))) (sym (add-one i)),
-    )
+    let a = c .before .before .before .before .before .args in
+    let l = c .before .before .before .loop in
+    (omega arith, each-next (a .lo) (a .hi) (a .values .now) (l .i) (omega arith) (l .all) (l .inv .1) (c .and-between .ensures))
 
-returns-3 : tie.Need-returns-3 Inv-loop μ-loop
-returns-3 c =
-    let s = c .before .before in
-    sym (c .before .loop .inv .1 ∙ each-none (s .args .lo) (s .args .hi) (s .args .values .now) (c .before .loop .i) (c .loop-test .left))
+returns : tie.Need-returns Inv-loop μ-loop
+returns c =
+    let a = c .before .before .before .args in
+    let l = c .before .loop in
+    each-end (a .lo) (a .hi) (a .values .now) (l .i) (c .loop-test .left) (l .all) (l .inv .1)
 
 pub each-between-spec : {M : Type 1} → statement M
 each-between-spec =
     tie.close
-    (tie.spec Inv-loop μ-loop loop-holds mul-v shared-slice-read-v returns returns-2 add-i loop-less loop-again returns-3)
+    (tie.spec
+    Inv-loop
+    μ-loop
+    loop-holds
+    mul-and-between
+    shared-slice-read-and-between
+    and-between-requires
+    add-i
+    loop-less
+    loop-again
+    returns)

@@ -12,7 +12,7 @@ use Rattle.chain.specs.Plan.{planOf}
 use Rattle.chain.proofs.Parts.{valid-proper}
 use Rattle.chain.proofs.Walk.{walk-partition}
 use Rattle.figures.specs.Methods.{methodOf}
-use Rattle.search.proofs.Laws.{front-partition, front-bottleneck}
+use Rattle.parts.proofs.Front.{front-partition, front-bottleneck}
 use Rattle.planner.proofs.Laws.{walk-is-plan, plan-small, plan-above, last-sum, plan-by}
 use borrow.Author.Needs.{needs}
 use Rattle.planner.proofs.close_plan.Statement.{statement}

@@ -1,151 +1,21 @@
--- `probe_in` meets its contract: the loop keeps `Walked`.
+-- `probe_in` meets its contract: every walk reaches its first point.
 -- Assumes nothing.
-use Prim.Native.Nat.{_-_}
-use mathlib.Core.Path.{sym, _∙_}
-use native.Mathlib.Omega.{arith}
-use lib.ListN.{length-set}
+use borrow.Author.Needs.{needs}
 use Rattle.chain.specs.Job.{jobOf}
-use Rattle.probe.proofs.Walked.{Walked, walked-start, walked-turn, walked-end, answer-fits, answer-fails, index-fits, rest-products, end-after, end-inside}
-use Rattle.probe.proofs.Bids.{part-narrow}
+use Rattle.probe.proofs.Walked.{reached-first}
 use Rattle.probe.proofs.probe_in.Statement.{statement}
 use Rattle.probe.proofs.probe_in.Tie as tie
 
-abbrev Inv-loop : tie.InvT-loop
-Inv-loop speeds weights sums bound separators₀ last n best₀ a₀ p₀ separators best a p =
-    Walked (jobOf weights speeds) bound separators₀ separators p a best
+walk-from-requires : tie.Need-walk-from-requires
+walk-from-requires c κs =
+    let s = c .before .before .before .before .before in
+    (s .pre .0, (s .pre .1 .0, (s .pre .1 .1, reached-first (jobOf (s .args .weights .now) (s .args .speeds .now)) (s .args .bound) _)))
 
-abbrev μ-loop : tie.MeasureT-loop
-μ-loop speeds weights sums bound separators₀ last n best₀ a₀ p₀ separators best a p = last - p
+same-length : tie.Need-same-length
+same-length c = search needs
 
-sub-last : tie.Need-sub-last Inv-loop μ-loop
-sub-last c = omega arith
-
-loop-holds : tie.Need-loop-holds Inv-loop μ-loop
-loop-holds c =
-    let s = c .before .before .before .before in
-    walked-start (jobOf (s .args .weights .now) (s .args .speeds .now)) (s .args .bound) (s .args .separators .now)
-
-narrow-requires : tie.Need-narrow-requires Inv-loop μ-loop
-narrow-requires c κs = index-fits (c .before .before .before .before .before .before .pre .0 .valid) (c .before .loop .inv .inside)
-
-mul-separators : tie.Need-mul-separators Inv-loop μ-loop
-mul-separators c = omega arith
-
-slice-write-separators : tie.Need-slice-write-separators Inv-loop μ-loop
-slice-write-separators c = omega (arith, c .before .before .loop .inv .front .same)
-
-part-end-requires : tie.Need-part-end-requires Inv-loop μ-loop
-part-end-requires c κs =
-    let s = c .before .before .before .before .before .before .before in
-    let h = c .before .before .loop .inv .inside in
-    (s .pre .0, (s .pre .1 .0, (omega arith, omega arith)))
-
-least-bid-requires : tie.Need-least-bid-requires Inv-loop μ-loop
-least-bid-requires c κs =
-    let s = c .before .before .before .before .before .before .before .before in
-    let w = c .before .before .before .loop .inv in
-    (s .pre .0, (w .small, (omega arith, end-after (s .pre .0 .valid) (s .pre .1 .1) w (c .part-end .ensures), end-inside (s .pre .0 .valid) (s .pre .1 .1) w (c .part-end .ensures))))
-
-add-p : tie.Need-add-p Inv-loop μ-loop
-add-p c = omega arith
-
-loop-less : tie.Need-loop-less Inv-loop μ-loop
-loop-less c = omega arith
-
-loop-again : tie.Need-loop-again Inv-loop μ-loop
-loop-again c =
-    let s = c .before .before .before .before .before .before .before .before .before in
-    walked-turn (s .pre .0 .valid) (s .pre .1 .1) (c .before .before .before .before .loop .inv) (omega arith) (c .before .before .narrow .ensures)
-    (c .before .part-end .ensures) (c .least-bid .ensures)
-
-narrow-requires-2 : tie.Need-narrow-requires-2 Inv-loop μ-loop
-narrow-requires-2 c κs = index-fits (c .before .before .before .before .before .before .pre .0 .valid) (c .before .loop .inv .inside)
-
-mul-separators-2 : tie.Need-mul-separators-2 Inv-loop μ-loop
-mul-separators-2 c = omega arith
-
-slice-write-separators-2 : tie.Need-slice-write-separators-2 Inv-loop μ-loop
-slice-write-separators-2 c = omega (arith, c .before .before .loop .inv .front .same)
-
-narrow-requires-3 : tie.Need-narrow-requires-3 Inv-loop μ-loop
-narrow-requires-3 c κs = index-fits (c .before .before .before .before .before .before .before .pre .0 .valid) (omega arith)
-
-add-separators : tie.Need-add-separators Inv-loop μ-loop
-add-separators c = omega arith
-
-mul-separators-3 : tie.Need-mul-separators-3 Inv-loop μ-loop
-mul-separators-3 c = omega arith
-
-slice-write-separators-3 : tie.Need-slice-write-separators-3 Inv-loop μ-loop
-slice-write-separators-3 c = simp length-set (omega (arith, c .before .before .before .loop .inv .front .same))
-
-part-bound-requires : tie.Need-part-bound-requires Inv-loop μ-loop
-part-bound-requires c κs =
-    let s = c .before .before .before .before .before .before .before .before in
-    let h = c .before .before .before .loop .inv .inside in
-    (s .pre .0, (omega arith, omega arith, omega arith))
-
-at-most-requires : tie.Need-at-most-requires Inv-loop μ-loop
-at-most-requires c κs =
-    let s = c .before .before .before .before .before .before .before .before .before in
-    let h = rest-products _ _ _ (s .pre .0 .valid) (s .pre .1 .0) (c .part-bound .ensures) in
-    (omega arith, omega arith)
-
-same-length : tie.Need-same-length Inv-loop μ-loop
-same-length c = simp length-set (c .before .before .before .before .before .before .loop .inv .front .same)
-
-returns : tie.Need-returns Inv-loop μ-loop
-returns c =
-    let s = c .before .before .before .before .before .before .before .before .before .before .before in
-    let w = c .before .before .before .before .before .before .loop .inv in (
-      answer-fits (s .pre .0 .valid) (s .pre .1 .1) w (omega arith) (c .before .before .part-bound .ensures) (sym (c .before .at-most .ensures) ∙ c .if1 .taken),
-      walked-end (s .pre .0 .valid) (s .pre .1 .1) w (omega arith) (c .before .before .before .before .narrow2 .ensures) (c .before .before .before .narrow3 .ensures),
-    )
-
-lesser-bound-requires : tie.Need-lesser-bound-requires Inv-loop μ-loop
-lesser-bound-requires c κs =
-    let s = c .before .before .before .before .before .before .before .before .before .before .before in
-    let l = c .before .before .before .before .before .before .loop in
-    (l .inv .small, part-narrow _ _ _ (s .pre .0 .valid) (c .before .before .part-bound .ensures))
-
-same-length-2 : tie.Need-same-length-2 Inv-loop μ-loop
-same-length-2 c = simp length-set (c .before .before .before .before .before .before .before .loop .inv .front .same)
-
-returns-2 : tie.Need-returns-2 Inv-loop μ-loop
-returns-2 c =
-    let s = c .before .before .before .before .before .before .before .before .before .before .before .before in
-    let w = c .before .before .before .before .before .before .before .loop .inv in (
-      answer-fails (s .pre .0 .valid) (s .pre .1 .1) w (omega arith) (c .before .before .before .part-bound .ensures) (sym (c .before .before .at-most .ensures) ∙ c .before .if1 .left) (c .lesser-bound .ensures),
-      walked-end (s .pre .0 .valid) (s .pre .1 .1) w (omega arith) (c .before .before .before .before .before .narrow2 .ensures) (c .before .before .before .before .narrow3 .ensures),
-    )
+returns : tie.Need-returns
+returns c = search needs
 
 pub probe-in-spec : {M : Type 1} → statement M
-probe-in-spec =
-    tie.close
-    (tie.spec
-    Inv-loop
-    μ-loop
-    sub-last
-    loop-holds
-    narrow-requires
-    mul-separators
-    slice-write-separators
-    part-end-requires
-    least-bid-requires
-    add-p
-    loop-less
-    loop-again
-    narrow-requires-2
-    mul-separators-2
-    slice-write-separators-2
-    narrow-requires-3
-    add-separators
-    mul-separators-3
-    slice-write-separators-3
-    part-bound-requires
-    at-most-requires
-    same-length
-    returns
-    lesser-bound-requires
-    same-length-2
-    returns-2)
+probe-in-spec = tie.close (tie.spec walk-from-requires same-length returns)

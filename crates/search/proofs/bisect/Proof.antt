@@ -12,9 +12,9 @@ use Rattle.chain.specs.Plan.{difference}
 use Rattle.chain.proofs.Parts.{valid-proper}
 use Rattle.chain.proofs.Heuristic.{heuristic-partition}
 use Rattle.chain.proofs.Ranges.{small-lendable, probe-products}
-use Rattle.parts.proofs.Front.{Behind, behind-start, behind-written}
+use Rattle.parts.proofs.Front.{Behind, behind-start, behind-written, front-partition, front-bottleneck}
 use Rattle.search.specs.Start.{endsOf}
-use Rattle.search.proofs.Laws.{Halved, halved-start, halved-room, halved-next, halved-end, rounds-fit, front-partition, front-bottleneck, behind-trans}
+use Rattle.search.proofs.Laws.{Halved, halved-start, halved-room, halved-next, halved-end, rounds-fit, behind-trans}
 use Rattle.search.proofs.bisect.Statement.{statement}
 use Rattle.search.proofs.bisect.Tie as tie
 

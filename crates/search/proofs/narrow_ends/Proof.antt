@@ -11,9 +11,9 @@ use Rattle.chain.specs.Probe.{walk}
 use Rattle.chain.proofs.Parts.{valid-proper}
 use Rattle.chain.proofs.Walk.{walk-partition}
 use Rattle.chain.proofs.Ranges.{Lendable, middle-products, middle-lendable}
-use Rattle.parts.proofs.Front.{behind-start, behind-written}
+use Rattle.parts.proofs.Front.{behind-start, behind-written, front-partition, front-bottleneck}
 use Rattle.probe.proofs.Answer.{walk-count, fits-outcome, fails-outcome}
-use Rattle.search.proofs.Laws.{front-partition, front-bottleneck, round-fits, round-fails}
+use Rattle.search.proofs.Laws.{round-fits, round-fails}
 use borrow.Author.Needs.{needs}
 use Rattle.search.proofs.narrow_ends.Statement.{statement}
 use Rattle.search.proofs.narrow_ends.Tie as tie

@@ -3,7 +3,7 @@
 use native.Mathlib.Omega.{arith}
 use Rattle.chain.specs.Job.{Job, jobOf}
 use Rattle.chain.specs.Plan.{planOf}
-use Rattle.search.proofs.Laws.{front-partition}
+use Rattle.parts.proofs.Front.{front-partition}
 use Rattle.planner.proofs.Reading.{separators-fit, scratch-fits, best-bytes}
 use borrow.Author.Needs.{needs}
 use Rattle.planner.proofs.host.write_best.Statement.{statement}
