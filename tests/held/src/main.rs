@@ -12,6 +12,7 @@ mod job;
 mod known;
 mod large;
 mod lent;
+mod listing;
 mod lists;
 mod methods;
 mod planner;
@@ -44,12 +45,13 @@ fn main() {
     guard::watch(seed);
     let mut c = check::Check::new(seed);
     c.hasty = number("HELD_HASTY", 0) != 0;
-    let parts: [(&'static str, &dyn Fn(&mut check::Check)); 6] = [
+    let parts: [(&'static str, &dyn Fn(&mut check::Check)); 7] = [
         ("known jobs", &known::run),
         ("refusals", &refusals::run),
         ("lists", &|c| lists::run(c, times)),
         ("damaged files", &|c| damage::run(c, times)),
         ("small jobs", &|c| small::run(c, times)),
+        ("listings", &|c| listing::run(c, times)),
         ("large jobs", &|c| large::run(c, times)),
     ];
     for (name, part) in parts {
