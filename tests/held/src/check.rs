@@ -21,6 +21,8 @@ pub struct Check {
     pub failures: u64,
     /// Stop at the first failure.
     pub hasty: bool,
+    /// The part of the test that runs.
+    pub part: &'static str,
     /// How often each call gave each number.
     seen: [[u64; 13]; 9],
     pub fits: u64,
@@ -92,6 +94,7 @@ impl Check {
             jobs_seen: 0,
             failures: 0,
             hasty: false,
+            part: "",
             seen: [[0; 13]; 9],
             fits: 0,
         }
@@ -103,7 +106,7 @@ impl Check {
             eprintln!("FAILED: {}\n{}", what, job);
         }
         if self.hasty {
-            guard::end_early();
+            guard::end_early(self.part);
         }
     }
 

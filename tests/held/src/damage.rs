@@ -79,7 +79,37 @@ fn random_records(c: &mut Check, times: usize) {
     }
 }
 
-/// A good file with a bit flipped, a byte set, cut, lengthened, or its records swapped, doubled or lost.
+/// A bit flipped, a byte set, cut, lengthened, or records swapped, doubled or lost.
+pub fn spoil(c: &mut Check, file: &mut Vec<u8>) {
+    if file.len() < 8 {
+        return;
+    }
+    let at = c.rng.below(file.len());
+    let (i, j) = (8 * c.rng.below(file.len() / 8), 8 * c.rng.below(file.len() / 8));
+    match c.rng.below(8) {
+        0 | 1 => file[at] ^= 1 << c.rng.below(8),
+        2 => file[at] = c.rng.next() as u8,
+        3 => file.truncate(at),
+        4 => {
+            let extra = 1 + c.rng.below(16);
+            file.extend((0..extra).map(|k| (k % 8 == 0) as u8 * 2));
+        }
+        5 => {
+            let (a, b): (Record, Record) = (file[i..i + 8].try_into().unwrap(), file[j..j + 8].try_into().unwrap());
+            file[i..i + 8].copy_from_slice(&b);
+            file[j..j + 8].copy_from_slice(&a);
+        }
+        6 => {
+            let r: Record = file[i..i + 8].try_into().unwrap();
+            file.splice(j..j, r);
+        }
+        _ => {
+            file.drain(i..i + 8);
+        }
+    }
+}
+
+/// Good files, spoilt once or twice.
 fn damaged(c: &mut Check, rounds: usize, machines_max: usize, tiles_max: usize) {
     for _ in 0..rounds {
         let machines = 1 + c.rng.below(machines_max);
@@ -88,32 +118,7 @@ fn damaged(c: &mut Check, rounds: usize, machines_max: usize, tiles_max: usize) 
         let weights = small::weights(&mut c.rng, tiles, &speeds);
         let mut file = Job { speeds, weights }.file();
         for _ in 0..1 + c.rng.below(2) {
-            if file.len() < 8 {
-                break;
-            }
-            let at = c.rng.below(file.len());
-            let (i, j) = (8 * c.rng.below(file.len() / 8), 8 * c.rng.below(file.len() / 8));
-            match c.rng.below(8) {
-                0 | 1 => file[at] ^= 1 << c.rng.below(8),
-                2 => file[at] = c.rng.next() as u8,
-                3 => file.truncate(at),
-                4 => {
-                    let extra = 1 + c.rng.below(16);
-                    file.extend((0..extra).map(|k| (k % 8 == 0) as u8 * 2));
-                }
-                5 => {
-                    let (a, b): (Record, Record) = (file[i..i + 8].try_into().unwrap(), file[j..j + 8].try_into().unwrap());
-                    file[i..i + 8].copy_from_slice(&b);
-                    file[j..j + 8].copy_from_slice(&a);
-                }
-                6 => {
-                    let r: Record = file[i..i + 8].try_into().unwrap();
-                    file.splice(j..j, r);
-                }
-                _ => {
-                    file.drain(i..i + 8);
-                }
-            }
+            spoil(c, &mut file);
         }
         let method = some_method(c);
         let room = some_room(c, machines);

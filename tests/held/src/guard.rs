@@ -80,8 +80,8 @@ fn list_at(at: usize, bytes: usize) -> &'static [u8] {
 }
 
 /// Ends a run that is to stop at its first failure.
-pub fn end_early() -> ! {
-    println!("tests/held: FAILED, at its first failure, seed {}", SEED.load(Relaxed));
+pub fn end_early(part: &str) -> ! {
+    println!("tests/held: FAILED, at its first failure, among {}, seed {}", part, SEED.load(Relaxed));
     unsafe { _exit(1) }
 }
 

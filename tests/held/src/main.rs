@@ -12,6 +12,7 @@ mod job;
 mod known;
 mod large;
 mod lent;
+mod listing;
 mod lists;
 mod methods;
 mod planner;
@@ -33,6 +34,10 @@ fn number(name: &str, otherwise: u64) -> u64 {
 }
 
 fn main() {
+    #[cfg(feature = "faults")]
+    if std::env::var("HELD_FAULT").as_deref() == Ok("list") {
+        return faults::list();
+    }
     let seed = number("HELD_SEED", 1);
     let times = number("HELD_TIMES", 1) as usize;
     let talk = number("HELD_TALK", 0) != 0;
@@ -40,16 +45,18 @@ fn main() {
     guard::watch(seed);
     let mut c = check::Check::new(seed);
     c.hasty = number("HELD_HASTY", 0) != 0;
-    let parts: [(&str, &dyn Fn(&mut check::Check)); 6] = [
+    let parts: [(&'static str, &dyn Fn(&mut check::Check)); 7] = [
         ("known jobs", &known::run),
         ("refusals", &refusals::run),
         ("lists", &|c| lists::run(c, times)),
         ("damaged files", &|c| damage::run(c, times)),
         ("small jobs", &|c| small::run(c, times)),
+        ("listings", &|c| listing::run(c, times)),
         ("large jobs", &|c| large::run(c, times)),
     ];
     for (name, part) in parts {
         let (calls, jobs, failures, from) = (c.calls, c.jobs_seen, c.failures, Instant::now());
+        c.part = name;
         part(&mut c);
         if talk || c.failures > failures {
             eprintln!("{}: {} jobs, {} calls, {} failures, {:.1} s", name, c.jobs_seen - jobs, c.calls - calls, c.failures - failures, from.elapsed().as_secs_f64());
