@@ -3,39 +3,41 @@ use crate::sides::{self, Call, Job, Room};
 use std::time::{Duration, Instant};
 
 /// How long a contest goes on, and the least and the most repetitions of it.
-const BUDGET: Duration = Duration::from_millis(150);
-const LEAST: usize = 5;
+const BUDGET: Duration = Duration::from_millis(80);
+const LEAST: usize = 2;
 const MOST: usize = 30;
 
 pub struct Contest {
     pub name: &'static str,
-    pub sides: &'static [(&'static str, Call)],
+    pub sides: [(&'static str, Call); 2],
     /// How many entries of the answer count.
     pub answers: usize,
     /// How many jobs are gone round: many where a call is short, so that no branch is learnt by heart.
     pub jobs: usize,
 }
 
-pub const CONTESTS: [Contest; 5] = [
+pub const CONTESTS: [Contest; 6] = [
     Contest {
         name: "table",
-        sides: &[("planner_table", sides::planner_table), ("plain_table", sides::plain_table)],
+        sides: [("planner_table", sides::planner_table), ("plain_table", sides::plain_table)],
         answers: 5,
         jobs: 12,
     },
     Contest {
         name: "bidding",
-        sides: &[
-            ("planner_bidding", sides::planner_bidding),
-            ("plain_bidding", sides::plain_bidding),
-            ("plain_resumed", sides::plain_resumed),
-        ],
+        sides: [("planner_bidding", sides::planner_bidding), ("plain_resumed", sides::plain_resumed)],
+        answers: 5,
+        jobs: 12,
+    },
+    Contest {
+        name: "bidding from machine 1",
+        sides: [("planner_bidding", sides::planner_bidding), ("plain_bidding", sides::plain_bidding)],
         answers: 5,
         jobs: 12,
     },
     Contest {
         name: "bisection",
-        sides: &[
+        sides: [
             ("planner_bisection", sides::planner_bisection),
             ("plain_bisection", sides::plain_bisection),
         ],
@@ -44,13 +46,13 @@ pub const CONTESTS: [Contest; 5] = [
     },
     Contest {
         name: "quick plan",
-        sides: &[("planner_quick", sides::planner_quick), ("plain_quick", sides::plain_quick)],
+        sides: [("planner_quick", sides::planner_quick), ("plain_quick", sides::plain_quick)],
         answers: 2,
         jobs: 64,
     },
     Contest {
         name: "trial",
-        sides: &[("planner_trial", sides::planner_trial), ("plain_trial", sides::plain_trial)],
+        sides: [("planner_trial", sides::planner_trial), ("plain_trial", sides::plain_trial)],
         answers: 3,
         jobs: 64,
     },
@@ -66,15 +68,14 @@ impl Contest {
         (refused, room.answer[..self.answers].to_vec(), room.separators)
     }
 
-    /// Compares every side's answers and separators on every job, and gives the first side's answers.
+    /// Compares the two sides' answers and separators on every job, and gives the first side's answers.
     pub fn compare(&self, jobs: &[Job]) -> Vec<Vec<u64>> {
         let mut given = Vec::new();
         for job in jobs {
             let first = self.ask(self.sides[0].1, job);
             assert_eq!(first.0, 0, "{}: refused", self.name);
-            for (name, call) in &self.sides[1..] {
-                assert_eq!(first, self.ask(*call, job), "{name}: another answer");
-            }
+            let (name, call) = self.sides[1];
+            assert_eq!(first, self.ask(call, job), "{name}: another answer");
             given.push(first.1);
         }
         given
@@ -84,15 +85,15 @@ impl Contest {
     /// A repetition goes once round all jobs; on each job the sides take turns, the first one changing with each repetition.
     pub fn time(&self, jobs: &[Job]) -> Vec<f64> {
         let mut room = Room::new();
-        let mut least = vec![vec![f64::INFINITY; jobs.len()]; self.sides.len()];
+        let mut least = vec![vec![f64::INFINITY; jobs.len()]; 2];
         let start = Instant::now();
         for repetition in 0..MOST {
             if repetition >= LEAST && start.elapsed() > BUDGET {
                 break;
             }
             for (j, job) in jobs.iter().enumerate() {
-                for turn in 0..self.sides.len() {
-                    let side = (turn + repetition) % self.sides.len();
+                for turn in 0..2 {
+                    let side = (turn + repetition) % 2;
                     let began = Instant::now();
                     let refused = (self.sides[side].1)(job, &mut room);
                     let took = began.elapsed().as_nanos() as f64;
@@ -104,13 +105,19 @@ impl Contest {
         least.iter().map(|times| times.iter().sum::<f64>() / jobs.len() as f64).collect()
     }
 
-    /// Calls each side once on each job, for an instruction count.
-    pub fn call_all(&self, jobs: &[Job]) {
-        let mut room = Room::new();
-        for (_, call) in self.sides {
-            for job in jobs {
-                assert_eq!(call(job, &mut room), 0);
-            }
+}
+
+/// Calls each side of all contests once on each job, for an instruction count.
+pub fn call_all(jobs: &[Job]) {
+    let mut room = Room::new();
+    let mut called = Vec::new();
+    for (name, call) in CONTESTS.iter().flat_map(|contest| contest.sides) {
+        if called.contains(&name) {
+            continue;
+        }
+        called.push(name);
+        for job in jobs {
+            assert_eq!(call(job, &mut room), 0);
         }
     }
 }

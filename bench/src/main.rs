@@ -1,6 +1,6 @@
 //! The benchmark of the planner against plain Rust. `run` calls it:
 //!     bench measure                         times, counts and imbalances as records, to standard output
-//!     bench count FAMILY N P FASTEST JOBS   calls each side of each contest once a job, for callgrind
+//!     bench count FAMILY N P FASTEST JOBS   calls each side once a job, for callgrind
 //!     bench shapes                          the shapes that are to be counted, one to a line
 //!     bench tables FILE...                  the tables, from records
 mod contest;
@@ -11,7 +11,6 @@ mod records;
 mod sides;
 mod tables;
 
-use contest::CONTESTS;
 use jobs::{Family, Shape};
 
 // Moves what is linked behind it (see build.rs).
@@ -36,10 +35,7 @@ fn count(args: &[String]) {
         processors: number(2),
         fastest: number(3) as u32,
     };
-    let jobs = shape.jobs(number(4));
-    for contest in &CONTESTS {
-        contest.call_all(&jobs);
-    }
+    contest::call_all(&shape.jobs(number(4)));
 }
 
 fn main() {
