@@ -81,10 +81,11 @@ impl Contest {
         given
     }
 
-    /// The nanoseconds of a call of each side: for each job the least of the repetitions, and the mean of these over the jobs.
-    /// A repetition goes once round all jobs; on each job the sides take turns, the first one changing with each repetition.
-    pub fn time(&self, jobs: &[Job]) -> Vec<f64> {
-        let mut room = Room::new();
+    /// The nanoseconds of a call of each side on each job, the least of the repetitions. A repetition goes once round all jobs; on
+    /// each job the sides take turns, the first one changing with each repetition. Each side has buffers of its own, which hold what
+    /// its call on the job before left there.
+    pub fn time(&self, jobs: &[Job]) -> Vec<Vec<f64>> {
+        let mut rooms = [Room::new(), Room::new()];
         let mut least = vec![vec![f64::INFINITY; jobs.len()]; 2];
         let start = Instant::now();
         for repetition in 0..MOST {
@@ -95,27 +96,26 @@ impl Contest {
                 for turn in 0..2 {
                     let side = (turn + repetition) % 2;
                     let began = Instant::now();
-                    let refused = (self.sides[side].1)(job, &mut room);
+                    let refused = (self.sides[side].1)(job, &mut rooms[side]);
                     let took = began.elapsed().as_nanos() as f64;
                     assert_eq!(std::hint::black_box(refused), 0);
                     least[side][j] = least[side][j].min(took);
                 }
             }
         }
-        least.iter().map(|times| times.iter().sum::<f64>() / jobs.len() as f64).collect()
+        least
     }
-
 }
 
 /// Calls each side of all contests once on each job, for an instruction count.
 pub fn call_all(jobs: &[Job]) {
-    let mut room = Room::new();
     let mut called = Vec::new();
     for (name, call) in CONTESTS.iter().flat_map(|contest| contest.sides) {
         if called.contains(&name) {
             continue;
         }
         called.push(name);
+        let mut room = Room::new();
         for job in jobs {
             assert_eq!(call(job, &mut room), 0);
         }

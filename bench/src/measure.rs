@@ -47,11 +47,6 @@ pub fn print_shapes() {
     }
 }
 
-fn mean(values: impl ExactSizeIterator<Item = f64>) -> f64 {
-    let count = values.len();
-    values.sum::<f64>() / count as f64
-}
-
 /// By how much a bottleneck is above the ideal, as a part of the ideal.
 fn excess(job: &Job, load: u64, speed: u64) -> f64 {
     let total: u64 = job.weights.iter().map(|&w| w as u64).sum();
@@ -64,11 +59,11 @@ fn measure(shape: Shape) {
     for contest in &CONTESTS {
         let jobs = shape.jobs(contest.jobs);
         let answers = contest.compare(&jobs);
-        for (side, time) in contest.sides.iter().zip(contest.time(&jobs)) {
-            records::write("time", side.0, shape, time);
+        for (side, times) in contest.sides.iter().zip(contest.time(&jobs)) {
+            records::write("time", side.0, shape, &times);
         }
-        let fact = |name: &str, value: f64| {
-            records::write("fact", &format!("{} {name}", contest.name), shape, value);
+        let fact = |name: &str, values: Vec<f64>| {
+            records::write("fact", &format!("{} {name}", contest.name), shape, &values);
         };
         let bottleneck = match contest.answers {
             5 => 2,
@@ -76,11 +71,11 @@ fn measure(shape: Shape) {
             _ => continue,
         };
         let parts = jobs.iter().zip(&answers);
-        fact("imbalance", mean(parts.map(|(job, a)| excess(job, a[bottleneck], a[bottleneck + 1]))));
+        fact("imbalance", parts.map(|(job, a)| excess(job, a[bottleneck], a[bottleneck + 1])).collect());
         if contest.answers == 5 {
-            fact("count", mean(answers.iter().map(|a| a[0] as f64)));
-            fact("allowance", mean(answers.iter().map(|a| a[1] as f64)));
-            fact("most", answers.iter().map(|a| a[0] as f64 / a[1] as f64).fold(0.0, f64::max));
+            fact("count", answers.iter().map(|a| a[0] as f64).collect());
+            fact("allowance", answers.iter().map(|a| a[1] as f64).collect());
+            fact("most", vec![answers.iter().map(|a| a[0] as f64 / a[1] as f64).fold(0.0, f64::max)]);
         }
     }
 }

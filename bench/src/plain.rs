@@ -106,11 +106,12 @@ fn ideal(speeds: &[u32], sums: &[u32]) -> Bound {
     }
 }
 
-/// The last index from a on whose sum is at most the cap, by galloping and halving; the last sum is above it.
+/// The last index from a on whose sum is at most the cap, by galloping and halving; the last sum is above it. The search begins at
+/// the hint if that is no further.
 #[inline]
-fn last_at_most(sums: &[u32], a: usize, cap: u32) -> usize {
+fn last_at_most(sums: &[u32], a: usize, cap: u32, hint: usize) -> usize {
     let n = sums.len() - 1;
-    let mut low = a;
+    let mut low = if a <= hint && hint <= n && sums[hint] <= cap { hint } else { a };
     let mut high = n + 1;
     let mut step = 1;
     while step <= n - low {
@@ -135,13 +136,13 @@ fn last_at_most(sums: &[u32], a: usize, cap: u32) -> usize {
 
 /// The greatest end of a part from a on that is within the bound on a machine of this speed.
 #[inline]
-fn part_end(sums: &[u32], a: usize, speed: u32, bound: Bound) -> usize {
+fn part_end(sums: &[u32], a: usize, speed: u32, bound: Bound, hint: usize) -> usize {
     let n = sums.len() - 1;
     let limit = bound.load * speed as u64 / bound.speed;
     if (sums[n] - sums[a]) as u64 <= limit {
         return n;
     }
-    last_at_most(sums, a, sums[a] + limit as u32)
+    last_at_most(sums, a, sums[a] + limit as u32, hint)
 }
 
 /// The bound of the part from a to b.
@@ -154,7 +155,8 @@ fn part_bound(sums: &[u32], a: usize, b: usize, speed: u32) -> Bound {
 }
 
 /// One walk at the bound from machine `first` on, whose part begins at separators[first]; `best` is the least bid before it.
-/// Writes the separators behind it. None where it fits, else the least next bid.
+/// Writes the separators behind it; what they hold before is a hint, most often the walk before. None where it fits, else the
+/// least next bid.
 fn walk(
     speeds: &[u32],
     sums: &[u32],
@@ -168,7 +170,7 @@ fn walk(
     let separators = &mut separators[..=speeds.len()];
     let mut a = separators[first] as usize;
     for (&speed, end) in speeds[first..last].iter().zip(&mut separators[first + 1..]) {
-        let b = part_end(sums, a, speed, bound);
+        let b = part_end(sums, a, speed, bound, *end as usize);
         best = best.lesser(part_bound(sums, a, (b + 1).min(n), speed));
         *end = b as u32;
         a = b;
@@ -242,6 +244,16 @@ fn first_at_least(sums: &[u32], a: usize, b: usize, limit: u64) -> usize {
     }
 }
 
+/// The smallest index from s on with the same sum as `last`; mostly that is `last` itself, and one look at the sum before tells.
+#[inline]
+fn first_equal(sums: &[u32], s: usize, last: usize) -> usize {
+    let sum = sums[last];
+    if s < last && sums[last - 1] < sum {
+        return last;
+    }
+    first_at_least(sums, s, last, sum as u64)
+}
+
 /// The quick plan's separators.
 fn quick(speeds: &[u32], sums: &[u32], separators: &mut [u32]) {
     let n = sums.len() - 1;
@@ -259,7 +271,7 @@ fn quick(speeds: &[u32], sums: &[u32], separators: &mut [u32]) {
         past = first_at_least(sums, past, n + 1, target / total + 1);
         let low = sums[past - 1] as u64;
         let nearer = past <= n && sums[past] as u64 * total - target < target - low * total;
-        s = if nearer { past } else { first_at_least(sums, s, past - 1, low) };
+        s = if nearer { past } else { first_equal(sums, s, past - 1) };
         *slot = s as u32;
     }
     separators[last + 1] = n as u32;

@@ -1,46 +1,52 @@
-//! Records: a line each, fields parted by tabs: kind, name, the four fields of the shape, value.
+//! Records: a line each, fields parted by tabs: kind, name, the four fields of the shape, and a value for each job.
 use crate::jobs::{Family, Shape};
 use std::collections::HashMap;
 
 /// What a record is about: its kind (`time` in nanoseconds, `count` of instructions, `fact`), its name and its shape.
 type Key = (String, String, Shape);
 
-pub fn write(kind: &str, name: &str, shape: Shape, value: f64) {
+pub fn write(kind: &str, name: &str, shape: Shape, values: &[f64]) {
+    let values: Vec<String> = values.iter().map(|value| value.to_string()).collect();
     println!(
-        "{kind}\t{name}\t{}\t{}\t{}\t{}\t{value}",
+        "{kind}\t{name}\t{}\t{}\t{}\t{}\t{}",
         shape.family.name(),
         shape.tasks,
         shape.processors,
-        shape.fastest
+        shape.fastest,
+        values.join(" ")
     );
 }
 
-pub struct Records(HashMap<Key, f64>);
+pub struct Records(HashMap<Key, Vec<f64>>);
 
 impl Records {
-    /// Reads the files; where a record occurs again, as a time does for each placement, the least value counts.
+    /// Reads the files; where a record occurs again, as times do for each placement and round, each job's least value counts.
     pub fn read(files: &[String]) -> Records {
-        let mut records = HashMap::new();
+        let mut records: HashMap<Key, Vec<f64>> = HashMap::new();
         for file in files {
             let text = std::fs::read_to_string(file).expect("a file of records");
             for line in text.lines() {
-                let (key, value) = parse(line).unwrap_or_else(|| panic!("no record: {line}"));
-                let least = records.entry(key).or_insert(value);
-                *least = value.min(*least);
+                let (key, values) = parse(line).unwrap_or_else(|| panic!("no record: {line}"));
+                let least = records.entry(key).or_insert_with(|| values.clone());
+                for (slot, value) in least.iter_mut().zip(values) {
+                    *slot = value.min(*slot);
+                }
             }
         }
         Records(records)
     }
 
+    /// The mean over the jobs.
     pub fn get(&self, kind: &str, name: &str, shape: Shape) -> f64 {
         let key = (kind.to_string(), name.to_string(), shape);
-        *self.0.get(&key).unwrap_or_else(|| panic!("no record of {key:?}"))
+        let values = self.0.get(&key).unwrap_or_else(|| panic!("no record of {key:?}"));
+        values.iter().sum::<f64>() / values.len() as f64
     }
 }
 
-fn parse(line: &str) -> Option<(Key, f64)> {
+fn parse(line: &str) -> Option<(Key, Vec<f64>)> {
     let fields: Vec<&str> = line.split('\t').collect();
-    let [kind, name, family, tasks, processors, fastest, value] = fields[..] else {
+    let [kind, name, family, tasks, processors, fastest, values] = fields[..] else {
         return None;
     };
     let shape = Shape {
@@ -49,5 +55,6 @@ fn parse(line: &str) -> Option<(Key, f64)> {
         processors: processors.parse().ok()?,
         fastest: fastest.parse().ok()?,
     };
-    Some(((kind.to_string(), name.to_string(), shape), value.parse().ok()?))
+    let values = values.split(' ').map(|value| value.parse().ok()).collect::<Option<Vec<f64>>>()?;
+    Some(((kind.to_string(), name.to_string(), shape), values))
 }
