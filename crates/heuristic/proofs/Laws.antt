@@ -23,7 +23,7 @@ use Rattle.chain.proofs.Heuristic.{nearest-le, nearest-first, nearest-grows, he
 use Rattle.chain.proofs.Ranges.{speeds-to-limit, index-fits, total-speed-fits, total-weight-limit, loads-fit, heuristic-products}
 use Rattle.parts.specs.Prefix.{Prefix, Ready}
 use Rattle.parts.proofs.Front.{Front, front-store, front-end}
-use Rattle.parts.proofs.Laws.{speed-read}
+use Rattle.parts.proofs.Laws.{speed-read, prefix-grows}
 use Rattle.heuristic.specs.Target.{firstAtLeast, off, nearestTo, Target, Behind, FirstPast}
 use Rattle.heuristic.proofs.Nearest.{smallest-unique, first-past-is, nearest-high, nearest-low, targetOf, nearest-to-target, target-grows, target-most, behind-first, behind-more}
 
@@ -84,6 +84,13 @@ passed-end {xs} {a} {b} {limit} {i} w f =
       found = elim f [ inl e ↦ inl (omega (arith, w .from, w .to)) | inr e ↦ inr (le-leb limit (at xs i) e) ];
       before = λ k l m. lt-leb limit (at xs k) (w .less k l m);
     })
+
+-- Where the prefix sum before b is less, so is every one before it.
+pub passed-all : {job : Job} {xs : List ℕ} {a b limit : ℕ} → Prefix job xs → a < b → b ≤ tasks job → at xs (b - 1) < limit → b ≡ firstAtLeast xs a b limit
+passed-all {job} {xs} {a} {b} {limit} p h k e =
+    passed-end
+    (record { from = omega arith; to = omega arith; less = λ i l m. omega (arith, prefix-grows p i (b - 1) (omega arith) (omega arith)) })
+    (inl refl)
 
 -- The limit of the search for the first index past a target fits, and that index is what the search finds.
 pub limit-fits : {job : Job} {total target : ℕ} → Valid job → Target job total target → target / total + 1 < 2 ^ 64

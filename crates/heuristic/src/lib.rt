@@ -56,6 +56,28 @@ fn high_nearer(low: u64, high: u64, total: u64, target: u64) -> bool
     high * total - target < target - low * total
 }
 
+// Inner. The smallest index from a to b whose prefix sum is at least the limit, b if there is none. Most often it is b: the one
+// before b is looked at first.
+fn first_level(
+    speeds: &[u32],
+    weights: &[u32],
+    sums: &[u32],
+    a: usize,
+    b: usize,
+    limit: u64,
+) -> usize
+    requires { ⌜ Ready (jobOf (now weights) (now speeds)) (now sums) ⌝ }
+    requires { ⌜ (a ≤ b) × (b ≤ length (now weights)) ⌝ }
+    ensures { λ r. ⌜ r ≡ firstAtLeast (now (sums .entry)) a b limit ⌝ }
+{
+    if a < b {
+        if parts::wide(sums[b - 1]) < limit {
+            return b;
+        }
+    }
+    first_at_least(sums, a, b, limit)
+}
+
 // Inner. The smallest index nearest to the target, which is not before s; the first index past the target is known.
 fn nearest_from(
     speeds: &[u32],
@@ -79,7 +101,7 @@ fn nearest_from(
             return past;
         }
     }
-    first_at_least(sums, s, before, low)
+    first_level(speeds, weights, sums, s, before, low)
 }
 
 // Inner. Writes the heuristic's separators to the front of the list.

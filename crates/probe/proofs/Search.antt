@@ -36,3 +36,7 @@ bracket-last {xs} {a} {n} {cap} {s} {r} b w =
                 (b .above (omega (arith, b .apart, w .to)))
           ];
     }
+
+-- What is last from an index on is last from any index before it on.
+pub last-from : {xs : List ℕ} {a b n cap r : ℕ} → a ≤ b → LastAtMost xs b n cap r → LastAtMost xs a n cap r
+last-from h w = record { from = omega (arith, w .from); to = w .to; below = w .below; above = w .above }

@@ -13,6 +13,7 @@ ghost use Rattle.probe.specs.Search.{Bracket, LastAtMost};
 ghost use Rattle.probe.specs.Outcome.{Narrow, OneMore, outcomeOf};
 ghost use Rattle.probe.specs.Walk.{Reached};
 use bound::Bound;
+use parts::index;
 use parts::narrow;
 use parts::part_bound;
 use parts::wide;
@@ -59,13 +60,32 @@ pub fn halve(xs: &[u32], low: usize, high: usize, cap: u32) -> usize
     a
 }
 
+// Inner. Where to search from: the hint, if it is from a to n and its entry is at most the cap, else a.
+pub fn search_from(xs: &[u32], a: usize, n: usize, cap: u32, hint: usize) -> usize
+    requires { ⌜ (a ≤ n) × (n < length (now xs)) × (getD (now xs) a 0 ≤ cap) ⌝ }
+    ensures { λ r. ⌜ (a ≤ r) × (r ≤ n) × (getD (now (xs .entry)) r 0 ≤ cap) ⌝ }
+{
+    if hint < a {
+        return a;
+    }
+    if n < hint {
+        return a;
+    }
+    if xs[hint] <= cap {
+        return hint;
+    }
+    a
+}
+
 // Inner. An index from a to n whose entry is at most the cap while the next one is not. No order of the entries is asked; where
-// they grow it is the last index at most the cap. It takes time in the logarithm of its distance from a.
-pub fn last_at_most(xs: &[u32], a: usize, n: usize, cap: u32) -> usize
+// they grow it is the last index at most the cap, whatever the hint. It takes time in the logarithm of its distance from a, and
+// from a hint that is before it in that of its distance from there.
+pub fn last_at_most(xs: &[u32], a: usize, n: usize, cap: u32, hint: usize) -> usize
     requires { ⌜ (a ≤ n) × (n < length (now xs)) × (getD (now xs) a 0 ≤ cap) ⌝ }
     ensures { λ r. ⌜ LastAtMost (now (xs .entry)) a n cap r ⌝ }
 {
-    let span = gallop(xs, a, n, cap);
+    let from = search_from(xs, a, n, cap, hint);
+    let span = gallop(xs, from, n, cap);
     halve(xs, span.low, span.high, cap)
 }
 
@@ -85,7 +105,8 @@ pub fn raised(sum: u32, load: u64) -> u32
     sum + (load as u32)
 }
 
-// Inner. The greatest index from a to N whose part, from a on, is within the bound on processor p.
+// Inner. The greatest index from a to N whose part, from a on, is within the bound on processor p. The hint changes only the time:
+// the end in a walk at a lesser bound is a good one.
 pub fn part_end(
     speeds: &[u32],
     weights: &[u32],
@@ -93,6 +114,7 @@ pub fn part_end(
     p: usize,
     a: usize,
     bound: Bound,
+    hint: usize,
 ) -> usize
     requires { ⌜ Ready (jobOf (now weights) (now speeds)) (now sums) ⌝ }
     requires { ⌜ Lendable bound ⌝ }
@@ -105,7 +127,7 @@ pub fn part_end(
     if wide(sums[n] - sum) <= limit {
         return n;
     }
-    last_at_most(sums, a, n, raised(sum, limit))
+    last_at_most(sums, a, n, raised(sum, limit), hint)
 }
 
 // Inner. The lesser of two bounds, the first among equals.
@@ -156,7 +178,7 @@ pub struct Point {
 }
 
 // Inner. The probe at the bound from a point on that its walk has reached: writes the separators from there on, whether it fits
-// or not, and answers.
+// or not, and answers. What the list holds from there on is a hint, most often the walk before.
 pub fn walk_from(
     speeds: &[u32],
     weights: &[u32],
@@ -178,8 +200,9 @@ pub fn walk_from(
     let mut a = point.start;
     let mut p = point.processor;
     while p < last {
+        let hint = index(separators[p + 1]);
         separators[p] = narrow(a);
-        let end = part_end(speeds, weights, sums, p, a, bound);
+        let end = part_end(speeds, weights, sums, p, a, bound, hint);
         best = lesser_bound(best, bid_of(speeds, weights, sums, p, a, end));
         a = end;
         p += 1;

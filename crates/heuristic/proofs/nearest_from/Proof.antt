@@ -55,16 +55,16 @@ near c h =
     (λ w. choice-low (s .pre .0) (s .pre .1 .0) (s .pre .1 .1 .0) h (c .before .wide .ensures) (w .2 .ensures) (sym (w .3 .ensures) ∙ w .4 .left))
     (λ w. absurd (let z : ⊥ = omega arith in z)) (c .if1 .came)
 
-first-at-least-requires : tie.Need-first-at-least-requires
-first-at-least-requires c κs =
+first-level-requires : tie.Need-first-level-requires
+first-level-requires c κs =
     let s = c .before .before .before .before .before .before in
     let m = nearest-before (s .pre .0) (s .pre .1 .1 .0) (near c) in
-    (omega arith, omega arith)
+    (s .pre .0, (omega arith, omega arith))
 
 returns-2 : tie.Need-returns-2
 returns-2 c =
     let s = c .before .before .before .before .before .before .before in
-    choice-end (s .pre .0) (s .pre .1 .0) (s .pre .1 .1 .0) _ (near (c .before)) (c .before .before .wide .ensures) (omega arith) (c .first-at-least .ensures)
+    choice-end (s .pre .0) (s .pre .1 .0) (s .pre .1 .1 .0) _ (near (c .before)) (c .before .before .wide .ensures) (omega arith) (c .first-level .ensures)
 
 pub nearest-from-spec : {M : Type 1} → statement M
 nearest-from-spec =
@@ -79,5 +79,5 @@ nearest-from-spec =
     wide-requires-2
     high-nearer-requires
     returns
-    first-at-least-requires
+    first-level-requires
     returns-2)

@@ -3,6 +3,7 @@
 use Prim.Native.Nat.{_-_}
 use mathlib.Core.Path.{sym, _∙_}
 use native.Mathlib.Omega.{arith}
+use borrow.Author.Needs.{needs}
 use lib.ListN.{length, length-set}
 use Rattle.chain.specs.Job.{jobOf}
 use Rattle.chain.proofs.Ranges.{index-fits}
@@ -24,29 +25,41 @@ sub-last c = omega arith
 loop-holds : tie.Need-loop-holds Inv-loop μ-loop
 loop-holds c = walked-start (c .before .before .before .before .before .pre .1 .1 .1)
 
+add-index : tie.Need-add-index Inv-loop μ-loop
+add-index c = omega arith
+
+mul-index : tie.Need-mul-index Inv-loop μ-loop
+mul-index c = omega arith
+
+slice-read-index : tie.Need-slice-read-index Inv-loop μ-loop
+slice-read-index c = omega (arith, c .before .before .loop .inv .front .same)
+
+index-requires : tie.Need-index-requires Inv-loop μ-loop
+index-requires c κs = search needs
+
 narrow-requires : tie.Need-narrow-requires Inv-loop μ-loop
-narrow-requires c κs = index-fits (c .before .before .before .before .before .before .before .pre .0 .valid) (c .before .loop .inv .inside)
+narrow-requires c κs = index-fits (c .before .before .before .before .before .before .before .before .before .pre .0 .valid) (c .before .before .before .loop .inv .inside)
 
 mul-separators : tie.Need-mul-separators Inv-loop μ-loop
 mul-separators c = omega arith
 
 slice-write-separators : tie.Need-slice-write-separators Inv-loop μ-loop
-slice-write-separators c = omega (arith, c .before .before .loop .inv .front .same)
+slice-write-separators c = omega (arith, c .before .before .before .before .loop .inv .front .same)
 
 part-end-requires : tie.Need-part-end-requires Inv-loop μ-loop
 part-end-requires c κs =
-    let s = c .before .before .before .before .before .before .before .before in
-    let h = c .before .before .loop .inv .inside in
+    let s = c .before .before .before .before .before .before .before .before .before .before in
+    let h = c .before .before .before .before .loop .inv .inside in
     (s .pre .0, (s .pre .1 .0, (omega arith, omega arith)))
 
 bid-of-requires : tie.Need-bid-of-requires Inv-loop μ-loop
 bid-of-requires c κs =
-    let s = c .before .before .before .before .before .before .before .before .before in
-    let w = c .before .before .before .loop .inv in
+    let s = c .before .before .before .before .before .before .before .before .before .before .before in
+    let w = c .before .before .before .before .before .loop .inv in
     (s .pre .0, (omega arith, end-after (s .pre .0 .valid) (s .pre .1 .1 .0) w (c .part-end .ensures), end-inside (s .pre .0 .valid) (s .pre .1 .1 .0) w (c .part-end .ensures)))
 
 lesser-bound-requires : tie.Need-lesser-bound-requires Inv-loop μ-loop
-lesser-bound-requires c κs = (c .before .before .before .before .loop .inv .small, c .bid-of .ensures .1)
+lesser-bound-requires c κs = (c .before .before .before .before .before .before .loop .inv .small, c .bid-of .ensures .1)
 
 add-p : tie.Need-add-p Inv-loop μ-loop
 add-p c = omega arith
@@ -56,8 +69,8 @@ loop-less c = omega arith
 
 loop-again : tie.Need-loop-again Inv-loop μ-loop
 loop-again c =
-    let s = c .before .before .before .before .before .before .before .before .before .before .before in
-    walked-turn (s .pre .0 .valid) (s .pre .1 .1 .0) (c .before .before .before .before .before .loop .inv) (omega arith) (c .before .before .before .narrow .ensures)
+    let s = c .before .before .before .before .before .before .before .before .before .before .before .before .before in
+    walked-turn (s .pre .0 .valid) (s .pre .1 .1 .0) (c .before .before .before .before .before .before .before .loop .inv) (omega arith) (c .before .before .before .narrow .ensures)
     (c .before .before .part-end .ensures) (c .before .bid-of .ensures .0) (c .lesser-bound .ensures)
 
 narrow-requires-2 : tie.Need-narrow-requires-2 Inv-loop μ-loop
@@ -129,6 +142,10 @@ walk-from-spec =
     μ-loop
     sub-last
     loop-holds
+    add-index
+    mul-index
+    slice-read-index
+    index-requires
     narrow-requires
     mul-separators
     slice-write-separators
