@@ -37,46 +37,42 @@ fn some_room(c: &mut Check, machines: usize) -> usize {
     }
 }
 
-fn random_bytes(c: &mut Check, times: usize) {
-    for _ in 0..60_000 * times {
-        let len = if c.rng.once_in(3) { c.rng.below(200) } else { 8 * c.rng.below(25) };
-        // All bytes, or few, so that some records are good.
-        let few = c.rng.below(4);
-        let file: Vec<u8> = (0..len)
-            .map(|k| match few {
-                0 => c.rng.next() as u8,
-                1 => c.rng.pick(&[0, 1, 2]),
-                _ if k % 8 == 0 => c.rng.range(1, 2) as u8,
-                _ if k % 8 == 4 => c.rng.range(0, 255) as u8,
-                _ => c.rng.once_in(300) as u8,
-            })
-            .collect();
-        let method = some_method(c);
-        let room = some_room(c, 25);
-        judge(c, &file, method, room);
-    }
+fn random_bytes(c: &mut Check) {
+    let len = if c.rng.once_in(3) { c.rng.below(200) } else { 8 * c.rng.below(25) };
+    // All bytes, or few, so that some records are good.
+    let few = c.rng.below(4);
+    let file: Vec<u8> = (0..len)
+        .map(|k| match few {
+            0 => c.rng.next() as u8,
+            1 => c.rng.pick(&[0, 1, 2]),
+            _ if k % 8 == 0 => c.rng.range(1, 2) as u8,
+            _ if k % 8 == 4 => c.rng.range(0, 255) as u8,
+            _ => c.rng.once_in(300) as u8,
+        })
+        .collect();
+    let method = some_method(c);
+    let room = some_room(c, 25);
+    judge(c, &file, method, room);
 }
 
 /// Records of good kinds with values at the edges.
-fn random_records(c: &mut Check, times: usize) {
-    for _ in 0..60_000 * times {
-        let (machines, tiles) = (c.rng.below(5), c.rng.below(9));
-        let rare = 2 + c.rng.below(40);
-        let mut records: Vec<Record> = Vec::new();
-        for _ in 0..machines {
-            let bad = c.rng.once_in(rare);
-            let v = if bad { c.rng.pick(&[0, 10_001, 1_000_000, u32::MAX]) } else { c.rng.pick(&[1, 2, 9_999, 10_000]) };
-            records.push(machine(v));
-        }
-        for _ in 0..tiles {
-            let bad = c.rng.once_in(rare);
-            let v = if bad { c.rng.pick(&[1_000_001, 1_048_576, u32::MAX]) } else { c.rng.pick(&[0, 1, 999_999, 1_000_000]) };
-            records.push(if c.rng.once_in(4 * rare) { machine(v) } else { tile(v) });
-        }
-        let method = some_method(c);
-        let room = some_room(c, machines);
-        judge(c, &records.concat(), method, room);
+fn random_records(c: &mut Check) {
+    let (machines, tiles) = (c.rng.below(5), c.rng.below(9));
+    let rare = 2 + c.rng.below(40);
+    let mut records: Vec<Record> = Vec::new();
+    for _ in 0..machines {
+        let bad = c.rng.once_in(rare);
+        let v = if bad { c.rng.pick(&[0, 10_001, 1_000_000, u32::MAX]) } else { c.rng.pick(&[1, 2, 9_999, 10_000]) };
+        records.push(machine(v));
     }
+    for _ in 0..tiles {
+        let bad = c.rng.once_in(rare);
+        let v = if bad { c.rng.pick(&[1_000_001, 1_048_576, u32::MAX]) } else { c.rng.pick(&[0, 1, 999_999, 1_000_000]) };
+        records.push(if c.rng.once_in(4 * rare) { machine(v) } else { tile(v) });
+    }
+    let method = some_method(c);
+    let room = some_room(c, machines);
+    judge(c, &records.concat(), method, room);
 }
 
 /// A bit flipped, a byte set, cut, lengthened, or records swapped, doubled or lost.
@@ -109,27 +105,39 @@ pub fn spoil(c: &mut Check, file: &mut Vec<u8>) {
     }
 }
 
-/// Good files, spoilt once or twice.
-fn damaged(c: &mut Check, rounds: usize, machines_max: usize, tiles_max: usize) {
-    for _ in 0..rounds {
-        let machines = 1 + c.rng.below(machines_max);
-        let tiles = c.rng.below(tiles_max + 1);
-        let speeds = small::speeds(&mut c.rng, machines);
-        let weights = small::weights(&mut c.rng, tiles, &speeds);
-        let mut file = Job { speeds, weights }.file();
-        for _ in 0..1 + c.rng.below(2) {
-            spoil(c, &mut file);
-        }
-        let method = some_method(c);
-        let room = some_room(c, machines);
-        judge(c, &file, method, room);
+/// A good file, spoilt once or twice.
+fn damaged(c: &mut Check, machines_max: usize, tiles_max: usize) {
+    let machines = 1 + c.rng.below(machines_max);
+    let tiles = c.rng.below(tiles_max + 1);
+    let speeds = small::speeds(&mut c.rng, machines);
+    let weights = small::weights(&mut c.rng, tiles, &speeds);
+    let mut file = Job { speeds, weights }.file();
+    for _ in 0..1 + c.rng.below(2) {
+        spoil(c, &mut file);
+    }
+    let method = some_method(c);
+    let room = some_room(c, machines);
+    judge(c, &file, method, room);
+}
+
+/// Any bad file.
+pub fn one(c: &mut Check) {
+    match c.rng.below(10) {
+        0..=2 => random_bytes(c),
+        3..=5 => random_records(c),
+        6 => damaged(c, 40, 200),
+        _ => damaged(c, 4, 8),
     }
 }
 
 pub fn run(c: &mut Check, times: usize) {
-    random_bytes(c, times);
-    random_records(c, times);
-    damaged(c, 100_000 * times, 4, 8);
-    damaged(c, 3_000 * times, 40, 200);
-    damaged(c, 600 * times, 258, 2_049);
+    for _ in 0..60_000 * times {
+        random_bytes(c);
+        random_records(c);
+    }
+    for (rounds, machines, tiles) in [(100_000, 4, 8), (3_000, 40, 200), (600, 258, 2_049)] {
+        for _ in 0..rounds * times {
+            damaged(c, machines, tiles);
+        }
+    }
 }

@@ -302,6 +302,18 @@ fn requick(l: Lists, nearer: fn(i128, i128) -> bool) -> u32 {
     })
 }
 
+/// The table's value where each entry looks only at its crossing.
+fn crossing_only(job: &Job) -> Bound {
+    let tiles = job.weights.len();
+    let mut row: Vec<Bound> = (0..=tiles).map(|i| (job.weight(0, i), job.speeds[0] as u128)).collect();
+    for &e in &job.speeds[1..] {
+        let share = |j: usize, i: usize| (job.weight(j, i), e as u128);
+        let at = |i: usize| (0..=i).find(|&j| !less(row[j], share(j, i))).unwrap();
+        row = (0..=tiles).map(|i| row[at(i)]).collect();
+    }
+    row[tiles]
+}
+
 /// True once in so many times.
 fn seldom(times: u64) -> bool {
     static TURN: AtomicU64 = AtomicU64::new(0);
@@ -350,6 +362,8 @@ const FAULTS: &[(&str, &str, Run)] = &[
     ("plan-seldom", "one separator wrong once in 50,000 plans", |l| l.inner(l.is_plans(), |_, s| if s.len() > 2 && s[1] > 0 && seldom(50_000) { s[1] -= 1 })),
     ("plan-quick", "the quick plan for bidding", |l| l.inner(l.is_plan(2), |j, s| for (to, from) in s.iter_mut().zip(methods::quick(j)) { *to = from as u32 })),
     ("plan-whole", "a bound rounded up to a whole number", |l| l.inner(l.is_plans(), |j, s| { let b = slow::bottleneck(j, &s.iter().map(|&x| x as usize).collect::<Vec<_>>()); if let Tried::Fits(d) = methods::trial(j, (b.0.div_ceil(b.1), 1)) { for (to, from) in s.iter_mut().zip(d) { *to = from as u32 } } })),
+    ("plan-crossing", "the table looking only at the crossing", |l| l.inner(l.is_plan(1) && l.at[1].1 < 200, |j, s| if let Tried::Fits(d) = methods::trial(j, crossing_only(j)) { for (to, from) in s.iter_mut().zip(d) { *to = from as u32 } })),
+    ("plan-endless", "bisection without end for three machines of speed 3", |l| { while l.is_plan(3) && l.words(Slot::Speeds) == [3, 3, 3] {} l.real() }),
     ("plan-nothing", "no separators written", |l| { let before = l.words(Slot::Separators).to_vec(); l.then(l.is_plans(), |_| l.words(Slot::Separators).copy_from_slice(&before)) }),
     ("host-separator", "C call: a separator one too small", |l| l.inner(l.is_host(), |_, s| if s.len() > 2 && s[1] > 0 { s[1] -= 1 })),
     ("host-tie", "C call: a share stopped before tiles of weight 0", |l| l.inner(l.is_host(), |j, s| for k in 1..s.len() - 1 { if s[k] > s[k - 1] && j.weights[s[k] as usize - 1] == 0 { s[k] -= 1 } })),

@@ -163,59 +163,66 @@ fn together(c: &mut Check, rounds: usize) {
     }
 }
 
-/// The smallest lists that cause each number, and those beside them that pass.
-fn smallest(c: &mut Check) {
-    let bounds = [((0, 0), 10), ((100_000_000_000_001, 1), 10), ((0, 1_000_000_001), 10), ((0, 1), 0), ((100_000_000_000_000, 1_000_000_000), 0)];
-    for (name, numbers) in CALLS {
-        let lends_list = name != "write" && name != "test";
-        let mut ask = |speeds: &[u32], weights: &[u32], separators: &[u32], room: usize, method: u32, bound: (u64, u64), number: u32| {
-            let i = Input { method, bound, speeds: speeds.to_vec(), weights: weights.to_vec(), separators: separators.to_vec(), room };
-            refuse(c, name, &i, number);
-        };
-        let plenty = 8 * 2_060;
-        let many = [1u32; 257];
-        let row = [0u32; 2_049];
-        ask(&[0], &[], &[], 0, 1, (0, 1), 5);
-        ask(&[10_001], &[], &[], 0, 1, (0, 1), 5);
-        ask(&[1], &[1_000_001], &[], 0, 1, (0, 1), 6);
-        ask(&[], &[1_000_001], &[], 0, 1, (0, 1), 6);
-        ask(&[], &[], &[], 0, 1, (0, 1), 7);
-        ask(&many, &[], &[], 0, 1, (0, 1), 7);
-        ask(&[1], &row, &[], 0, 1, (0, 1), 8);
-        ask(&[10_000], &[1_000_000], &[0, 1], plenty, 2, (0, 1), 0);
-        ask(&many[1..], &[], &[0; 257], plenty, 3, (0, 1), 0);
-        ask(&[1], &row[1..], &[0, 2_048], plenty, 1, (0, 1), 0);
-        if lends_list {
-            ask(&[1], &[], &[], plenty, 1, (0, 1), 9);
-            ask(&[1], &[], &[0], plenty, 1, (0, 1), 9);
+/// Entries that are enough for any other list.
+const PLENTY: usize = 8 * 2_060;
+
+fn smallest_input(speeds: &[u32], weights: &[u32], separators: &[u32], room: usize) -> Input {
+    Input { method: 1, bound: (0, 1), speeds: speeds.to_vec(), weights: weights.to_vec(), separators: separators.to_vec(), room }
+}
+
+/// The smallest lists that cause 5 to 8, and those beside them that pass.
+fn smallest_jobs(c: &mut Check, name: &str) {
+    let (many, row) = ([1u32; 257], [0u32; 2_049]);
+    let none: &[u32] = &[];
+    for (speeds, weights, number) in [
+        (&[0u32][..], none, 5),
+        (&[10_001], none, 5),
+        (&[1], &[1_000_001], 6),
+        (none, &[1_000_001], 6),
+        (none, none, 7),
+        (&many, none, 7),
+        (&[1], &row, 8),
+    ] {
+        refuse(c, name, &smallest_input(speeds, weights, &[], 0), number);
+    }
+    refuse(c, name, &smallest_input(&[10_000], &[1_000_000], &[0, 1], PLENTY), 0);
+    refuse(c, name, &smallest_input(&many[1..], none, &[0; 257], PLENTY), 0);
+    refuse(c, name, &smallest_input(&[1], &row[1..], &[0, 2_048], PLENTY), 0);
+}
+
+/// The smallest lists that cause 9 and 11, the nearest bounds that cause 10, and any method for 1.
+fn smallest_lists(c: &mut Check, name: &str, numbers: &[u32]) {
+    if name != "write" && name != "test" {
+        refuse(c, name, &smallest_input(&[1], &[], &[], PLENTY), 9);
+        refuse(c, name, &smallest_input(&[1], &[], &[0], PLENTY), 9);
+    }
+    let needed = room_needed(name, 1, 0);
+    for room in 0..=needed {
+        refuse(c, name, &smallest_input(&[1], &[], &[0, 0], room), if room < needed { 9 } else { 0 });
+    }
+    let out = [(0, 0), (100_000_000_000_001, 1), (0, 1_000_000_001)];
+    let within = [(0, 1), (100_000_000_000_000, 1_000_000_000)];
+    for bound in out.into_iter().chain(within).filter(|_| name == "trial") {
+        let number = if within.contains(&bound) { 0 } else { 10 };
+        refuse(c, name, &Input { bound, ..smallest_input(&[1], &[], &[7, 7], 0) }, number);
+    }
+    if numbers.contains(&11) {
+        for s in [[0, 1], [1, 0], [1, 1], [u32::MAX, 0], [0, u32::MAX]] {
+            refuse(c, name, &smallest_input(&[1], &[], &s, PLENTY), 11);
         }
-        let needed = room_needed(name, 1, 0);
-        for room in 0..needed {
-            ask(&[1], &[], &[0, 0], room, 1, (0, 1), 9);
+        for (s, number) in [(&[0, 2, 1][..], 11), (&[0, 1, 0], 11), (&[0, 1, 1, 0], 0)] {
+            refuse(c, name, &smallest_input(&[1, 1], &[5], s, PLENTY), number);
         }
-        ask(&[1], &[], &[0, 0], needed, 1, (0, 1), 0);
-        if name == "trial" {
-            for (bound, number) in bounds {
-                ask(&[1], &[], &[7, 7], 0, 1, bound, number);
-            }
-        }
-        if numbers.contains(&11) {
-            for s in [[0, 1], [1, 0], [1, 1], [u32::MAX, 0], [0, u32::MAX]] {
-                ask(&[1], &[], &s, plenty, 1, (0, 1), 11);
-            }
-            ask(&[1, 1], &[5], &[0, 2, 1], plenty, 1, (0, 1), 11);
-            ask(&[1, 1], &[5], &[0, 1, 0], plenty, 1, (0, 1), 11);
-            ask(&[1, 1], &[5], &[0, 1, 1, 0], plenty, 1, (0, 1), 0);
-        }
-        if name == "plan" {
-            for method in BAD_METHOD {
-                ask(&[], &[], &[], 0, method, (0, 1), 1);
-            }
-        }
+    }
+    for method in BAD_METHOD.into_iter().filter(|_| name == "plan") {
+        refuse(c, name, &Input { method, ..smallest_input(&[], &[], &[], 0) }, 1);
     }
 }
 
 pub fn run(c: &mut Check, times: usize) {
-    smallest(c);
+    for (name, numbers) in CALLS {
+        smallest_jobs(c, name);
+        smallest_lists(c, name, numbers);
+    }
     together(c, 60 * times);
 }

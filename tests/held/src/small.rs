@@ -121,25 +121,34 @@ fn pieces(r: &mut Rng, sum: u32, tiles: usize) -> Vec<u32> {
     list
 }
 
+/// Bounds as near as they can be, perhaps with a third machine before or after that has a tile of its own.
+pub fn near(c: &mut Check) {
+    let sides = 1 + c.rng.below(3);
+    let mut job = neighbours(&mut c.rng, sides);
+    if c.rng.once_in(2) {
+        let (e, w) = (c.rng.range(1, 10_000), c.rng.range(0, 1_000_000));
+        let (p, i) = c.rng.pick(&[(0, 0), (2, job.weights.len())]);
+        job.speeds.insert(p, e);
+        job.weights.insert(i, w);
+    }
+    both(c, &job);
+}
+
+/// Any small job.
+pub fn random(c: &mut Check) {
+    let machines = 1 + c.rng.below(4);
+    let tiles = c.rng.below(9);
+    let speeds = speeds(&mut c.rng, machines);
+    let weights = weights(&mut c.rng, tiles, &speeds);
+    both(c, &Job { speeds, weights });
+}
+
 pub fn run(c: &mut Check, times: usize) {
     every(c);
     for _ in 0..4_000 * times {
-        let sides = 1 + c.rng.below(3);
-        let mut job = neighbours(&mut c.rng, sides);
-        if c.rng.once_in(2) {
-            // A third machine before or after, with a tile of its own.
-            let (e, w) = (c.rng.range(1, 10_000), c.rng.range(0, 1_000_000));
-            let (p, i) = c.rng.pick(&[(0, 0), (2, job.weights.len())]);
-            job.speeds.insert(p, e);
-            job.weights.insert(i, w);
-        }
-        both(c, &job);
+        near(c);
     }
     for _ in 0..120_000 * times {
-        let machines = 1 + c.rng.below(4);
-        let tiles = c.rng.below(9);
-        let speeds = speeds(&mut c.rng, machines);
-        let weights = weights(&mut c.rng, tiles, &speeds);
-        both(c, &Job { speeds, weights });
+        random(c);
     }
 }
