@@ -59,9 +59,12 @@ fn measure(shape: Shape) {
     for contest in &CONTESTS {
         let jobs = shape.jobs(contest.jobs);
         let answers = contest.compare(&jobs);
-        for (side, times) in contest.sides.iter().zip(contest.time(&jobs)) {
-            records::write("time", side.0, shape, &times);
+        let times = contest.time(&jobs);
+        for (side, times) in contest.sides.iter().zip(&times) {
+            records::write("time", side.0, shape, times);
         }
+        let sums: Vec<f64> = times.iter().map(|times| times.iter().sum()).collect();
+        records::write("ratio", contest.sides[1].0, shape, &[sums[0] / sums[1]]);
         let fact = |name: &str, values: Vec<f64>| {
             records::write("fact", &format!("{} {name}", contest.name), shape, &values);
         };

@@ -2,7 +2,8 @@
 use crate::jobs::{Family, Shape};
 use std::collections::HashMap;
 
-/// What a record is about: its kind (`time` in nanoseconds, `count` of instructions, `fact`), its name and its shape.
+/// What a record is about: its kind (`time` in nanoseconds, `ratio` of times, `count` of instructions, `fact`), its name and its
+/// shape.
 type Key = (String, String, Shape);
 
 pub fn write(kind: &str, name: &str, shape: Shape, values: &[f64]) {
@@ -20,13 +21,17 @@ pub fn write(kind: &str, name: &str, shape: Shape, values: &[f64]) {
 pub struct Records(HashMap<Key, Vec<f64>>);
 
 impl Records {
-    /// Reads the files; where a record occurs again, as times do for each placement and round, each job's least value counts.
+    /// Reads the files. Times and ratios occur for each placement and round: each job's least time counts, ratios are gathered.
     pub fn read(files: &[String]) -> Records {
         let mut records: HashMap<Key, Vec<f64>> = HashMap::new();
         for file in files {
             let text = std::fs::read_to_string(file).expect("a file of records");
             for line in text.lines() {
                 let (key, values) = parse(line).unwrap_or_else(|| panic!("no record: {line}"));
+                if key.0 == "ratio" {
+                    records.entry(key).or_default().extend(values);
+                    continue;
+                }
                 let least = records.entry(key).or_insert_with(|| values.clone());
                 for (slot, value) in least.iter_mut().zip(values) {
                     *slot = value.min(*slot);
@@ -36,11 +41,26 @@ impl Records {
         Records(records)
     }
 
+    fn values(&self, kind: &str, name: &str, shape: Shape) -> &[f64] {
+        let key = (kind.to_string(), name.to_string(), shape);
+        self.0.get(&key).unwrap_or_else(|| panic!("no record of {key:?}"))
+    }
+
     /// The mean over the jobs.
     pub fn get(&self, kind: &str, name: &str, shape: Shape) -> f64 {
-        let key = (kind.to_string(), name.to_string(), shape);
-        let values = self.0.get(&key).unwrap_or_else(|| panic!("no record of {key:?}"));
+        let values = self.values(kind, name, shape);
         values.iter().sum::<f64>() / values.len() as f64
+    }
+
+    /// The median over placements and rounds.
+    pub fn median(&self, kind: &str, name: &str, shape: Shape) -> f64 {
+        let mut values = self.values(kind, name, shape).to_vec();
+        values.sort_by(f64::total_cmp);
+        let half = values.len() / 2;
+        match values.len() % 2 {
+            0 => (values[half - 1] + values[half]) / 2.0,
+            _ => values[half],
+        }
     }
 }
 

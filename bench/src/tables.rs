@@ -60,6 +60,16 @@ fn micros(nanoseconds: f64) -> String {
     }
 }
 
+const KINDS: [&str; 2] = ["ratio", "count"];
+
+/// A ratio planner / plain Rust: of times, which were taken in turn, or of instruction counts.
+fn ratio(records: &Records, kind: &str, planner: &str, plain: &str, shape: Shape) -> f64 {
+    match kind {
+        "ratio" => records.median(kind, plain, shape),
+        _ => records.get(kind, planner, shape) / records.get(kind, plain, shape),
+    }
+}
+
 fn ratios(records: &Records) {
     println!("## Planner against plain Rust: time and instructions\n");
     println!("Each pair is the ratio of times, then the ratio of instructions, planner / plain Rust; N = {TASKS}.\n");
@@ -75,9 +85,8 @@ fn ratios(records: &Records) {
             let mut cells = label(shape);
             for processors in PROCESSORS {
                 let shape = Shape { processors, ..shape };
-                for kind in ["time", "count"] {
-                    let ratio = records.get(kind, planner, shape) / records.get(kind, plain, shape);
-                    cells.push(format!("{ratio:.2}"));
+                for kind in KINDS {
+                    cells.push(format!("{:.2}", ratio(records, kind, planner, plain, shape)));
                 }
             }
             row(&cells);
@@ -93,11 +102,11 @@ fn summary(records: &Records) {
     head(&texts(&["", "time: mean", "greatest", "instructions: mean", "greatest"]));
     for (title, planner, plain) in RATIOS {
         let mut cells = vec![title.to_string()];
-        for kind in ["time", "count"] {
+        for kind in KINDS {
             let mut logs = Vec::new();
             for processors in PROCESSORS {
                 for shape in rows(processors) {
-                    logs.push((records.get(kind, planner, shape) / records.get(kind, plain, shape)).ln());
+                    logs.push(ratio(records, kind, planner, plain, shape).ln());
                 }
             }
             cells.push(format!("{:.2}", (logs.iter().sum::<f64>() / logs.len() as f64).exp()));
