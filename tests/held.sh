@@ -1,14 +1,16 @@
 #!/bin/sh
-# Builds and runs the independent test of the planner's C call; the last line is its summary.
+# Builds and runs the independent test of every call, on the archives of target/staticlib; the last line is its summary.
 here=$(cd "$(dirname "$0")" && pwd) || exit 1
 if ! command -v cargo >/dev/null 2>&1; then
     echo "tests/held: FAILED, cargo is missing"
     exit 1
 fi
-if [ ! -f "$here/../target/staticlib/libplanner.a" ]; then
-    echo "tests/held: FAILED, target/staticlib/libplanner.a is missing"
-    exit 1
-fi
+for name in planner exported; do
+    if [ ! -f "$here/../target/staticlib/lib$name.a" ]; then
+        echo "tests/held: FAILED, no archive: run 'rt staticlib $name' first"
+        exit 1
+    fi
+done
 cd "$here/held" || exit 1
 CARGO_TARGET_DIR="$here/held/target"
 export CARGO_TARGET_DIR

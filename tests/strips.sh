@@ -1,8 +1,9 @@
 #!/bin/sh
 # Runs the program `strips`, which a check has built, and the script ./strips, and compares what they write.
+# STRIPS_PROGRAM: another program in its place, by which tests/faults tries faulty ones.
 set -eu
 cd "$(dirname "$0")/.."
-program=target/bin/strips
+program=${STRIPS_PROGRAM-target/bin/strips}
 [ -x "$program" ] || {
     echo "tests/strips.sh: no $program; run 'rt check strips' first" >&2
     exit 1
@@ -180,6 +181,61 @@ gives "a longer file, 2,305 machines" "refused 7"
 } | "$program" >"$work/got"
 echo "refused 8" >"$work/wanted"
 same "a longer file in pieces" "$work/wanted" "$work/got"
+
+# nothing at all: from the null device, and from a pipe that is left open for a moment
+echo "refused 7" >"$work/wanted"
+"$program" </dev/null >"$work/got"
+same "the null device" "$work/wanted" "$work/got"
+sleep 0.3 | "$program" >"$work/got"
+same "a pipe that gives nothing and closes late" "$work/wanted" "$work/got"
+
+# pauses at a record's end, within a record, and at each byte around the end of what is taken in
+{
+    head -c 18424 examples/large2.job
+    sleep 0.1
+    tail -c 8 examples/large2.job
+    sleep 0.1
+} | "$program" >"$work/got"
+same "a pause before the last record and after it" examples/large2.txt "$work/got"
+{
+    head -c 18428 examples/large2.job
+    tail -c 4 examples/large2.job >"$work/rest"
+    for i in 1 2 3 4; do
+        sleep 0.02
+        tail -c "+$i" "$work/rest" | head -c 1
+    done
+} | "$program" >"$work/got"
+same "the last bytes one by one" examples/large2.txt "$work/got"
+
+# a writer that has given more than is taken in and does not close: the answer comes all the same
+mkfifo "$work/pipe"
+{
+    cat examples/large2.job
+    head -c 8 "$work/tail"
+    exec sleep 5
+} >"$work/pipe" 2>/dev/null &
+writer=$!
+begun=$(date +%s)
+"$program" <"$work/pipe" >"$work/got"
+took=$(($(date +%s) - begun))
+kill "$writer" 2>/dev/null || :
+echo "refused 8" >"$work/wanted"
+same "a writer that does not close" "$work/wanted" "$work/got"
+equal "a writer that does not close: not waited for" yes "$([ "$took" -lt 4 ] && echo yes || echo "$took s")"
+
+# output that cannot be written: a word on standard error
+if [ -w /dev/full ]; then
+    "$program" <examples/A.job >/dev/full 2>"$work/said" || :
+    echo "strips: the listing cannot be written" >"$work/wanted"
+    same "a full device: said so" "$work/wanted" "$work/said"
+else
+    echo "tests/strips.sh: SKIPPED a full device, which is not here"
+fi
+"$program" <&- >"$work/got" 2>"$work/said" || :
+: >"$work/wanted"
+same "standard input closed: nothing is listed" "$work/wanted" "$work/got"
+echo "strips: standard input cannot be read" >"$work/wanted"
+same "standard input closed: said so" "$work/wanted" "$work/said"
 
 # input that cannot be read: nothing on standard output, a word on standard error
 "$program" <. >"$work/got" 2>"$work/said" || :

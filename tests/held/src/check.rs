@@ -1,129 +1,181 @@
 //! One call of the planner, compared whole with what the solver expects.
 
-use crate::guard::{self, Arena};
+use crate::answers::{self, After, Solved};
+use crate::guard;
 use crate::job::{self, Job, Plan};
-use crate::planner;
+use crate::lent::Lent;
+use crate::planner::{self, At, Call, Slot};
 use crate::rng::Rng;
 
-/// Bytes watched on each side of a lent buffer, besides the forbidden pages.
-const MARGIN: usize = 96;
+/// Room of one lent list.
+const ROOM: usize = 4 << 20;
 
-/// What the call must give.
-pub type Expected<'a> = Result<&'a Plan, u32>;
+/// The most failures that are printed.
+const SHOWN: u64 = 5;
 
 pub struct Check {
-    jobs: Arena,
-    plans: Arena,
+    desk: Vec<Lent>,
     pub rng: Rng,
     pub calls: u64,
     pub jobs_seen: u64,
     pub failures: u64,
-    pub by_code: [u64; 12],
+    /// Stop at the first failure.
+    pub hasty: bool,
+    /// The part of the test that runs.
+    pub part: &'static str,
+    /// How often each call gave each number.
+    seen: [[u64; 13]; 9],
+    pub fits: u64,
 }
 
-pub fn describe(file: &[u8], method: u32, plan_len: usize) -> String {
-    let mut text = format!("  method {}, plan of {} bytes, job file of {} bytes", method, plan_len, file.len());
-    match job::read(file, 1, usize::MAX) {
-        Ok(j) => text += &format!("\n  {} machines, speeds {:?}\n  {} tiles, weights {:?}", j.speeds.len(), j.speeds, j.weights.len(), j.weights),
-        Err(_) => {
-            text += "\n  records";
-            for r in file.chunks(8).take(4096) {
-                text += " ";
-                for b in r {
-                    text += &format!("{:02x}", b);
-                }
-            }
-        }
+/// The calls, the name of each, and the numbers that it can give.
+pub const KINDS: [(&str, &[u32]); 9] = [
+    ("testing", &[0, 5, 6, 7, 8]),
+    ("reading", &[0, 2, 3, 4, 5, 6, 7, 8, 9]),
+    ("writing", &[0, 5, 6, 7, 8, 9]),
+    ("measuring", &[0, 5, 6, 7, 8, 9, 11]),
+    ("trial", &[0, 5, 6, 7, 8, 9, 10]),
+    ("quick plan", &[0, 5, 6, 7, 8, 9]),
+    ("plan", &[0, 1, 5, 6, 7, 8, 9]),
+    ("plan file", &[0, 5, 6, 7, 8, 9, 11]),
+    ("C call", &[0, 1, 2, 3, 4, 5, 6, 7, 8, 9]),
+];
+
+fn kind(call: Call) -> usize {
+    match call {
+        Call::Test => 0,
+        Call::Read => 1,
+        Call::Write => 2,
+        Call::Measure => 3,
+        Call::Trial { .. } => 4,
+        Call::Quick => 5,
+        Call::Plan { .. } => 6,
+        Call::PlanFile => 7,
+        Call::Host { .. } => 8,
+    }
+}
+
+/// The job of a file where it is one, else its records.
+fn describe_file(file: &[u8]) -> String {
+    if let Ok(j) = job::read(file, 1, usize::MAX) {
+        return format!("{} machines, speeds {:?}\n  {} tiles, weights {:?}", j.speeds.len(), j.speeds, j.weights.len(), j.weights);
+    }
+    let records: Vec<String> = file.chunks(8).take(4096).map(|r| r.iter().map(|b| format!("{:02x}", b)).collect()).collect();
+    format!("{} bytes, records {}", file.len(), records.join(" "))
+}
+
+/// A call with its lists, for a failure's message.
+pub fn describe(call: Call, lists: &[&[u8]]) -> String {
+    let mut text = format!("  {:?}", call);
+    for (slot, list) in call.slots().iter().zip(lists) {
+        text += &match slot {
+            Slot::File if !matches!(call, Call::Write) => format!("\n  file: {}", describe_file(list)),
+            Slot::Speeds | Slot::Weights if call == Call::Read => format!("\n  {:?}: {} entries", slot, list.len() / 4),
+            Slot::Speeds | Slot::Weights | Slot::Separators => format!("\n  {:?}: {} entries {:?}", slot, list.len() / 4, answers::words(list)),
+            _ => format!("\n  {:?}: {} entries", slot, list.len() / slot.width()),
+        };
     }
     text
+}
+
+/// Entries of a list as numbers, as far as a person wants to read them.
+fn entries(slot: Slot, list: &[u8]) -> Vec<u64> {
+    let width = if slot == Slot::Plan { 4 } else { slot.width() };
+    let number = |b: &[u8]| b.iter().rev().fold(0u64, |n, &x| n << 8 | x as u64);
+    list.chunks(width).take(400).map(number).collect()
 }
 
 impl Check {
     pub fn new(seed: u64) -> Check {
         Check {
-            jobs: Arena::new(4 << 20),
-            plans: Arena::new(64 << 10),
+            desk: (0..5).map(|_| Lent::new(ROOM)).collect(),
             rng: Rng::new(seed),
             calls: 0,
             jobs_seen: 0,
             failures: 0,
-            by_code: [0; 12],
+            hasty: false,
+            part: "",
+            seen: [[0; 13]; 9],
+            fits: 0,
         }
     }
 
     pub fn fail(&mut self, what: &str, job: String) {
         self.failures += 1;
-        if self.failures <= 5 {
+        if self.failures <= SHOWN {
             eprintln!("FAILED: {}\n{}", what, job);
         }
-    }
-
-    /// Where a buffer lies in an arena: against its end, against its start, or at any place.
-    fn place(&mut self, len: usize, room: usize) -> usize {
-        assert!(len + 64 <= room);
-        match self.rng.below(4) {
-            0 => 0,
-            1 => (64 + self.rng.below(33)).min(room - len),
-            _ => room - len,
+        if self.hasty {
+            guard::end_early(self.part);
         }
     }
 
-    /// Makes the call and compares: the number, every byte of the plan buffer and around it, and the job file.
-    pub fn call(&mut self, file: &[u8], method: u32, plan_len: usize, expected: Expected) {
+    /// Makes the call and compares: the number, and every byte of every list and around it.
+    pub fn ask(&mut self, call: Call, given: &[&[u8]], wanted: &Result<Vec<After>, u32>) {
         self.calls += 1;
-        let (room_j, room_p) = (self.jobs.len, self.plans.len);
-        let at_j = self.place(file.len(), room_j);
-        let at_p = self.place(plan_len, room_p);
-        // The bytes around and in the plan buffer get a pattern, fresh for each call.
-        let (from, to) = (at_p.saturating_sub(MARGIN), (at_p + plan_len + MARGIN).min(room_p));
-        let mut before = Vec::with_capacity(to - from + 8);
-        while before.len() < to - from {
-            before.extend_from_slice(&self.rng.next().to_le_bytes());
+        let slots = call.slots();
+        assert_eq!(slots.len(), given.len());
+        let mut at: [At; 5] = [(std::ptr::null_mut(), 0); 5];
+        for (k, slot) in slots.iter().enumerate() {
+            self.desk[k].lend(&mut self.rng, given[k], slot.width());
+            at[k] = (self.desk[k].place(), given[k].len() / slot.width());
         }
-        before.truncate(to - from);
-        self.plans.bytes()[from..to].copy_from_slice(&before);
-        self.jobs.bytes()[at_j..at_j + file.len()].copy_from_slice(file);
-
-        let job_at = unsafe { self.jobs.start.add(at_j) };
-        let plan_at = unsafe { self.plans.start.add(at_p) };
-        guard::note(job_at, file.len(), method, plan_len);
-        let code = unsafe { planner::call(job_at, file.len(), method, plan_at, plan_len) };
+        let at = &at[..slots.len()];
+        guard::note(call, at);
+        let code = unsafe { planner::call(call, at) };
         guard::done();
-        self.by_code[(code as usize).min(11)] += 1;
-
-        let after = self.plans.bytes()[from..to].to_vec();
-        let job_after_same = &self.jobs.bytes()[at_j..at_j + file.len()] == file;
-        let wanted_code = expected.err().unwrap_or(0);
-        if code != wanted_code {
-            self.fail(&format!("answer {} instead of {}", code, wanted_code), describe(file, method, plan_len));
+        self.seen[kind(call)][(code as usize).min(12)] += 1;
+        let number = wanted.as_ref().err().copied().unwrap_or(0);
+        if code != number {
+            self.fail(&format!("answer {} instead of {}", code, number), describe(call, given));
             return;
         }
-        if !job_after_same {
-            self.fail("the job file was changed", describe(file, method, plan_len));
-        }
-        let mut wanted = before;
-        if let Ok(plan) = expected {
-            let start = at_p - from;
-            let got = job::decode(&after[start..start + 16 * plan.len()]);
-            let column = |plan: &Plan, k: usize| plan.iter().map(|r| r[k]).collect::<Vec<_>>();
-            for (k, name) in ["separators before", "separators after", "loads", "speeds"].iter().enumerate() {
-                if column(&got, k) != column(plan, k) {
-                    let what = format!("{} {:?} instead of {:?}", name, column(&got, k), column(plan, k));
-                    self.fail(&what, describe(file, method, plan_len));
-                    return;
-                }
+        for (k, &slot) in slots.iter().enumerate() {
+            let stays = After::default();
+            let after = wanted.as_ref().map_or(&stays, |all| &all[k]);
+            if let Some(place) = self.desk[k].wrong(&after.front, after.free) {
+                self.report(k, slot, place, &after.front, describe(call, given));
+                return;
             }
-            let bytes = job::encode(plan);
-            wanted[start..start + bytes.len()].copy_from_slice(&bytes);
-        }
-        if after != wanted {
-            let k = (0..wanted.len()).find(|&k| after[k] != wanted[k]).unwrap();
-            let place = (from + k) as i64 - at_p as i64;
-            self.fail(&format!("byte {} of the plan buffer was changed", place), describe(file, method, plan_len));
         }
     }
 
-    /// An accepted job by each method: exact, longer and shorter plan buffers.
+    /// A list that is not as it must be.
+    fn report(&mut self, k: usize, slot: Slot, place: i64, front: &[u8], job: String) {
+        let len = front.len();
+        let got = entries(slot, &self.desk[k].now()[..len]);
+        let what = if place >= 0 && (place as usize) < len {
+            format!("{:?} {:?} instead of {:?}", slot, got, entries(slot, front))
+        } else {
+            format!("{:?}: byte {} was changed", slot, place)
+        };
+        self.fail(&what, job);
+    }
+
+    /// Asks what the rules expect, then the planner.
+    pub fn judge(&mut self, call: Call, given: &[&[u8]], solved: Option<&Solved>) {
+        let wanted = answers::expected(call, given, solved);
+        self.ask(call, given, &wanted);
+    }
+
+    /// A judged call whose number is also known by a rule of the test.
+    pub fn refuse(&mut self, call: Call, given: &[&[u8]], number: u32) {
+        let wanted = answers::expected(call, given, None);
+        let said = wanted.as_ref().err().copied().unwrap_or(0);
+        if said != number {
+            self.fail(&format!("the solver's reader says {}, the rule {}", said, number), describe(call, given));
+        }
+        self.ask(call, given, &wanted);
+    }
+
+    /// The C call: the plan or the number is known.
+    pub fn call(&mut self, file: &[u8], method: u32, plan_len: usize, expected: Result<&Plan, u32>) {
+        let wanted = expected.map(|plan| vec![After::default(), After { front: job::encode(plan), free: 0 }]);
+        let plan = self.rng.pattern(plan_len);
+        self.ask(Call::Host { method }, &[file, &plan], &wanted);
+    }
+
+    /// An accepted job by each method of the C call: exact, longer and shorter plan buffers.
     pub fn accepted(&mut self, job: &Job, separators: &[usize]) {
         self.jobs_seen += 1;
         let plan = job::plan_of(job, separators);
@@ -138,5 +190,16 @@ impl Check {
             let shorter = if self.rng.once_in(2) { exact - 1 } else { self.rng.below(exact) };
             self.call(&file, method, shorter, Err(9));
         }
+    }
+
+    /// The answers that never came up: a run without them would be no test of them.
+    pub fn unseen(&self) -> Vec<String> {
+        let mut list = Vec::new();
+        for (k, (name, numbers)) in KINDS.iter().enumerate() {
+            for &n in numbers.iter().filter(|&&n| self.seen[k][n as usize] == 0) {
+                list.push(format!("{} {}", name, n));
+            }
+        }
+        list
     }
 }

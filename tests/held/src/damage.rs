@@ -1,20 +1,24 @@
 //! Random bytes and damaged files; the expected answer comes from the solver's own reader.
 
 use crate::check::Check;
-use crate::job::{self, machine, tile, Job, Record};
-use crate::{fast, slow, small};
+use crate::job::{machine, tile, Job, Record};
+use crate::planner::Call;
+use crate::{every, small};
 
-/// Asks the reader, then the solver, then the planner.
+/// Whether every division of the job can be tried.
+pub fn is_tiny(job: &Job) -> bool {
+    job.speeds.len() <= 4 && job.weights.len() <= 9
+}
+
+/// The C call and reading, with lists of any length.
 fn judge(c: &mut Check, file: &[u8], method: u32, plan_len: usize) {
     c.jobs_seen += 1;
-    match job::read(file, method, plan_len) {
-        Err(number) => c.call(file, method, plan_len, Err(number)),
-        Ok(job) => {
-            let tiny = job.speeds.len() <= 4 && job.weights.len() <= 8;
-            let separators = if tiny { slow::solve(&job).0 } else { fast::solve(&job).0 };
-            c.call(file, method, plan_len, Ok(&job::plan_of(&job, &separators)));
-        }
-    }
+    let plan = c.rng.pattern(plan_len);
+    c.judge(Call::Host { method }, &[file, &plan], None);
+    let records = file.len() / 8;
+    let (e, w) = (c.rng.below(records + 3), c.rng.below(records + 3));
+    let (e, w) = if c.rng.once_in(3) { (records, records) } else { (e, w) };
+    every::read_into(c, file, e, w);
 }
 
 fn some_method(c: &mut Check) -> u32 {
@@ -33,94 +37,107 @@ fn some_room(c: &mut Check, machines: usize) -> usize {
     }
 }
 
-fn random_bytes(c: &mut Check, times: usize) {
-    for _ in 0..60_000 * times {
-        let len = if c.rng.once_in(3) { c.rng.below(200) } else { 8 * c.rng.below(25) };
-        // All bytes, or few, so that some records are good.
-        let few = c.rng.below(4);
-        let file: Vec<u8> = (0..len)
-            .map(|k| match few {
-                0 => c.rng.next() as u8,
-                1 => c.rng.pick(&[0, 1, 2]),
-                _ if k % 8 == 0 => c.rng.range(1, 2) as u8,
-                _ if k % 8 == 4 => c.rng.range(0, 255) as u8,
-                _ => c.rng.once_in(300) as u8,
-            })
-            .collect();
-        let method = some_method(c);
-        let room = some_room(c, 25);
-        judge(c, &file, method, room);
-    }
+fn random_bytes(c: &mut Check) {
+    let len = if c.rng.once_in(3) { c.rng.below(200) } else { 8 * c.rng.below(25) };
+    // All bytes, or few, so that some records are good.
+    let few = c.rng.below(4);
+    let file: Vec<u8> = (0..len)
+        .map(|k| match few {
+            0 => c.rng.next() as u8,
+            1 => c.rng.pick(&[0, 1, 2]),
+            _ if k % 8 == 0 => c.rng.range(1, 2) as u8,
+            _ if k % 8 == 4 => c.rng.range(0, 255) as u8,
+            _ => c.rng.once_in(300) as u8,
+        })
+        .collect();
+    let method = some_method(c);
+    let room = some_room(c, 25);
+    judge(c, &file, method, room);
 }
 
 /// Records of good kinds with values at the edges.
-fn random_records(c: &mut Check, times: usize) {
-    for _ in 0..60_000 * times {
-        let (machines, tiles) = (c.rng.below(5), c.rng.below(9));
-        let rare = 2 + c.rng.below(40);
-        let mut records: Vec<Record> = Vec::new();
-        for _ in 0..machines {
-            let bad = c.rng.once_in(rare);
-            let v = if bad { c.rng.pick(&[0, 10_001, 1_000_000, u32::MAX]) } else { c.rng.pick(&[1, 2, 9_999, 10_000]) };
-            records.push(machine(v));
+fn random_records(c: &mut Check) {
+    let (machines, tiles) = (c.rng.below(5), c.rng.below(9));
+    let rare = 2 + c.rng.below(40);
+    let mut records: Vec<Record> = Vec::new();
+    for _ in 0..machines {
+        let bad = c.rng.once_in(rare);
+        let v = if bad { c.rng.pick(&[0, 10_001, 1_000_000, u32::MAX]) } else { c.rng.pick(&[1, 2, 9_999, 10_000]) };
+        records.push(machine(v));
+    }
+    for _ in 0..tiles {
+        let bad = c.rng.once_in(rare);
+        let v = if bad { c.rng.pick(&[1_000_001, 1_048_576, u32::MAX]) } else { c.rng.pick(&[0, 1, 999_999, 1_000_000]) };
+        records.push(if c.rng.once_in(4 * rare) { machine(v) } else { tile(v) });
+    }
+    let method = some_method(c);
+    let room = some_room(c, machines);
+    judge(c, &records.concat(), method, room);
+}
+
+/// A bit flipped, a byte set, cut, lengthened, or records swapped, doubled or lost.
+pub fn spoil(c: &mut Check, file: &mut Vec<u8>) {
+    if file.len() < 8 {
+        return;
+    }
+    let at = c.rng.below(file.len());
+    let (i, j) = (8 * c.rng.below(file.len() / 8), 8 * c.rng.below(file.len() / 8));
+    match c.rng.below(8) {
+        0 | 1 => file[at] ^= 1 << c.rng.below(8),
+        2 => file[at] = c.rng.next() as u8,
+        3 => file.truncate(at),
+        4 => {
+            let extra = 1 + c.rng.below(16);
+            file.extend((0..extra).map(|k| (k % 8 == 0) as u8 * 2));
         }
-        for _ in 0..tiles {
-            let bad = c.rng.once_in(rare);
-            let v = if bad { c.rng.pick(&[1_000_001, 1_048_576, u32::MAX]) } else { c.rng.pick(&[0, 1, 999_999, 1_000_000]) };
-            records.push(if c.rng.once_in(4 * rare) { machine(v) } else { tile(v) });
+        5 => {
+            let (a, b): (Record, Record) = (file[i..i + 8].try_into().unwrap(), file[j..j + 8].try_into().unwrap());
+            file[i..i + 8].copy_from_slice(&b);
+            file[j..j + 8].copy_from_slice(&a);
         }
-        let method = some_method(c);
-        let room = some_room(c, machines);
-        judge(c, &records.concat(), method, room);
+        6 => {
+            let r: Record = file[i..i + 8].try_into().unwrap();
+            file.splice(j..j, r);
+        }
+        _ => {
+            file.drain(i..i + 8);
+        }
     }
 }
 
-/// A good file with a bit flipped, a byte set, cut, lengthened, or its records swapped, doubled or lost.
-fn damaged(c: &mut Check, rounds: usize, machines_max: usize, tiles_max: usize) {
-    for _ in 0..rounds {
-        let machines = 1 + c.rng.below(machines_max);
-        let tiles = c.rng.below(tiles_max + 1);
-        let speeds = small::speeds(&mut c.rng, machines);
-        let weights = small::weights(&mut c.rng, tiles, &speeds);
-        let mut file = Job { speeds, weights }.file();
-        for _ in 0..1 + c.rng.below(2) {
-            if file.len() < 8 {
-                break;
-            }
-            let at = c.rng.below(file.len());
-            let (i, j) = (8 * c.rng.below(file.len() / 8), 8 * c.rng.below(file.len() / 8));
-            match c.rng.below(8) {
-                0 | 1 => file[at] ^= 1 << c.rng.below(8),
-                2 => file[at] = c.rng.next() as u8,
-                3 => file.truncate(at),
-                4 => {
-                    let extra = 1 + c.rng.below(16);
-                    file.extend((0..extra).map(|k| (k % 8 == 0) as u8 * 2));
-                }
-                5 => {
-                    let (a, b): (Record, Record) = (file[i..i + 8].try_into().unwrap(), file[j..j + 8].try_into().unwrap());
-                    file[i..i + 8].copy_from_slice(&b);
-                    file[j..j + 8].copy_from_slice(&a);
-                }
-                6 => {
-                    let r: Record = file[i..i + 8].try_into().unwrap();
-                    file.splice(j..j, r);
-                }
-                _ => {
-                    file.drain(i..i + 8);
-                }
-            }
-        }
-        let method = some_method(c);
-        let room = some_room(c, machines);
-        judge(c, &file, method, room);
+/// A good file, spoilt once or twice.
+fn damaged(c: &mut Check, machines_max: usize, tiles_max: usize) {
+    let machines = 1 + c.rng.below(machines_max);
+    let tiles = c.rng.below(tiles_max + 1);
+    let speeds = small::speeds(&mut c.rng, machines);
+    let weights = small::weights(&mut c.rng, tiles, &speeds);
+    let mut file = Job { speeds, weights }.file();
+    for _ in 0..1 + c.rng.below(2) {
+        spoil(c, &mut file);
+    }
+    let method = some_method(c);
+    let room = some_room(c, machines);
+    judge(c, &file, method, room);
+}
+
+/// Any bad file.
+pub fn one(c: &mut Check) {
+    match c.rng.below(10) {
+        0..=2 => random_bytes(c),
+        3..=5 => random_records(c),
+        6 => damaged(c, 40, 200),
+        _ => damaged(c, 4, 8),
     }
 }
 
 pub fn run(c: &mut Check, times: usize) {
-    random_bytes(c, times);
-    random_records(c, times);
-    damaged(c, 100_000 * times, 4, 8);
-    damaged(c, 3_000 * times, 40, 200);
-    damaged(c, 600 * times, 258, 2_049);
+    for _ in 0..60_000 * times {
+        random_bytes(c);
+        random_records(c);
+    }
+    for (rounds, machines, tiles) in [(100_000, 4, 8), (3_000, 40, 200), (600, 258, 2_049)] {
+        for _ in 0..rounds * times {
+            damaged(c, machines, tiles);
+        }
+    }
 }

@@ -1,7 +1,10 @@
 //! Memory between two forbidden pages, and what is said when a call dies or hangs.
 
 use std::ffi::c_void;
-use std::sync::atomic::{AtomicPtr, AtomicU32, AtomicU64, AtomicUsize, Ordering::Relaxed};
+use std::sync::atomic::{AtomicU64, Ordering::Relaxed};
+use std::sync::Mutex;
+
+use crate::planner::{At, Call};
 
 extern "C" {
     fn mmap(at: *mut c_void, len: usize, prot: i32, flags: i32, fd: i32, offset: i64) -> *mut c_void;
@@ -36,10 +39,13 @@ impl Arena {
     }
 }
 
-static JOB: AtomicPtr<u8> = AtomicPtr::new(std::ptr::null_mut());
-static JOB_LEN: AtomicUsize = AtomicUsize::new(0);
-static METHOD: AtomicU32 = AtomicU32::new(0);
-static PLAN_LEN: AtomicUsize = AtomicUsize::new(0);
+/// The last call: its lists as addresses and entries.
+struct Last {
+    call: Call,
+    lists: [(usize, usize); 5],
+}
+
+static LAST: Mutex<Option<Last>> = Mutex::new(None);
 static SEED: AtomicU64 = AtomicU64::new(0);
 
 extern "C" fn on_signal(number: i32) {
@@ -56,11 +62,26 @@ extern "C" fn on_signal(number: i32) {
 
 /// Prints the last call and ends the run.
 fn end(name: &str, what: &str) -> ! {
-    let (at, len) = (JOB.load(Relaxed), JOB_LEN.load(Relaxed));
-    let job = if at.is_null() { &[][..] } else { unsafe { std::slice::from_raw_parts(at, len) } };
     eprintln!("FAILED: {}, the last call was:", what);
-    eprintln!("{}", crate::check::describe(job, METHOD.load(Relaxed), PLAN_LEN.load(Relaxed)));
+    if let Ok(Some(last)) = LAST.try_lock().as_deref() {
+        let slots = last.call.slots();
+        let lists: Vec<&[u8]> = slots.iter().zip(last.lists).map(|(s, (at, n))| list_at(at, n * s.width())).collect();
+        eprintln!("{}", crate::check::describe(last.call, &lists));
+    }
     println!("tests/held: FAILED, {}, seed {}", name, SEED.load(Relaxed));
+    unsafe { _exit(1) }
+}
+
+fn list_at(at: usize, bytes: usize) -> &'static [u8] {
+    if at == 0 {
+        return &[];
+    }
+    unsafe { std::slice::from_raw_parts(at as *const u8, bytes) }
+}
+
+/// Ends a run that is to stop at its first failure.
+pub fn end_early(part: &str) -> ! {
+    println!("tests/held: FAILED, at its first failure, among {}, seed {}", part, SEED.load(Relaxed));
     unsafe { _exit(1) }
 }
 
@@ -73,11 +94,12 @@ pub fn watch(seed: u64) {
 }
 
 /// Notes the call about to be made, and gives it a minute.
-pub fn note(job: *const u8, job_len: usize, method: u32, plan_len: usize) {
-    JOB.store(job as *mut u8, Relaxed);
-    JOB_LEN.store(job_len, Relaxed);
-    METHOD.store(method, Relaxed);
-    PLAN_LEN.store(plan_len, Relaxed);
+pub fn note(call: Call, at: &[At]) {
+    let mut lists = [(0, 0); 5];
+    for (to, from) in lists.iter_mut().zip(at) {
+        *to = (from.0 as usize, from.1);
+    }
+    *LAST.lock().unwrap() = Some(Last { call, lists });
     unsafe { alarm(60) };
 }
 

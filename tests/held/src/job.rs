@@ -38,6 +38,30 @@ impl Job {
     }
 }
 
+impl Job {
+    /// The tests of one record in their order; a good one is added.
+    fn take(&mut self, r: &[u8]) -> Result<(), u32> {
+        let value = u32::from_le_bytes([r[4], r[5], r[6], r[7]]);
+        let is_machine = r[0] == 1;
+        let is_tile = r[0] == 2;
+        if !(is_machine || is_tile) || r[1] != 0 || r[2] != 0 || r[3] != 0 {
+            return Err(3);
+        }
+        if is_machine && !self.weights.is_empty() {
+            return Err(4);
+        }
+        if is_machine && (value < 1 || value > 10_000) {
+            return Err(5);
+        }
+        if is_tile && value > 1_000_000 {
+            return Err(6);
+        }
+        let list = if is_machine { &mut self.speeds } else { &mut self.weights };
+        list.push(value);
+        Ok(())
+    }
+}
+
 /// The tests of the C call in their order: the job, or the number of the refusal.
 pub fn read(file: &[u8], method: u32, plan_len: usize) -> Result<Job, u32> {
     if method != 1 && method != 2 && method != 3 {
@@ -48,26 +72,7 @@ pub fn read(file: &[u8], method: u32, plan_len: usize) -> Result<Job, u32> {
     }
     let mut job = Job { speeds: Vec::new(), weights: Vec::new() };
     for r in file.chunks(8) {
-        let value = u32::from_le_bytes([r[4], r[5], r[6], r[7]]);
-        let is_machine = r[0] == 1;
-        let is_tile = r[0] == 2;
-        if !(is_machine || is_tile) || r[1] != 0 || r[2] != 0 || r[3] != 0 {
-            return Err(3);
-        }
-        if is_machine && !job.weights.is_empty() {
-            return Err(4);
-        }
-        if is_machine && (value < 1 || value > 10_000) {
-            return Err(5);
-        }
-        if is_tile && value > 1_000_000 {
-            return Err(6);
-        }
-        if is_machine {
-            job.speeds.push(value);
-        } else {
-            job.weights.push(value);
-        }
+        job.take(r)?;
     }
     if job.speeds.is_empty() || job.speeds.len() > 256 {
         return Err(7);

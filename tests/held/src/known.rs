@@ -1,34 +1,86 @@
 //! The jobs A to E and the edge lines of document 01, with the values written there.
 
+use crate::answers::{bytes_of, After, Solved};
 use crate::check::Check;
 use crate::job::{self, machine, tile, Job, Record};
-use crate::{fast, slow};
+use crate::planner::Call;
+use crate::slow::Bound;
+use crate::{every, fast, methods};
 
-type Known = (&'static str, &'static [u32], &'static [u32], &'static [usize], (u128, u128));
+/// A job of the document with all that is written there: of each method count and allowance, where given.
+struct Known {
+    name: &'static str,
+    weights: &'static [u32],
+    speeds: &'static [u32],
+    separators: &'static [usize],
+    bottleneck: Bound,
+    counts: [u64; 3],
+    allowances: Option<[u64; 3]>,
+    imbalance: Option<u64>,
+}
 
-/// Name, weights, speeds, separators, bottleneck.
+#[rustfmt::skip]
 const JOBS: [Known; 5] = [
-    ("A", &[1, 3, 8], &[1, 3], &[0, 1, 3], (11, 3)),
-    ("B", &[4, 3, 2, 6, 1], &[1, 2], &[0, 1, 5], (12, 2)),
-    ("C", &[], &[7, 2], &[0, 0, 0], (0, 7)),
-    ("D", &[0, 0], &[1, 1], &[0, 2, 2], (0, 1)),
-    ("E", &[6], &[1, 1], &[0, 1, 1], (6, 1)),
+    Known { name: "A", weights: &[1, 3, 8], speeds: &[1, 3], separators: &[0, 1, 3], bottleneck: (11, 3), counts: [2, 2, 2], allowances: Some([3, 4, 8]), imbalance: Some(222) },
+    Known { name: "B", weights: &[4, 3, 2, 6, 1], speeds: &[1, 2], separators: &[0, 1, 5], bottleneck: (12, 2), counts: [2, 2, 1], allowances: Some([5, 6, 6]), imbalance: Some(125) },
+    Known { name: "C", weights: &[], speeds: &[7, 2], separators: &[0, 0, 0], bottleneck: (0, 7), counts: [0, 1, 1], allowances: None, imbalance: Some(0) },
+    Known { name: "D", weights: &[0, 0], speeds: &[1, 1], separators: &[0, 2, 2], bottleneck: (0, 1), counts: [0, 1, 1], allowances: None, imbalance: Some(0) },
+    Known { name: "E", weights: &[6], speeds: &[1, 1], separators: &[0, 1, 1], bottleneck: (6, 1), counts: [1, 2, 1], allowances: None, imbalance: None },
 ];
 
-pub fn run(c: &mut Check) {
-    for (name, weights, speeds, separators, bottleneck) in JOBS {
-        let job = Job::new(speeds, weights);
-        for (which, (s, b)) in [("slow", slow::solve(&job)), ("fast", fast::solve(&job))] {
-            if s != separators || b != bottleneck {
-                c.fail(&format!("the {} solver gives {:?} {:?} for job {}", which, s, b, name), format!("  {:?}", job));
-            }
-        }
-        for _ in 0..20 {
-            c.accepted(&job, separators);
-        }
+/// The solver must give what the document says, then the planner what the solver gives.
+fn marked(c: &mut Check, k: &Known) {
+    let job = Job::new(k.speeds, k.weights);
+    let solved = Solved::of(&job);
+    let mut good = solved.best == k.separators && solved.bottleneck == k.bottleneck && solved.counts == k.counts;
+    good &= fast::solve(&job) == (k.separators.to_vec(), k.bottleneck) && methods::moves_by_walks(&job) == k.counts[0];
+    if let Some(list) = k.allowances {
+        good &= (1..=3).all(|m| methods::allowance(&job, m) == list[m as usize - 1]);
     }
+    if let Some(i) = k.imbalance {
+        good &= methods::imbalance(&job, k.bottleneck) == i;
+    }
+    if !good {
+        c.fail(&format!("the solver gives {:?} for job {}", solved, k.name), String::new());
+    }
+    for _ in 0..20 {
+        every::job(c, &solved, true);
+    }
+}
 
-    // A and D byte by byte.
+/// Number, separators and answer of a call on job A, as the document writes them.
+fn on_a(c: &mut Check, call: Call, separators: [u32; 3], wanted: Result<([u32; 3], &[u64]), u32>) {
+    let (e, w, s) = (bytes_of(&[1, 3]), bytes_of(&[1, 3, 8]), bytes_of(&separators));
+    let answer = [0xEE; 24];
+    let wanted = wanted.map(|(after, numbers)| {
+        let said: Vec<u8> = numbers.iter().flat_map(|n| n.to_le_bytes()).collect();
+        let list = |front: Vec<u8>| After { front, free: 0 };
+        vec![After::default(), After::default(), list(bytes_of(&after)), list(said)]
+    });
+    c.ask(call, &[&e, &w, &s, &answer], &wanted);
+}
+
+fn lines_of_a(c: &mut Check) {
+    let lent = [9, 8, 7];
+    on_a(c, Call::Trial { load: 3, speed: 1 }, lent, Ok((lent, &[0, 11, 3])));
+    on_a(c, Call::Trial { load: 11, speed: 3 }, lent, Ok(([0, 1, 3], &[1])));
+    on_a(c, Call::Trial { load: 23, speed: 6 }, lent, Ok(([0, 1, 3], &[1])));
+    on_a(c, Call::Quick, lent, Ok(([0, 2, 3], &[4, 1])));
+    on_a(c, Call::Measure, [0, 3, 3], Ok(([0, 3, 3], &[12, 1])));
+    on_a(c, Call::Measure, [0, 2, 2], Err(11));
+}
+
+pub fn run(c: &mut Check) {
+    for k in &JOBS {
+        marked(c, k);
+    }
+    lines_of_a(c);
+    files_of_a_and_d(c);
+    edges(c);
+}
+
+/// A and D byte by byte.
+fn files_of_a_and_d(c: &mut Check) {
     let a: [u8; 32] = [
         0, 0, 0, 0, 1, 0, 0, 0, 1, 0, 0, 0, 1, 0, 0, 0, //
         1, 0, 0, 0, 3, 0, 0, 0, 11, 0, 0, 0, 3, 0, 0, 0,
@@ -49,7 +101,10 @@ pub fn run(c: &mut Check) {
         c.call(&a_file, method, 32, Ok(&job::decode(&a)));
         c.call(&d_file, method, 32, Ok(&job::decode(&d)));
     }
+}
 
+/// The limits, and what lies just past them.
+fn edges(c: &mut Check) {
     // Speeds: 10,000 passes; 0 and 10,001 give 5. Weights: 1,000,000 passes, 1,000,001 gives 6.
     c.accepted(&Job::new(&[10_000], &[5]), &[0, 1]);
     c.accepted(&Job::new(&[1], &[5]), &[0, 1]);
@@ -96,4 +151,6 @@ fn single(c: &mut Check, records: &[Record], number: u32) {
             c.call(&file, method, plan_len, Err(number));
         }
     }
+    let (e, w, answer) = (c.rng.pattern(4 * records.len()), c.rng.pattern(4 * records.len()), c.rng.pattern(16));
+    c.refuse(Call::Read, &[&file, &e, &w, &answer], number);
 }

@@ -1,33 +1,47 @@
 //! Middle-sized and large jobs against the fast reference.
 
+use crate::answers::Solved;
 use crate::check::Check;
 use crate::job::Job;
-use crate::{fast, guard, job, planner, small};
+use crate::planner::{self, Call};
+use crate::rng::Rng;
+use crate::{every, fast, guard, job, small};
 
 fn one(c: &mut Check, job: &Job) {
-    let (separators, _) = fast::solve(job);
-    c.accepted(job, &separators);
+    every::job(c, &Solved::of(job), false);
 }
 
 const N: usize = 2_048;
 const P: usize = 256;
 
+/// A middle-sized job of any style.
+pub fn middle(c: &mut Check) {
+    let (machines, tiles) = (1 + c.rng.below(24), c.rng.below(120));
+    sized(c, machines, tiles);
+}
+
+/// Any size up to the limits, often the limits themselves.
+pub fn any_size(c: &mut Check) {
+    let machines = if c.rng.once_in(3) { P } else { 1 + c.rng.below(P) };
+    let tiles = if c.rng.once_in(3) { N } else { c.rng.below(N + 1) };
+    sized(c, machines, tiles);
+}
+
+fn sized(c: &mut Check, machines: usize, tiles: usize) {
+    let speeds = small::speeds(&mut c.rng, machines);
+    let weights = small::weights(&mut c.rng, tiles, &speeds);
+    one(c, &Job { speeds, weights });
+}
+
 pub fn run(c: &mut Check, times: usize) {
-    // Middle-sized ones, of every style.
     for _ in 0..4_000 * times {
-        let machines = 1 + c.rng.below(24);
-        let tiles = c.rng.below(120);
-        let speeds = small::speeds(&mut c.rng, machines);
-        let weights = small::weights(&mut c.rng, tiles, &speeds);
-        one(c, &Job { speeds, weights });
+        middle(c);
     }
-    // Any size up to the limits.
-    for k in 0..120 * times {
-        let machines = if k % 3 == 0 { P } else { 1 + c.rng.below(P) };
-        let tiles = if k % 3 == 0 { N } else { c.rng.below(N + 1) };
-        let speeds = small::speeds(&mut c.rng, machines);
-        let weights = small::weights(&mut c.rng, tiles, &speeds);
-        one(c, &Job { speeds, weights });
+    for _ in 0..1_000 * times {
+        any_size(c);
+    }
+    for _ in 0..200 * times {
+        sized(c, P, N);
     }
     // Two machines, bounds as near as they can be.
     for _ in 0..300 * times {
@@ -43,45 +57,44 @@ pub fn run(c: &mut Check, times: usize) {
 
 /// Rows and machines of a special shape, each with each.
 fn shapes(c: &mut Check) -> Vec<Job> {
-    let r = &mut c.rng;
-    let mut only_first = vec![1; P];
-    only_first[0] = 10_000;
-    let mut only_last = vec![1; P];
-    only_last[P - 1] = 10_000;
-    let mut slow_first = vec![10_000; P];
-    slow_first[0] = 1;
-    let mut slow_last = vec![10_000; P];
-    slow_last[P - 1] = 1;
-    let speeds: Vec<Vec<u32>> = vec![
+    let (speeds, weights) = (speed_shapes(&mut c.rng), weight_shapes(&mut c.rng));
+    speeds.iter().flat_map(|s| weights.iter().map(move |w| Job::new(s, w))).collect()
+}
+
+/// The same everywhere but at one place.
+fn but_one<const LEN: usize>(at: usize, there: u32, elsewhere: u32) -> Vec<u32> {
+    (0..LEN).map(|k| if k == at { there } else { elsewhere }).collect()
+}
+
+fn speed_shapes(r: &mut Rng) -> Vec<Vec<u32>> {
+    vec![
         vec![1; P],
         vec![10_000; P],
         (0..P).map(|_| r.range(1, 10_000)).collect(),
         (0..P).map(|p| if p % 2 == 0 { 1 } else { 10_000 }).collect(),
-        only_first,
-        only_last,
-        slow_first,
-        slow_last,
+        but_one::<P>(0, 10_000, 1),
+        but_one::<P>(P - 1, 10_000, 1),
+        but_one::<P>(0, 1, 10_000),
+        but_one::<P>(P - 1, 1, 10_000),
         vec![1],
         vec![10_000],
         vec![1, 10_000],
         vec![10_000, 1],
         (0..P).map(|p| 9_745 + p as u32).collect(),
-    ];
-    let huge = |at: usize, other: u32| {
-        let mut w = vec![other; N];
-        w[at] = 1_000_000;
-        w
-    };
-    let weights: Vec<Vec<u32>> = vec![
+    ]
+}
+
+fn weight_shapes(r: &mut Rng) -> Vec<Vec<u32>> {
+    vec![
         vec![0; N],
         vec![1; N],
         vec![1_000_000; N],
         (0..N).map(|_| r.range(0, 1_000_000)).collect(),
         (0..N).map(|_| r.range(0, 1)).collect(),
-        huge(0, 0),
-        huge(N - 1, 0),
-        huge(N / 2, 0),
-        huge(N / 2, 1),
+        but_one::<N>(0, 1_000_000, 0),
+        but_one::<N>(N - 1, 1_000_000, 0),
+        but_one::<N>(N / 2, 1_000_000, 0),
+        but_one::<N>(N / 2, 1_000_000, 1),
         (0..N as u32).collect(),
         (0..N as u32).rev().collect(),
         (0..N).map(|k| if k % 97 == 0 { 1_000_000 } else { 0 }).collect(),
@@ -91,14 +104,7 @@ fn shapes(c: &mut Check) -> Vec<Job> {
         (0..100).map(|_| r.range(0, 1_000_000)).collect(),
         vec![7; 255],
         vec![999_983; 257],
-    ];
-    let mut jobs = Vec::new();
-    for s in &speeds {
-        for w in &weights {
-            jobs.push(Job::new(s, w));
-        }
-    }
-    jobs
+    ]
 }
 
 /// Several threads at once, each with a small stack, as the header allows.
@@ -113,7 +119,7 @@ fn threads(c: &mut Check) {
         })
         .collect();
     c.jobs_seen += list.len() as u64;
-    guard::note(list[0].0.as_ptr(), list[0].0.len(), 0, 4_096);
+    guard::note(Call::Host { method: 1 }, &[(list[0].0.as_ptr() as *mut u8, list[0].0.len()), (std::ptr::null_mut(), 0)]);
     let good = std::thread::scope(|scope| {
         let running: Vec<_> = list
             .iter()
@@ -121,7 +127,8 @@ fn threads(c: &mut Check) {
                 let work = move || {
                     (0..6u32).all(|k| {
                         let mut plan = vec![0xA5u8; 16 * P];
-                        let code = unsafe { planner::call(file.as_ptr(), file.len(), 1 + k % 3, plan.as_mut_ptr(), plan.len()) };
+                        let at = [(file.as_ptr() as *mut u8, file.len()), (plan.as_mut_ptr(), plan.len())];
+                        let code = unsafe { planner::call(Call::Host { method: 1 + k % 3 }, &at) };
                         code == 0 && &plan == wanted
                     })
                 };
@@ -134,7 +141,7 @@ fn threads(c: &mut Check) {
     c.calls += 6 * list.len() as u64;
     for (k, ok) in good.iter().enumerate() {
         if !ok {
-            c.fail("a wrong plan from several threads at once", crate::check::describe(&list[k].0, 0, 4_096));
+            c.fail("a wrong plan from several threads at once", crate::check::describe(Call::Host { method: 0 }, &[&list[k].0, &[]]));
         }
     }
 }

@@ -1,12 +1,22 @@
-//! An independent test of the planner's C call. HELD_SEED sets the seed, HELD_TIMES multiplies the random part.
+//! An independent test of every call of the planner. HELD_SEED sets the seed, HELD_TIMES multiplies the random part,
+//! HELD_LONG asks for so many random jobs in place of the whole test.
 
+mod answers;
 mod check;
 mod damage;
+mod every;
+#[cfg(feature = "faults")]
+mod faults;
 mod fast;
 mod guard;
 mod job;
 mod known;
 mod large;
+mod lent;
+mod listing;
+mod lists;
+mod long;
+mod methods;
 mod planner;
 mod refusals;
 mod rng;
@@ -14,6 +24,8 @@ mod slow;
 mod small;
 
 use std::time::Instant;
+
+use check::Check;
 
 fn number(name: &str, otherwise: u64) -> u64 {
     match std::env::var(name) {
@@ -25,41 +37,51 @@ fn number(name: &str, otherwise: u64) -> u64 {
     }
 }
 
-fn main() {
-    let seed = number("HELD_SEED", 1);
+/// The whole test, part by part.
+fn whole(c: &mut Check) {
     let times = number("HELD_TIMES", 1) as usize;
     let talk = number("HELD_TALK", 0) != 0;
-    let start = Instant::now();
-    guard::watch(seed);
-    let mut c = check::Check::new(seed);
-    let parts: [(&str, &dyn Fn(&mut check::Check)); 5] = [
+    let parts: [(&'static str, &dyn Fn(&mut Check)); 7] = [
         ("known jobs", &known::run),
         ("refusals", &refusals::run),
+        ("lists", &|c| lists::run(c, times)),
         ("damaged files", &|c| damage::run(c, times)),
+        ("listings", &|c| listing::run(c, times)),
         ("small jobs", &|c| small::run(c, times)),
         ("large jobs", &|c| large::run(c, times)),
     ];
     for (name, part) in parts {
         let (calls, jobs, failures, from) = (c.calls, c.jobs_seen, c.failures, Instant::now());
-        part(&mut c);
+        c.part = name;
+        part(c);
         if talk || c.failures > failures {
-            eprintln!("{}: {} jobs, {} calls, {} failures, {:.1} s", name, c.jobs_seen - jobs, c.calls - calls, c.failures - failures, from.elapsed().as_secs_f64());
+            let took = from.elapsed().as_secs_f64();
+            eprintln!("{}: {} jobs, {} calls, {} failures, {:.1} s", name, c.jobs_seen - jobs, c.calls - calls, c.failures - failures, took);
         }
     }
     // A run in which some answer never came up would be no test of it.
-    let unseen: Vec<usize> = (0..=9).filter(|&k| c.by_code[k] == 0).collect();
-    if !unseen.is_empty() {
-        c.fail(&format!("answers never seen: {:?}", unseen), String::new());
+    let unseen = c.unseen();
+    if !unseen.is_empty() || c.fits == 0 {
+        c.fail(&format!("answers never seen: {:?}; {} fits", unseen, c.fits), String::new());
+    }
+}
+
+fn main() {
+    #[cfg(feature = "faults")]
+    if std::env::var("HELD_FAULT").as_deref() == Ok("list") {
+        return faults::list();
+    }
+    let seed = number("HELD_SEED", 1);
+    let start = Instant::now();
+    guard::watch(seed);
+    let mut c = Check::new(seed);
+    c.hasty = number("HELD_HASTY", 0) != 0;
+    match number("HELD_LONG", 0) {
+        0 => whole(&mut c),
+        count => long::run(&mut c, count),
     }
     let word = if c.failures == 0 { "passed" } else { "FAILED" };
-    println!(
-        "tests/held: {}, {} jobs, {} calls, {} failures, seed {}, {:.0} s",
-        word,
-        c.jobs_seen,
-        c.calls,
-        c.failures,
-        seed,
-        start.elapsed().as_secs_f64()
-    );
+    let took = start.elapsed().as_secs_f64();
+    println!("tests/held: {}, {} jobs, {} calls, {} failures, seed {}, {:.0} s", word, c.jobs_seen, c.calls, c.failures, seed, took);
     std::process::exit((c.failures != 0) as i32);
 }

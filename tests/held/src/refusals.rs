@@ -1,20 +1,29 @@
 //! Each refusal, every pair of faults, and null pointers.
 
-use crate::check::Check;
+use crate::check::{self, Check};
 use crate::guard;
-use crate::job::{self, machine, record, tile, Record};
-use crate::planner;
+use crate::job::{machine, record, tile, Record};
+use crate::planner::{self, At, Call};
 
 /// Methods that are none, some of which look like one when cut short.
 const NO_METHOD: [u32; 11] = [0, 4, 5, 255, 256, 257, 258, 65_537, 0x0100_0002, 0x8000_0003, u32::MAX];
 
-/// A call that must be refused; the number is written by rule here, and the solver's reader must say the same.
+/// A call that must be refused; the number is written by rule here, and the solver's reader must say the same. Where the number
+/// comes from the file alone, reading must give it too.
 fn refuse(c: &mut Check, file: &[u8], method: u32, plan_len: usize, number: u32) {
-    let read = job::read(file, method, plan_len).err().unwrap_or(0);
-    if read != number {
-        c.fail(&format!("the solver's reader says {}, the rule {}", read, number), crate::check::describe(file, method, plan_len));
+    let plan = c.rng.pattern(plan_len);
+    c.refuse(Call::Host { method }, &[file, &plan], number);
+    if (2..=8).contains(&number) {
+        let (e, w) = (c.rng.pattern(4 * records(file)), c.rng.pattern(4 * records(file)));
+        let answer = c.rng.pattern(8 * 2);
+        c.refuse(Call::Read, &[file, &e, &w, &answer], number);
+        c.refuse(Call::Read, &[file, &[], &[], &[]], number);
     }
-    c.call(file, method, plan_len, Err(number));
+}
+
+/// Lists of this length hold any part of the file.
+fn records(file: &[u8]) -> usize {
+    file.len() / 8
 }
 
 /// By the three methods the number given, by any other 1.
@@ -27,8 +36,8 @@ fn refuse_all(c: &mut Check, file: &[u8], plan_len: usize, number: u32) {
     }
 }
 
-/// The smallest file that causes each number.
-fn smallest(c: &mut Check) {
+/// No method at all, whatever else is wrong.
+fn no_method(c: &mut Check) {
     for method in NO_METHOD {
         for plan_len in [0, 15, 16, 40] {
             refuse(c, &[], method, plan_len, 1);
@@ -37,33 +46,35 @@ fn smallest(c: &mut Check) {
             refuse(c, &[0; 8], method, plan_len, 1);
         }
     }
-    for plan_len in [0, 15, 16, 40] {
-        for len in (1..8).chain(9..16).chain([17, 8 * 2_304 + 1, 8 * 2_305 + 4]) {
-            refuse_all(c, &vec![0; len], plan_len, 2);
-            refuse_all(c, &vec![1; len], plan_len, 2);
-            let mut good = vec![machine(1); len / 8 + 1].concat();
-            good.truncate(len);
-            refuse_all(c, &good, plan_len, 2);
-        }
-        for kind in (0..=255).filter(|k| *k != 1 && *k != 2) {
-            refuse_all(c, &record(kind, 1), plan_len, 3);
-        }
-        for kind in [1, 2] {
-            for place in 1..4 {
-                for bit in 0..8 {
-                    let mut r = record(kind, 1);
-                    r[place] = 1 << bit;
-                    refuse_all(c, &r, plan_len, 3);
-                }
-            }
-        }
-        refuse_all(c, &[tile(0), machine(1)].concat(), plan_len, 4);
-        refuse_all(c, &machine(0), plan_len, 5);
-        refuse_all(c, &machine(10_001), plan_len, 5);
-        refuse_all(c, &tile(1_000_001), plan_len, 6);
-        refuse_all(c, &[], plan_len, 7);
-        refuse_all(c, &tile(0), plan_len, 7);
+}
+
+/// The smallest file that causes each number from 2 to 7.
+fn smallest(c: &mut Check, plan_len: usize) {
+    for len in (1..8).chain(9..16).chain([17, 8 * 2_304 + 1, 8 * 2_305 + 4]) {
+        refuse_all(c, &vec![0; len], plan_len, 2);
+        refuse_all(c, &vec![1; len], plan_len, 2);
+        let mut good = vec![machine(1); len / 8 + 1].concat();
+        good.truncate(len);
+        refuse_all(c, &good, plan_len, 2);
     }
+    for kind in (0..=255).filter(|k| *k != 1 && *k != 2) {
+        refuse_all(c, &record(kind, 1), plan_len, 3);
+    }
+    for (kind, place, bit) in (0..2 * 3 * 8).map(|k| (1 + k % 2, 1 + k / 2 % 3, k / 6)) {
+        let mut r = record(kind as u8, 1);
+        r[place] = 1 << bit;
+        refuse_all(c, &r, plan_len, 3);
+    }
+    refuse_all(c, &[tile(0), machine(1)].concat(), plan_len, 4);
+    refuse_all(c, &machine(0), plan_len, 5);
+    refuse_all(c, &machine(10_001), plan_len, 5);
+    refuse_all(c, &tile(1_000_001), plan_len, 6);
+    refuse_all(c, &[], plan_len, 7);
+    refuse_all(c, &tile(0), plan_len, 7);
+}
+
+/// The smallest files that cause 7 by too many machines, 8 and 9.
+fn smallest_counts(c: &mut Check) {
     for plan_len in [0, 16 * 257 - 1, 16 * 257] {
         refuse_all(c, &vec![machine(1); 257].concat(), plan_len, 7);
     }
@@ -116,86 +127,104 @@ impl Fault {
     }
 }
 
-/// Every two faults of the same file.
-fn pairs(c: &mut Check) {
-    // Three machines, four tiles.
-    let machines = 3;
-    let good: Vec<Record> = vec![machine(2), machine(1), machine(10_000), tile(4), tile(0), tile(1_000_000), tile(3)];
-    let exact = 16 * machines;
-    let first_of = |numbers: &[u32]| *numbers.iter().min().unwrap();
+/// The machines and tiles of the file that is spoilt, and the bytes of its plan.
+const MACHINES: usize = 3;
+const EXACT: usize = 16 * MACHINES;
 
+fn good_records() -> Vec<Record> {
+    vec![machine(2), machine(1), machine(10_000), tile(4), tile(0), tile(1_000_000), tile(3)]
+}
+
+/// One fault, alone and with a length or a plan buffer that is wrong.
+fn one_fault(c: &mut Check, one: &[Record], number: u32) {
+    for plan_len in [0, EXACT - 1, EXACT, EXACT + 5] {
+        refuse_all(c, &one.concat(), plan_len, number);
+        for extra in 1..8 {
+            let mut cut = one.concat();
+            cut.extend(vec![2; extra]);
+            refuse_all(c, &cut, plan_len, 2);
+            let len = one.len() * 8 - extra;
+            refuse_all(c, &one.concat()[..len], plan_len, 2);
+        }
+    }
+}
+
+/// A fault with a wrong count: no machine, too many, too many tiles, both.
+fn with_counts(c: &mut Check, f: &Fault, on_machines: bool) {
+    for (m, t) in [(0, 4), (257, 4), (3, 2_049), (0, 2_049), (257, 2_049)] {
+        if on_machines && m == 0 {
+            continue;
+        }
+        let mut records = vec![machine(7); m];
+        records.extend(vec![tile(9); t]);
+        let places: Vec<usize> = if on_machines { vec![0, m / 2, m - 1] } else { vec![m, m + 1, m + t / 2, m + t - 1] };
+        for place in places.into_iter().filter(|&place| f.stands(place, m)) {
+            let mut broken = records.clone();
+            (f.make)(&mut broken[place]);
+            for plan_len in [0, 16 * m] {
+                refuse_all(c, &broken.concat(), plan_len, f.number);
+            }
+        }
+    }
+}
+
+/// Every two faults in different records: the earlier one counts.
+fn pairs(c: &mut Check) {
+    let good = good_records();
     for f in &FAULTS {
-        for i in (0..good.len()).filter(|&i| f.stands(i, machines)) {
-            // One fault, alone and with a method, a length, a plan buffer that is wrong.
+        for i in (0..good.len()).filter(|&i| f.stands(i, MACHINES)) {
             let mut one = good.clone();
             (f.make)(&mut one[i]);
-            for plan_len in [0, exact - 1, exact, exact + 5] {
-                refuse_all(c, &one.concat(), plan_len, f.number);
-                for extra in 1..8 {
-                    let mut cut = one.concat();
-                    cut.extend(vec![2; extra]);
-                    refuse_all(c, &cut, plan_len, 2);
-                    let len = good.len() * 8 - extra;
-                    refuse_all(c, &one.concat()[..len], plan_len, 2);
-                }
-            }
-            // With a wrong count: no machine, too many, too many tiles, both.
-            for (m, t) in [(0, 4), (257, 4), (3, 2_049), (0, 2_049), (257, 2_049)] {
-                if (i < machines && m == 0) || (i >= machines && t == 0) {
-                    continue;
-                }
-                let mut records = vec![machine(7); m];
-                records.extend(vec![tile(9); t]);
-                let places: Vec<usize> = if i < machines { vec![0, m / 2, m - 1] } else { vec![m, m + 1, m + t / 2, m + t - 1] };
-                for place in places.into_iter().filter(|&place| f.stands(place, m)) {
-                    let mut broken = records.clone();
-                    (f.make)(&mut broken[place]);
-                    for plan_len in [0, 16 * m] {
-                        refuse_all(c, &broken.concat(), plan_len, f.number);
-                    }
-                }
-            }
+            one_fault(c, &one, f.number);
+            with_counts(c, f, i < MACHINES);
             for g in &FAULTS {
-                // In different records, the earlier one counts.
-                for j in (i + 1..good.len()).filter(|&j| g.stands(j, machines)) {
+                for j in (i + 1..good.len()).filter(|&j| g.stands(j, MACHINES)) {
                     let mut two = one.clone();
                     (g.make)(&mut two[j]);
-                    refuse_all(c, &two.concat(), exact, f.number);
-                    refuse_all(c, &two.concat(), exact - 1, f.number);
-                    refuse_all(c, &two.concat()[..two.len() * 8 - 3], exact, 2);
+                    refuse_all(c, &two.concat(), EXACT, f.number);
+                    refuse_all(c, &two.concat(), EXACT - 1, f.number);
+                    refuse_all(c, &two.concat()[..two.len() * 8 - 3], EXACT, 2);
                 }
             }
         }
     }
+}
 
-    // In one record: the machine's or tile's fault first, then a wrong kind or bytes 1 to 3.
+/// Two faults in one record: the lesser number counts.
+fn pairs_in_one(c: &mut Check) {
+    let good = good_records();
     for f in FAULTS.iter().filter(|f| f.number > 3) {
         for g in FAULTS.iter().filter(|g| g.number == 3) {
-            for i in (0..good.len()).filter(|&i| f.stands(i, machines)) {
+            for i in (0..good.len()).filter(|&i| f.stands(i, MACHINES)) {
                 let mut two = good.clone();
                 (f.make)(&mut two[i]);
                 (g.make)(&mut two[i]);
-                refuse_all(c, &two.concat(), exact, first_of(&[f.number, g.number]));
+                refuse_all(c, &two.concat(), EXACT, f.number.min(g.number));
             }
         }
     }
     // A machine after a tile with a speed out of range.
     for speed in [0, 10_001, 1_000_000, 1_000_001, u32::MAX] {
-        for i in machines + 1..good.len() {
+        for i in MACHINES + 1..good.len() {
             let mut two = good.clone();
             two[i] = machine(speed);
-            refuse_all(c, &two.concat(), exact, 4);
+            refuse_all(c, &two.concat(), EXACT, 4);
         }
     }
     // A value good for the other kind only.
     for speed in [0, 10_001, 1_000_000] {
         let mut one = good.clone();
         one[1] = machine(speed);
-        refuse_all(c, &one.concat(), exact, 5);
+        refuse_all(c, &one.concat(), EXACT, 5);
     }
+}
 
-    // Counts, length and plan buffer with each other.
-    for (m, t, number) in [(0, 0, 7), (0, 4, 7), (257, 0, 7), (257, 4, 7), (0, 2_049, 7), (257, 2_049, 7), (1, 2_049, 8), (256, 2_049, 8), (256, 2_048, 9), (1, 0, 9)] {
+/// Counts, length and plan buffer with each other.
+#[rustfmt::skip]
+fn pairs_of_counts(c: &mut Check) {
+    for (m, t, number) in [
+        (0, 0, 7), (0, 4, 7), (257, 0, 7), (257, 4, 7), (0, 2_049, 7), (257, 2_049, 7), (1, 2_049, 8), (256, 2_049, 8), (256, 2_048, 9), (1, 0, 9),
+    ] {
         let mut records = vec![machine(7); m];
         records.extend(vec![tile(9); t]);
         let file = records.concat();
@@ -215,47 +244,56 @@ fn pairs(c: &mut Check) {
 
 /// Null with length 0, on either side.
 fn nulls(c: &mut Check) {
-    let null = std::ptr::null();
-    let null_mut = std::ptr::null_mut();
     let one = machine(1);
     let broken = [0u8; 8];
     for method in (1..=3).chain(NO_METHOD) {
         let known = (1..=3).contains(&method);
-        let cases: [(&[u8], u32); 5] = [
-            (&[], 7),        // no job at all
-            (&one, 9),       // a job, no room
-            (&broken, 3),    // a broken job
-            (&one[..7], 2),  // a cut one
-            (&broken[..1], 2),
-        ];
+        // No job at all; a job and no room; a broken job; cut ones.
+        let cases: [(&[u8], u32); 5] = [(&[], 7), (&one, 9), (&broken, 3), (&one[..7], 2), (&broken[..1], 2)];
         for (file, number) in cases {
-            let job_at = if file.is_empty() { null } else { file.as_ptr() };
-            guard::note(job_at, file.len(), method, 0);
-            let code = unsafe { planner::call(job_at, file.len(), method, null_mut, 0) };
-            guard::done();
-            c.calls += 1;
             let wanted = if known { number } else { 1 };
-            if code != wanted {
-                c.fail(&format!("answer {} instead of {} with a null plan", code, wanted), crate::check::describe(file, method, 0));
-            }
+            null_plan(c, file, method, wanted);
         }
         // A null job beside a real plan buffer, which stays.
         for plan_len in [1usize, 15, 16, 64] {
             let mut plan = vec![0x5Au8; plan_len];
-            guard::note(null, 0, method, plan_len);
-            let code = unsafe { planner::call(null, 0, method, plan.as_mut_ptr(), plan_len) };
-            guard::done();
-            c.calls += 1;
+            let call = Call::Host { method };
+            let code = direct(c, call, &[(std::ptr::null_mut(), 0), (plan.as_mut_ptr(), plan_len)]);
             let wanted = if known { 7 } else { 1 };
             if code != wanted || plan.iter().any(|&b| b != 0x5A) {
-                c.fail(&format!("answer {} instead of {} with a null job, or the plan changed", code, wanted), crate::check::describe(&[], method, plan_len));
+                let what = format!("answer {} instead of {} with a null job, or the plan changed", code, wanted);
+                c.fail(&what, check::describe(call, &[&[], &plan]));
             }
         }
     }
 }
 
+fn null_plan(c: &mut Check, file: &[u8], method: u32, wanted: u32) {
+    let job_at = if file.is_empty() { std::ptr::null_mut() } else { file.as_ptr() as *mut u8 };
+    let call = Call::Host { method };
+    let code = direct(c, call, &[(job_at, file.len()), (std::ptr::null_mut(), 0)]);
+    if code != wanted {
+        c.fail(&format!("answer {} instead of {} with a null plan", code, wanted), check::describe(call, &[file, &[]]));
+    }
+}
+
+/// A call on lists as they are.
+fn direct(c: &mut Check, call: Call, at: &[At]) -> u32 {
+    guard::note(call, at);
+    let code = unsafe { planner::call(call, at) };
+    guard::done();
+    c.calls += 1;
+    code
+}
+
 pub fn run(c: &mut Check) {
-    smallest(c);
+    no_method(c);
+    for plan_len in [0, 15, 16, 40] {
+        smallest(c, plan_len);
+    }
+    smallest_counts(c);
     pairs(c);
+    pairs_in_one(c);
+    pairs_of_counts(c);
     nulls(c);
 }

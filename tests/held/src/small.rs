@@ -1,18 +1,14 @@
 //! Small jobs against the slow solver.
 
 use crate::check::Check;
+use crate::every;
 use crate::job::Job;
 use crate::rng::Rng;
-use crate::{fast, slow};
 
-/// Both solvers must agree before the planner is asked.
+/// Every call on the job; now and then with lists of all lengths together.
 fn both(c: &mut Check, job: &Job) {
-    let s = slow::solve(job);
-    let f = fast::solve(job);
-    if s != f {
-        c.fail(&format!("the solvers differ: slow {:?}, fast {:?}", s, f), format!("  {:?}", job));
-    }
-    c.accepted(job, &s.0);
+    let thorough = c.rng.once_in(60);
+    every::both(c, job, thorough);
 }
 
 pub fn speeds(r: &mut Rng, machines: usize) -> Vec<u32> {
@@ -125,25 +121,34 @@ fn pieces(r: &mut Rng, sum: u32, tiles: usize) -> Vec<u32> {
     list
 }
 
+/// Bounds as near as they can be, perhaps with a third machine before or after that has a tile of its own.
+pub fn near(c: &mut Check) {
+    let sides = 1 + c.rng.below(3);
+    let mut job = neighbours(&mut c.rng, sides);
+    if c.rng.once_in(2) {
+        let (e, w) = (c.rng.range(1, 10_000), c.rng.range(0, 1_000_000));
+        let (p, i) = c.rng.pick(&[(0, 0), (2, job.weights.len())]);
+        job.speeds.insert(p, e);
+        job.weights.insert(i, w);
+    }
+    both(c, &job);
+}
+
+/// Any small job.
+pub fn random(c: &mut Check) {
+    let machines = 1 + c.rng.below(4);
+    let tiles = c.rng.below(9);
+    let speeds = speeds(&mut c.rng, machines);
+    let weights = weights(&mut c.rng, tiles, &speeds);
+    both(c, &Job { speeds, weights });
+}
+
 pub fn run(c: &mut Check, times: usize) {
     every(c);
     for _ in 0..4_000 * times {
-        let sides = 1 + c.rng.below(3);
-        let mut job = neighbours(&mut c.rng, sides);
-        if c.rng.once_in(2) {
-            // A third machine before or after, with a tile of its own.
-            let (e, w) = (c.rng.range(1, 10_000), c.rng.range(0, 1_000_000));
-            let (p, i) = c.rng.pick(&[(0, 0), (2, job.weights.len())]);
-            job.speeds.insert(p, e);
-            job.weights.insert(i, w);
-        }
-        both(c, &job);
+        near(c);
     }
     for _ in 0..120_000 * times {
-        let machines = 1 + c.rng.below(4);
-        let tiles = c.rng.below(9);
-        let speeds = speeds(&mut c.rng, machines);
-        let weights = weights(&mut c.rng, tiles, &speeds);
-        both(c, &Job { speeds, weights });
+        random(c);
     }
 }

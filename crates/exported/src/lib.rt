@@ -1,0 +1,244 @@
+// Every callable function for tests in other languages. None of it is in the planner's archive.
+// Each wrapper returns 0 or the refusal's number. What the function answers goes into the lent `answer`, one number an entry;
+// entries past its end are dropped, and a refusal leaves `answer` as it was.
+ghost use mathlib.Core.Path.{_≡_};
+ghost use Rattle.chain.specs.Job.{jobOf};
+ghost use Rattle.chain.specs.Refusal.{firstRefusal, jobTests};
+ghost use lib.ListN.{length};
+ghost use Rattle.jobs.specs.Answers.{readNumber, readAnswer, readSpeeds, readWeights, writtenNumber, writeAnswer, writeBytes};
+ghost use Rattle.calls.specs.Answers.{measuredNumber, measureAnswer, heuristicAnswer, heuristicWrites, probedNumber, probeAnswer, probeWrites};
+ghost use Rattle.planfile.specs.Answers.{planWrittenNumber, writePlanAnswer, writePlanBytes};
+ghost use Rattle.planner.specs.Answers.{plannedNumber, PlanAnswer};
+ghost use Rattle.planner.specs.declared.Planned.{Planned};
+use bound::Bound;
+use calls::Measured;
+use calls::Probed;
+use calls::heuristic;
+use calls::measure;
+use calls::probe;
+use jobs::JobRead;
+use jobs::JobWritten;
+use jobs::read_job;
+use jobs::test_job;
+use jobs::write_job;
+use parts::wide;
+use planfile::PlanWritten;
+use planfile::write_plan;
+use planner::Planned;
+use planner::plan;
+
+// Inner. Writes an entry if the list is long enough.
+fn put(answer: &mut [u64], i: usize, value: u64) {
+    if i < answer.len() {
+        answer[i] = value;
+    }
+}
+
+// Inner. A bound's load at entry i, its speed at entry j.
+fn put_bound(answer: &mut [u64], i: usize, j: usize, bound: Bound) {
+    put(answer, i, bound.load);
+    put(answer, j, bound.speed);
+}
+
+// Inner. What reading answers.
+fn put_read(answer: &mut [u64], read: JobRead) -> u32
+    ensures { λ r. ⌜ r ≡ readNumber read ⌝ }
+{
+    match read {
+        JobRead::Refused(number) => number,
+        JobRead::Read { processors, tasks } => {
+            put(answer, 0, processors as u64);
+            put(answer, 1, tasks as u64);
+            0
+        }
+    }
+}
+
+// Inner. What writing a job answers.
+fn put_written(answer: &mut [u64], written: JobWritten) -> u32
+    ensures { λ r. ⌜ r ≡ writtenNumber written ⌝ }
+{
+    match written {
+        JobWritten::Refused(number) => number,
+        JobWritten::Written(bytes) => {
+            put(answer, 0, bytes as u64);
+            0
+        }
+    }
+}
+
+// Inner. What a probe answers.
+fn put_probed(answer: &mut [u64], probed: Probed) -> u32
+    ensures { λ r. ⌜ r ≡ probedNumber probed ⌝ }
+{
+    match probed {
+        Probed::Refused(number) => number,
+        Probed::Fits => {
+            put(answer, 0, 1);
+            0
+        }
+        Probed::Fails(next) => {
+            put(answer, 0, 0);
+            put_bound(answer, 1, 2, next);
+            0
+        }
+    }
+}
+
+// Inner. What writing a plan answers.
+fn put_plan_written(answer: &mut [u64], written: PlanWritten) -> u32
+    ensures { λ r. ⌜ r ≡ planWrittenNumber written ⌝ }
+{
+    match written {
+        PlanWritten::Refused(number) => number,
+        PlanWritten::Written(bytes) => {
+            put(answer, 0, bytes as u64);
+            0
+        }
+    }
+}
+
+// Inner. What planning answers.
+fn put_planned(answer: &mut [u64], planned: Planned) -> u32
+    ensures { λ r. ⌜ r ≡ plannedNumber planned ⌝ }
+{
+    match planned {
+        Planned::Refused(number) => number,
+        Planned::Accepted(figures) => {
+            put(answer, 0, wide(figures.count));
+            put(answer, 1, wide(figures.allowance));
+            put_bound(answer, 2, 3, figures.bottleneck);
+            put(answer, 4, figures.imbalance);
+            0
+        }
+    }
+}
+
+// Inner. What measuring and the heuristic answer.
+fn put_measured(answer: &mut [u64], measured: Measured) -> u32
+    ensures { λ r. ⌜ r ≡ measuredNumber measured ⌝ }
+{
+    match measured {
+        Measured::Refused(number) => number,
+        Measured::Bottleneck(bound) => {
+            put_bound(answer, 0, 1, bound);
+            0
+        }
+    }
+}
+
+#[no_mangle]
+pub extern "C" fn exported_test_job(speeds: &[u32], weights: &[u32]) -> u32
+    ensures { λ r. ⌜ r ≡ firstRefusal (jobTests (jobOf (now (weights .entry)) (now (speeds .entry)))) ⌝ }
+{
+    test_job(speeds, weights)
+}
+
+// The answer: P, N.
+#[no_mangle]
+pub extern "C" fn exported_read_job(
+    file: &[u8],
+    speeds: &mut [u32],
+    weights: &mut [u32],
+    answer: &mut [u64],
+) -> u32
+    ensures number { λ r. ⌜ r ≡ readNumber (readAnswer (now (file .entry)) (length (now (speeds .entry))) (length (now (weights .entry)))) ⌝ }
+    ensures speeds { λ _. ⌜ now (speeds .exit) ≡ readSpeeds (now (file .entry)) (now (speeds .entry)) (now (weights .entry)) ⌝ }
+    ensures weights { λ _. ⌜ now (weights .exit) ≡ readWeights (now (file .entry)) (now (speeds .entry)) (now (weights .entry)) ⌝ }
+{
+    let read = read_job(file, speeds, weights);
+    put_read(answer, read)
+}
+
+// The answer: the bytes written.
+#[no_mangle]
+pub extern "C" fn exported_write_job(
+    speeds: &[u32],
+    weights: &[u32],
+    file: &mut [u8],
+    answer: &mut [u64],
+) -> u32
+    ensures number { λ r. ⌜ r ≡ writtenNumber (writeAnswer (jobOf (now (weights .entry)) (now (speeds .entry))) (length (now (file .entry)))) ⌝ }
+    ensures bytes { λ _. ⌜ now (file .exit) ≡ writeBytes (jobOf (now (weights .entry)) (now (speeds .entry))) (now (file .entry)) ⌝ }
+{
+    let written = write_job(speeds, weights, file);
+    put_written(answer, written)
+}
+
+// The answer: the bottleneck's load, speed.
+#[no_mangle]
+pub extern "C" fn exported_measure(
+    speeds: &[u32],
+    weights: &[u32],
+    separators: &[u32],
+    answer: &mut [u64],
+) -> u32
+    ensures { λ r. ⌜ r ≡ measuredNumber (measureAnswer (jobOf (now (weights .entry)) (now (speeds .entry))) (now (separators .entry))) ⌝ }
+{
+    let measured = measure(speeds, weights, separators);
+    put_measured(answer, measured)
+}
+
+// The answer: 1 for a fit; or 0 and the next bid's load, speed.
+#[no_mangle]
+pub extern "C" fn exported_probe(
+    speeds: &[u32],
+    weights: &[u32],
+    load: u64,
+    speed: u64,
+    separators: &mut [u32],
+    answer: &mut [u64],
+) -> u32
+    ensures number { λ r. ⌜ r ≡ probedNumber (probeAnswer (jobOf (now (weights .entry)) (now (speeds .entry))) (record { load = load; speed = speed }) (now (separators .entry))) ⌝ }
+    ensures separators { λ _. ⌜ now (separators .exit) ≡ probeWrites (jobOf (now (weights .entry)) (now (speeds .entry))) (record { load = load; speed = speed }) (now (separators .entry)) ⌝ }
+{
+    let probed = probe(speeds, weights, Bound { load, speed }, separators);
+    put_probed(answer, probed)
+}
+
+// The answer: the bottleneck's load, speed.
+#[no_mangle]
+pub extern "C" fn exported_heuristic(
+    speeds: &[u32],
+    weights: &[u32],
+    separators: &mut [u32],
+    answer: &mut [u64],
+) -> u32
+    ensures number { λ r. ⌜ r ≡ measuredNumber (heuristicAnswer (jobOf (now (weights .entry)) (now (speeds .entry))) (now (separators .entry))) ⌝ }
+    ensures separators { λ _. ⌜ now (separators .exit) ≡ heuristicWrites (jobOf (now (weights .entry)) (now (speeds .entry))) (now (separators .entry)) ⌝ }
+{
+    let measured = heuristic(speeds, weights, separators);
+    put_measured(answer, measured)
+}
+
+// The answer: count, allowance, the bottleneck's load, speed, imbalance.
+#[no_mangle]
+pub extern "C" fn exported_plan(
+    method: u32,
+    speeds: &[u32],
+    weights: &[u32],
+    separators: &mut [u32],
+    scratch: &mut [u32],
+    answer: &mut [u64],
+) -> u32
+    ensures { λ r. ⌜ ((a : Planned) × ((r ≡ plannedNumber a) × PlanAnswer (jobOf (now (weights .entry)) (now (speeds .entry))) method (now (separators .entry)) (now (scratch .entry)) (now (separators .exit)) (now (scratch .exit)) a)) ⌝ }
+{
+    let planned = plan(method, speeds, weights, separators, scratch);
+    put_planned(answer, planned)
+}
+
+// The answer: the bytes written.
+#[no_mangle]
+pub extern "C" fn exported_write_plan(
+    speeds: &[u32],
+    weights: &[u32],
+    separators: &[u32],
+    plan: &mut [u8],
+    answer: &mut [u64],
+) -> u32
+    ensures number { λ r. ⌜ r ≡ planWrittenNumber (writePlanAnswer (jobOf (now (weights .entry)) (now (speeds .entry))) (now (separators .entry)) (length (now (plan .entry)))) ⌝ }
+    ensures bytes { λ _. ⌜ now (plan .exit) ≡ writePlanBytes (jobOf (now (weights .entry)) (now (speeds .entry))) (now (separators .entry)) (now (plan .entry)) ⌝ }
+{
+    let written = write_plan(speeds, weights, separators, plan);
+    put_plan_written(answer, written)
+}

@@ -1,0 +1,179 @@
+/* A host in C that trusts nothing: every buffer stands against guard bytes, or alone on the heap, so that a checker of memory sees
+ * every byte too many that is read or written. Prints a line and gives 0 if all is well. */
+#include <stdio.h>
+#include <stdlib.h>
+#include <string.h>
+
+#include "../../include/pelshaqu.h"
+
+#define GUARD 64
+#define LARGEST 20000
+
+static unsigned long calls;
+
+static void fail(const char *what, uint32_t method, size_t job_len, size_t plan_len) {
+    printf("tests/guard: FAILED: %s, method %u, job of %zu bytes, plan of %zu bytes\n", what, method, job_len, plan_len);
+    exit(1);
+}
+
+static size_t put(uint8_t *at, uint8_t kind, uint32_t value) {
+    memset(at, 0, 8);
+    at[0] = kind;
+    for (int i = 0; i < 4; i++) at[4 + i] = (uint8_t)(value >> (8 * i));
+    return 8;
+}
+
+static uint8_t pattern(size_t i) {
+    return (uint8_t)(167 * i + 91);
+}
+
+/* What a call must give: a number, and the plan's bytes where it is 0. */
+struct wanted {
+    uint32_t number;
+    const uint8_t *plan;
+    size_t plan_len;
+};
+
+/* The call inside two buffers with guard bytes on both sides. */
+static void guarded(const uint8_t *job, size_t job_len, uint32_t method, size_t plan_len, struct wanted wanted) {
+    static uint8_t jobs[LARGEST + 2 * GUARD], plans[LARGEST + 2 * GUARD];
+    size_t job_all = job_len + 2 * GUARD, plan_all = plan_len + 2 * GUARD;
+    for (size_t i = 0; i < job_all; i++) jobs[i] = pattern(i);
+    for (size_t i = 0; i < plan_all; i++) plans[i] = pattern(i);
+    if (job_len) memcpy(jobs + GUARD, job, job_len);
+    calls++;
+    uint32_t number = plan_job(jobs + GUARD, job_len, method, plans + GUARD, plan_len);
+    if (number != wanted.number) fail("wrong number", method, job_len, plan_len);
+    size_t filled = number == 0 ? wanted.plan_len : 0;
+    for (size_t i = 0; i < plan_all; i++) {
+        int inside = i >= GUARD && i - GUARD < filled;
+        uint8_t must = inside ? wanted.plan[i - GUARD] : pattern(i);
+        if (plans[i] != must) fail(inside ? "wrong plan" : "a byte that must stay was changed", method, job_len, plan_len);
+    }
+    for (size_t i = 0; i < job_all; i++) {
+        int inside = i >= GUARD && i - GUARD < job_len;
+        if (jobs[i] != (inside ? job[i - GUARD] : pattern(i))) fail("the job or its guard was changed", method, job_len, plan_len);
+    }
+}
+
+/* The call on two buffers of exactly the lengths said, null where a length is 0. */
+static void alone(const uint8_t *job, size_t job_len, uint32_t method, size_t plan_len, struct wanted wanted) {
+    uint8_t *own = job_len ? malloc(job_len) : NULL;
+    uint8_t *plan = plan_len ? malloc(plan_len) : NULL;
+    if ((job_len && !own) || (plan_len && !plan)) fail("no memory", method, job_len, plan_len);
+    if (job_len) memcpy(own, job, job_len);
+    calls++;
+    uint32_t number = plan_job(own, job_len, method, plan, plan_len);
+    if (number != wanted.number) fail("wrong number, buffers alone", method, job_len, plan_len);
+    if (number == 0 && memcmp(plan, wanted.plan, wanted.plan_len) != 0) fail("wrong plan, buffers alone", method, job_len, plan_len);
+    free(own);
+    free(plan);
+}
+
+static void both(const uint8_t *job, size_t job_len, uint32_t method, size_t plan_len, struct wanted wanted) {
+    guarded(job, job_len, method, plan_len, wanted);
+    alone(job, job_len, method, plan_len, wanted);
+}
+
+/* A job by each method, with a plan buffer of every length from 0 to a record more than it needs. */
+static void every_length(const uint8_t *job, size_t job_len, const uint8_t *plan, size_t needed) {
+    for (uint32_t method = 0; method <= 4; method++) {
+        for (size_t len = 0; len <= needed + 17; len++) {
+            struct wanted wanted = {method < 1 || method > 3 ? 1 : len < needed ? 9 : 0, plan, needed};
+            both(job, job_len, method, len, wanted);
+        }
+    }
+}
+
+static size_t field(uint8_t *at, uint32_t value) {
+    for (int i = 0; i < 4; i++) at[i] = (uint8_t)(value >> (8 * i));
+    return 4;
+}
+
+/* Jobs A to E of the document, with their plans. */
+static void marked_jobs(void) {
+    static const struct {
+        uint32_t machines, tiles, speeds[2], weights[5], separators[3];
+    } jobs[] = {
+        {2, 3, {1, 3}, {1, 3, 8}, {0, 1, 3}},       {2, 5, {1, 2}, {4, 3, 2, 6, 1}, {0, 1, 5}}, {2, 0, {7, 2}, {0}, {0, 0, 0}},
+        {2, 2, {1, 1}, {0, 0}, {0, 2, 2}},          {2, 1, {1, 1}, {6}, {0, 1, 1}},
+    };
+    for (size_t k = 0; k < sizeof jobs / sizeof *jobs; k++) {
+        uint8_t job[64], plan[32];
+        size_t n = 0, m = 0;
+        for (uint32_t p = 0; p < 2; p++) n += put(job + n, 1, jobs[k].speeds[p]);
+        for (uint32_t i = 0; i < jobs[k].tiles; i++) n += put(job + n, 2, jobs[k].weights[i]);
+        for (uint32_t p = 0; p < 2; p++) {
+            uint32_t load = 0;
+            for (uint32_t i = jobs[k].separators[p]; i < jobs[k].separators[p + 1]; i++) load += jobs[k].weights[i];
+            m += field(plan + m, jobs[k].separators[p]);
+            m += field(plan + m, jobs[k].separators[p + 1]);
+            m += field(plan + m, load);
+            m += field(plan + m, jobs[k].speeds[p]);
+        }
+        every_length(job, n, plan, m);
+    }
+}
+
+static void refused(const uint8_t *job, size_t job_len, uint32_t number) {
+    for (uint32_t method = 1; method <= 3; method++) {
+        for (size_t len = 0; len <= 48; len++) both(job, job_len, method, len, (struct wanted){number, NULL, 0});
+    }
+    both(job, job_len, 0, 16, (struct wanted){1, NULL, 0});
+    both(job, job_len, UINT32_MAX, 0, (struct wanted){1, NULL, 0});
+}
+
+/* The smallest file for each number, cut files, and no file. */
+static void refusals(void) {
+    static uint8_t file[LARGEST];
+    size_t n = put(file, 1, 1);
+    for (size_t len = 1; len < 8; len++) refused(file, len, 2);
+    refused(NULL, 0, 7);
+    put(file, 3, 1);
+    refused(file, 8, 3);
+    for (int place = 1; place < 4; place++) {
+        put(file, 1, 1);
+        file[place] = 1;
+        refused(file, 8, 3);
+    }
+    put(file, 2, 0);
+    refused(file, 8, 7);
+    put(file + 8, 1, 1);
+    refused(file, 16, 4);
+    put(file, 1, 0);
+    refused(file, 8, 5);
+    put(file, 1, 10001);
+    refused(file, 8, 5);
+    put(file, 1, 1);
+    put(file + 8, 2, 1000001);
+    refused(file, 16, 6);
+    for (n = 0; n < 257 * 8;) n += put(file + n, 1, 1);
+    refused(file, n, 7);
+    for (n = put(file, 1, 1); n < 2050 * 8;) n += put(file + n, 2, 0);
+    refused(file, n, 8);
+}
+
+/* The longest job: equal tiles and machines, so that every machine takes 8 tiles. */
+static void longest(void) {
+    static uint8_t job[LARGEST], plan[PELSHAQU_MAX_PLAN];
+    size_t n = 0, m = 0;
+    for (int p = 0; p < PELSHAQU_MAX_MACHINES; p++) n += put(job + n, 1, 10000);
+    for (int i = 0; i < 2048; i++) n += put(job + n, 2, 1000000);
+    for (uint32_t p = 0; p < PELSHAQU_MAX_MACHINES; p++) {
+        m += field(plan + m, 8 * p);
+        m += field(plan + m, 8 * p + 8);
+        m += field(plan + m, 8000000);
+        m += field(plan + m, 10000);
+    }
+    for (uint32_t method = 1; method <= 3; method++) {
+        for (size_t len = m - 2; len <= m + 2; len++) both(job, n, method, len, (struct wanted){len < m ? 9 : 0, plan, m});
+    }
+}
+
+int main(void) {
+    marked_jobs();
+    refusals();
+    longest();
+    printf("tests/guard: %lu calls, all as they must be\n", calls);
+    return 0;
+}

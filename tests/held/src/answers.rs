@@ -1,0 +1,191 @@
+//! What every call must answer and leave behind, on any input, by document 01.
+
+use crate::job::{self, Job};
+use crate::methods::{self, Tried};
+use crate::planner::Call;
+use crate::slow::{self, Bound};
+use crate::{damage, fast};
+
+/// What a lent list holds after a call: this in front, then `free` bytes with anything, then what it held.
+#[derive(Clone, Debug, Default)]
+pub struct After {
+    pub front: Vec<u8>,
+    pub free: usize,
+}
+
+/// A plan as expected: separators, counts by method, bottleneck.
+#[derive(Clone, Debug)]
+pub struct Solved {
+    pub job: Job,
+    pub best: Vec<usize>,
+    pub bottleneck: Bound,
+    pub counts: [u64; 3],
+    pub quick: Vec<usize>,
+}
+
+impl Solved {
+    /// Tiny jobs by every division and by the table itself, others by the fast reference.
+    pub fn of(job: &Job) -> Solved {
+        let tiny = damage::is_tiny(job);
+        let (best, bottleneck) = if tiny { slow::solve(job) } else { fast::solve(job) };
+        let moves = if tiny { methods::moves_by_table(job) } else { methods::moves_by_walks(job) };
+        let counts = [moves, methods::bids(job), methods::halvings(job)];
+        Solved { job: job.clone(), best, bottleneck, counts, quick: methods::quick(job) }
+    }
+}
+
+pub fn words(bytes: &[u8]) -> Vec<u32> {
+    bytes.chunks_exact(4).map(|b| u32::from_le_bytes(b.try_into().unwrap())).collect()
+}
+
+pub fn bytes_of(list: &[u32]) -> Vec<u8> {
+    list.iter().flat_map(|v| v.to_le_bytes()).collect()
+}
+
+fn front(list: &[usize]) -> After {
+    After { front: list.iter().flat_map(|&v| (v as u32).to_le_bytes()).collect(), free: 0 }
+}
+
+/// The numbers that an answer holds, as far as the lent list goes.
+fn answer(lent: &[u8], numbers: &[u128]) -> After {
+    let mut bytes: Vec<u8> = numbers.iter().flat_map(|&v| (v as u64).to_le_bytes()).collect();
+    bytes.truncate(lent.len());
+    After { front: bytes, free: 0 }
+}
+
+/// The tests of a job by lists.
+pub fn refuse_lists(speeds: &[u32], weights: &[u32]) -> u32 {
+    let found = [
+        (speeds.iter().any(|&e| e == 0 || e > 10_000), 5),
+        (weights.iter().any(|&w| w > 1_000_000), 6),
+        (speeds.is_empty() || speeds.len() > 256, 7),
+        (weights.len() > 2_048, 8),
+    ];
+    found.iter().find(|(bad, _)| *bad).map_or(0, |(_, number)| *number)
+}
+
+pub fn is_division(separators: &[u32], tiles: usize) -> bool {
+    separators[0] == 0 && separators.windows(2).all(|s| s[0] <= s[1]) && *separators.last().unwrap() as usize == tiles
+}
+
+/// What a call must give: the lists afterwards in the order of its slots, or the number of the refusal.
+pub fn expected(call: Call, given: &[&[u8]], solved: Option<&Solved>) -> Result<Vec<After>, u32> {
+    match call {
+        Call::Read => read(given),
+        Call::Host { method } => host(method, given, solved),
+        Call::Plan { method } if !(1..=3).contains(&method) => Err(1),
+        _ => {
+            let (speeds, weights) = (words(given[0]), words(given[1]));
+            match refuse_lists(&speeds, &weights) {
+                0 => accepted(call, Job { speeds, weights }, given, solved),
+                number => Err(number),
+            }
+        }
+    }
+}
+
+fn read(given: &[&[u8]]) -> Result<Vec<After>, u32> {
+    let job = job::read(given[0], 1, usize::MAX)?;
+    let (speeds, weights) = (bytes_of(&job.speeds), bytes_of(&job.weights));
+    if given[1].len() < speeds.len() || given[2].len() < weights.len() {
+        return Err(9);
+    }
+    let counts = answer(given[3], &[job.speeds.len() as u128, job.weights.len() as u128]);
+    Ok(vec![After::default(), After { front: speeds, free: 0 }, After { front: weights, free: 0 }, counts])
+}
+
+fn host(method: u32, given: &[&[u8]], solved: Option<&Solved>) -> Result<Vec<After>, u32> {
+    let job = job::read(given[0], method, given[1].len())?;
+    let own;
+    let best = match solved {
+        Some(s) if s.job == job => &s.best,
+        _ => {
+            own = if damage::is_tiny(&job) { slow::solve(&job).0 } else { fast::solve(&job).0 };
+            &own
+        }
+    };
+    let plan = job::encode(&job::plan_of(&job, best));
+    Ok(vec![After::default(), After { front: plan, free: 0 }])
+}
+
+/// The calls on lists, where the job itself is accepted.
+fn accepted(call: Call, job: Job, given: &[&[u8]], solved: Option<&Solved>) -> Result<Vec<After>, u32> {
+    let stays = After::default;
+    let (machines, tiles) = (job.speeds.len(), job.weights.len());
+    let file_bytes = 8 * (machines + tiles);
+    match call {
+        Call::Test => return Ok(vec![stays(), stays()]),
+        Call::Write if given[2].len() < file_bytes => return Err(9),
+        Call::Write => {
+            let file = After { front: job.file(), free: 0 };
+            return Ok(vec![stays(), stays(), file, answer(given[3], &[file_bytes as u128])]);
+        }
+        _ => {}
+    }
+    let separators = words(given[2]);
+    let short = match call {
+        Call::Plan { .. } => given[3].len() < 4 * 5 * (tiles + 1),
+        Call::PlanFile => given[3].len() < 16 * machines,
+        _ => false,
+    };
+    if separators.len() < machines + 1 || short {
+        return Err(9);
+    }
+    match call {
+        Call::Trial { load, speed } => tried(&job, load, speed, given),
+        Call::Measure | Call::PlanFile => divided(call, &job, &separators[..machines + 1], given),
+        _ => solved_answer(call, job, given, solved),
+    }
+}
+
+fn tried(job: &Job, load: u64, speed: u64, given: &[&[u8]]) -> Result<Vec<After>, u32> {
+    if load > 100_000_000_000_000 || speed == 0 || speed > 1_000_000_000 {
+        return Err(10);
+    }
+    let stays = After::default;
+    Ok(match methods::trial(job, (load as u128, speed as u128)) {
+        Tried::Fits(division) => vec![stays(), stays(), front(&division), answer(given[3], &[1])],
+        Tried::Next(next) => vec![stays(), stays(), stays(), answer(given[3], &[0, next.0, next.1])],
+    })
+}
+
+fn divided(call: Call, job: &Job, separators: &[u32], given: &[&[u8]]) -> Result<Vec<After>, u32> {
+    if !is_division(separators, job.weights.len()) {
+        return Err(11);
+    }
+    let stays = After::default;
+    let division: Vec<usize> = separators.iter().map(|&s| s as usize).collect();
+    if call == Call::Measure {
+        let found = slow::bottleneck(job, &division);
+        return Ok(vec![stays(), stays(), stays(), answer(given[3], &[found.0, found.1])]);
+    }
+    let plan = job::encode(&job::plan_of(job, &division));
+    let bytes = plan.len() as u128;
+    Ok(vec![stays(), stays(), stays(), After { front: plan, free: 0 }, answer(given[4], &[bytes])])
+}
+
+/// The quick plan and the plan by a method.
+fn solved_answer(call: Call, job: Job, given: &[&[u8]], solved: Option<&Solved>) -> Result<Vec<After>, u32> {
+    let own;
+    let s = match solved {
+        Some(s) if s.job == job => s,
+        _ => {
+            own = Solved::of(&job);
+            &own
+        }
+    };
+    let stays = After::default;
+    let Call::Plan { method } = call else {
+        let found = slow::bottleneck(&job, &s.quick);
+        return Ok(vec![stays(), stays(), front(&s.quick), answer(given[3], &[found.0, found.1])]);
+    };
+    let work = After { front: Vec::new(), free: 4 * 5 * (job.weights.len() + 1) };
+    let figures = [
+        s.counts[method as usize - 1] as u128,
+        methods::allowance(&job, method) as u128,
+        s.bottleneck.0,
+        s.bottleneck.1,
+        methods::imbalance(&job, s.bottleneck) as u128,
+    ];
+    Ok(vec![stays(), stays(), front(&s.best), work, answer(given[4], &figures)])
+}

@@ -1,0 +1,207 @@
+//! Every call on one job, with lists of every length: none, one short, exact, longer.
+
+use crate::answers::{bytes_of, Solved};
+use crate::check::Check;
+use crate::job::Job;
+use crate::methods::{self, Tried};
+use crate::planner::Call;
+use crate::rng::Rng;
+use crate::slow::{less, Bound};
+
+fn around(r: &mut Rng, exact: usize) -> Vec<usize> {
+    let mut list = vec![0, exact.saturating_sub(1), exact, exact + 1, exact + 2 + r.below(9)];
+    list.dedup();
+    list
+}
+
+/// Lengths of the lists of one call: all together if thorough, else the exact ones and a few.
+fn lengths(r: &mut Rng, exact: &[usize], thorough: bool) -> Vec<Vec<usize>> {
+    if !thorough {
+        let some = |r: &mut Rng| exact.iter().map(|&n| pick(r, n)).collect();
+        return vec![exact.to_vec(), some(r), some(r)];
+    }
+    let mut all: Vec<Vec<usize>> = vec![vec![]];
+    for &n in exact {
+        let steps = around(r, n);
+        all = all.iter().flat_map(|l| steps.iter().map(move |&s| [&l[..], &[s]].concat())).collect();
+    }
+    all
+}
+
+/// Mostly long enough, so that the other lists come to be tested too.
+fn pick(r: &mut Rng, exact: usize) -> usize {
+    let list = around(r, exact);
+    if r.once_in(3) {
+        r.pick(&list)
+    } else {
+        exact + r.below(4)
+    }
+}
+
+/// Reads a file into lists of these lengths.
+pub fn read_into(c: &mut Check, file: &[u8], speeds: usize, weights: usize) {
+    let (e, w) = (c.rng.pattern(4 * speeds), c.rng.pattern(4 * weights));
+    let entries = c.rng.below(4);
+    let answer = c.rng.pattern(8 * entries);
+    c.judge(Call::Read, &[file, &e, &w, &answer], None);
+}
+
+/// A list of separators: the first entries given, cut or followed by anything.
+fn with_length(r: &mut Rng, list: &[u32], len: usize) -> Vec<u8> {
+    let mut bytes = bytes_of(list);
+    bytes.truncate(4 * len);
+    let more = 4 * len - bytes.len();
+    bytes.extend(r.pattern(more));
+    bytes
+}
+
+fn files(c: &mut Check, s: &Solved, e: &[u8], w: &[u8], thorough: bool) {
+    let (p, n) = (s.job.speeds.len(), s.job.weights.len());
+    c.judge(Call::Test, &[e, w], Some(s));
+    let file = s.job.file();
+    for l in lengths(&mut c.rng, &[p, n, 2], thorough) {
+        let (lent_e, lent_w, answer) = (c.rng.pattern(4 * l[0]), c.rng.pattern(4 * l[1]), c.rng.pattern(8 * l[2]));
+        c.judge(Call::Read, &[&file, &lent_e, &lent_w, &answer], Some(s));
+    }
+    for l in lengths(&mut c.rng, &[8 * (p + n), 1], thorough) {
+        let (lent, answer) = (c.rng.pattern(l[0]), c.rng.pattern(8 * l[1]));
+        c.judge(Call::Write, &[e, w, &lent, &answer], Some(s));
+    }
+}
+
+/// A division of the job, now and then one that is none.
+fn division(r: &mut Rng, s: &Solved) -> Vec<u32> {
+    let (p, n) = (s.job.speeds.len(), s.job.weights.len() as u32);
+    let mut list: Vec<u32> = match r.below(4) {
+        0 => s.best.iter().map(|&x| x as u32).collect(),
+        1 => s.quick.iter().map(|&x| x as u32).collect(),
+        _ => {
+            let mut inner: Vec<u32> = (1..p).map(|_| r.range(0, n)).collect();
+            inner.sort();
+            [&[0], &inner[..], &[n]].concat()
+        }
+    };
+    if r.once_in(3) {
+        let k = r.below(p + 1);
+        list[k] = match r.below(5) {
+            0 => list[k].wrapping_add(1),
+            1 => list[k].wrapping_sub(1),
+            2 => n + 1,
+            3 => 0,
+            _ => r.next() as u32,
+        };
+    }
+    list
+}
+
+fn measures(c: &mut Check, s: &Solved, e: &[u8], w: &[u8], thorough: bool) {
+    let p = s.job.speeds.len();
+    for l in lengths(&mut c.rng, &[p + 1, 2], thorough) {
+        let list = division(&mut c.rng, s);
+        let (list, answer) = (with_length(&mut c.rng, &list, l[0]), c.rng.pattern(8 * l[1]));
+        c.judge(Call::Measure, &[e, w, &list, &answer], Some(s));
+    }
+    for l in lengths(&mut c.rng, &[p + 1, 16 * p, 1], thorough) {
+        let list = division(&mut c.rng, s);
+        let (list, plan, answer) = (with_length(&mut c.rng, &list, l[0]), c.rng.pattern(l[1]), c.rng.pattern(8 * l[2]));
+        c.judge(Call::PlanFile, &[e, w, &list, &plan, &answer], Some(s));
+    }
+}
+
+/// A bound to try: of a share, next to one, the ideal, the best, or anything, now and then out of range.
+fn bound(r: &mut Rng, s: &Solved) -> (u64, u64) {
+    let (p, n) = (s.job.speeds.len(), s.job.weights.len());
+    let (a, b) = (r.below(n + 1), r.below(n + 1));
+    let share: Bound = (s.job.weight(a.min(b), a.max(b)), s.job.speeds[r.below(p)] as u128);
+    let near = match r.below(6) {
+        0 => methods::ideal(&s.job),
+        1 | 2 => s.bottleneck,
+        _ => share,
+    };
+    // The same bound in other numbers, or as little off as they allow.
+    let times = 1 + r.below(100_000) as u128;
+    let off = r.range(0, 2) as u128;
+    let near = match r.below(3) {
+        0 => near,
+        1 => (near.0 * times, near.1 * times),
+        _ => ((near.0 * times + off).saturating_sub(1), near.1 * times),
+    };
+    let near = (near.0.min(100_000_000_000_000) as u64, near.1.min(1_000_000_000) as u64);
+    match r.below(24) {
+        0 => (r.pick(&[0, 1, 100_000_000_000_000]), r.pick(&[1, 1_000_000_000])),
+        1 => (r.pick(&[100_000_000_000_001, u64::MAX, 1 << 63]), near.1),
+        2 => (near.0, r.pick(&[0, 1_000_000_001, 1 << 32, u64::MAX])),
+        3 => (r.next() % 100_000_000_000_001, 1 + r.next() % 1_000_000_000),
+        _ => near,
+    }
+}
+
+/// The trial that the test expects must itself fit exactly when the best division stays within the bound, and its next bid must
+/// lie above the bound and not above the best.
+fn sound(c: &mut Check, s: &Solved, bound: Bound) {
+    let good = match methods::trial(&s.job, bound) {
+        Tried::Fits(_) => {
+            c.fits += 1;
+            !less(bound, s.bottleneck)
+        }
+        Tried::Next(next) => less(bound, s.bottleneck) && less(bound, next) && !less(s.bottleneck, next),
+    };
+    if !good {
+        c.fail(&format!("the solver's own trial at {:?} is wrong", bound), format!("  {:?}", s.job));
+    }
+}
+
+fn trials(c: &mut Check, s: &Solved, e: &[u8], w: &[u8], thorough: bool) {
+    let p = s.job.speeds.len();
+    for l in lengths(&mut c.rng, &[p + 1, 3], thorough) {
+        for _ in 0..2 {
+            let (load, speed) = bound(&mut c.rng, s);
+            if speed != 0 && load <= 100_000_000_000_000 {
+                sound(c, s, (load as u128, speed as u128));
+            }
+            let (lent, answer) = (c.rng.pattern(4 * l[0]), c.rng.pattern(8 * l[1]));
+            c.judge(Call::Trial { load, speed }, &[e, w, &lent, &answer], Some(s));
+        }
+    }
+    for l in lengths(&mut c.rng, &[p + 1, 2], thorough) {
+        let (lent, answer) = (c.rng.pattern(4 * l[0]), c.rng.pattern(8 * l[1]));
+        c.judge(Call::Quick, &[e, w, &lent, &answer], Some(s));
+    }
+}
+
+fn plans(c: &mut Check, s: &Solved, e: &[u8], w: &[u8], thorough: bool) {
+    let (p, n) = (s.job.speeds.len(), s.job.weights.len());
+    for method in 1..=3 {
+        if s.counts[method as usize - 1] > methods::allowance(&s.job, method) {
+            c.fail("the solver's own count is above the allowance", format!("  {:?}", s));
+        }
+        for l in lengths(&mut c.rng, &[p + 1, 5 * (n + 1), 5], thorough) {
+            let (lent, work, answer) = (c.rng.pattern(4 * l[0]), c.rng.pattern(4 * l[1]), c.rng.pattern(8 * l[2]));
+            c.judge(Call::Plan { method }, &[e, w, &lent, &work, &answer], Some(s));
+        }
+    }
+}
+
+/// Every call on an accepted job.
+pub fn job(c: &mut Check, s: &Solved, thorough: bool) {
+    let (e, w) = (bytes_of(&s.job.speeds), bytes_of(&s.job.weights));
+    c.accepted(&s.job, &s.best);
+    files(c, s, &e, &w, thorough);
+    measures(c, s, &e, &w, thorough);
+    trials(c, s, &e, &w, thorough);
+    plans(c, s, &e, &w, thorough);
+}
+
+/// A job that both solvers must agree on before the planner is asked.
+pub fn both(c: &mut Check, job_: &Job, thorough: bool) {
+    let s = Solved::of(job_);
+    let other = crate::fast::solve(job_);
+    if (&s.best, &s.bottleneck) != (&other.0, &other.1) {
+        c.fail(&format!("the solvers differ: {:?} and {:?}", s, other), format!("  {:?}", job_));
+    }
+    let moves = methods::moves_by_walks(job_);
+    if moves != s.counts[0] {
+        c.fail(&format!("the solvers differ: {} and {} moves", s.counts[0], moves), format!("  {:?}", job_));
+    }
+    job(c, &s, thorough);
+}

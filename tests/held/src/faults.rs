@@ -1,0 +1,468 @@
+//! A planner with one fault made on purpose, between the test and the archives. HELD_FAULT names the fault; `list` prints all.
+
+use std::sync::atomic::{AtomicU64, Ordering::Relaxed};
+use std::sync::OnceLock;
+
+use crate::answers;
+use crate::job::{self, Job};
+use crate::methods::{self, Tried};
+use crate::planner::{self, At, Call, Slot};
+use crate::slow::{self, less, Bound};
+
+/// The lists of a call, to be read and spoilt.
+#[derive(Clone, Copy)]
+struct Lists<'a> {
+    call: Call,
+    at: &'a [At],
+}
+
+type Run = fn(Lists) -> u32;
+
+/// # Safety
+/// Each list is good for its length, or null with length 0.
+pub unsafe fn call(call: Call, at: &[At]) -> u32 {
+    static CHOSEN: OnceLock<Run> = OnceLock::new();
+    CHOSEN.get_or_init(chosen)(Lists { call, at })
+}
+
+fn chosen() -> Run {
+    let name = std::env::var("HELD_FAULT").unwrap_or_default();
+    match FAULTS.iter().find(|f| f.0 == name) {
+        Some(f) => f.2,
+        None => panic!("no fault named '{}'", name),
+    }
+}
+
+/// Prints the name of every fault, and what it is.
+pub fn list() {
+    for (name, what, _) in FAULTS {
+        println!("{}\t{}", name, what);
+    }
+}
+
+impl Lists<'_> {
+    fn place(&self, slot: Slot) -> Option<At> {
+        let k = self.call.slots().iter().position(|&s| s == slot)?;
+        (!self.at[k].0.is_null()).then_some(self.at[k])
+    }
+
+    fn words(&self, slot: Slot) -> &'static mut [u32] {
+        match self.place(slot) {
+            Some((at, n)) => unsafe { std::slice::from_raw_parts_mut(at as *mut u32, n) },
+            None => &mut [],
+        }
+    }
+
+    fn bytes(&self, slot: Slot) -> &'static mut [u8] {
+        match self.place(slot) {
+            Some((at, n)) => unsafe { std::slice::from_raw_parts_mut(at, n * slot.width()) },
+            None => &mut [],
+        }
+    }
+
+    fn answer(&self) -> &'static mut [u64] {
+        match self.place(Slot::Answer) {
+            Some((at, n)) => unsafe { std::slice::from_raw_parts_mut(at as *mut u64, n) },
+            None => &mut [],
+        }
+    }
+
+    fn real(&self) -> u32 {
+        unsafe { planner::real(self.call, self.at) }
+    }
+
+    /// The real call, then `spoil` if it is one of these and was accepted.
+    fn then(&self, wanted: bool, spoil: impl FnOnce(&Job)) -> u32 {
+        let code = self.real();
+        if wanted && code == 0 {
+            spoil(&self.job());
+        }
+        code
+    }
+
+    fn job(&self) -> Job {
+        match self.call {
+            Call::Read | Call::Host { .. } => job::read(self.bytes(Slot::File), 1, usize::MAX).unwrap(),
+            _ => Job::new(self.words(Slot::Speeds), self.words(Slot::Weights)),
+        }
+    }
+
+    fn is_plan(&self, method: u32) -> bool {
+        self.call == Call::Plan { method }
+    }
+
+    fn is_plans(&self) -> bool {
+        matches!(self.call, Call::Plan { .. })
+    }
+
+    fn is_host(&self) -> bool {
+        matches!(self.call, Call::Host { .. })
+    }
+
+    fn is_trial(&self) -> bool {
+        matches!(self.call, Call::Trial { .. })
+    }
+
+    /// Spoils an entry of the answer of an accepted call.
+    fn figure(&self, wanted: bool, entry: usize, spoil: impl FnOnce(&Job, u64) -> u64) -> u32 {
+        self.then(wanted, |job| {
+            if let Some(v) = self.answer().get_mut(entry) {
+                *v = spoil(job, *v);
+            }
+        })
+    }
+
+    /// Spoils the bottleneck of an accepted call, which stands at these entries.
+    fn pair(&self, wanted: bool, entry: usize, spoil: impl FnOnce(&Job, Bound) -> Bound) -> u32 {
+        self.then(wanted, |job| {
+            if let Some([load, speed]) = self.answer().get_mut(entry..entry + 2) {
+                let new = spoil(job, (*load as u128, *speed as u128));
+                (*load, *speed) = (new.0 as u64, new.1 as u64);
+            }
+        })
+    }
+
+    /// Spoils the inner separators of an accepted plan, by lists or by the C call.
+    fn inner(&self, wanted: bool, spoil: impl FnOnce(&Job, &mut [u32])) -> u32 {
+        self.then(wanted, |job| {
+            let machines = job.speeds.len();
+            if !self.is_host() {
+                return spoil(job, &mut self.words(Slot::Separators)[..machines + 1]);
+            }
+            let plan = self.bytes(Slot::Plan);
+            let mut s: Vec<u32> = vec![0];
+            s.extend(job::decode(&plan[..16 * machines]).iter().map(|r| r[1]));
+            spoil(job, &mut s);
+            let s: Vec<usize> = s.iter().map(|&x| x as usize).collect();
+            plan[..16 * machines].copy_from_slice(&job::encode(&job::plan_of(job, &s)));
+        })
+    }
+
+    /// The numbers of all tests that fail, of a call on lists.
+    fn numbers(&self) -> Vec<u32> {
+        let (e, w) = (self.words(Slot::Speeds), self.words(Slot::Weights));
+        let s = self.words(Slot::Separators);
+        let has = |slot| self.call.slots().contains(&slot);
+        let lends = has(Slot::Separators);
+        let mut short = lends && s.len() < e.len() + 1;
+        short |= has(Slot::Work) && self.words(Slot::Work).len() < 5 * (w.len() + 1);
+        short |= has(Slot::Plan) && self.bytes(Slot::Plan).len() < 16 * e.len();
+        short |= self.call == Call::Write && self.bytes(Slot::File).len() < 8 * (e.len() + w.len());
+        let divides = matches!(self.call, Call::Measure | Call::PlanFile);
+        let out = |load, speed| load > 100_000_000_000_000 || !(1..=1_000_000_000).contains(&speed);
+        let tests = [
+            (matches!(self.call, Call::Plan { method } if !(1..=3).contains(&method)), 1),
+            (e.iter().any(|&e| e == 0 || e > 10_000), 5),
+            (w.iter().any(|&w| w > 1_000_000), 6),
+            (e.is_empty() || e.len() > 256, 7),
+            (w.len() > 2_048, 8),
+            (short, 9),
+            (matches!(self.call, Call::Trial { load, speed } if out(load, speed)), 10),
+            (divides && s.len() > e.len() && !answers::is_division(&s[..e.len() + 1], w.len()), 11),
+        ];
+        tests.iter().filter(|t| t.0).map(|t| t.1).collect()
+    }
+
+    /// Calls on lists with their tests in another order.
+    fn ordered(&self, order: &[u32]) -> u32 {
+        if matches!(self.call, Call::Read | Call::Host { .. }) {
+            return self.real();
+        }
+        let all = self.numbers();
+        order.iter().copied().find(|n| all.contains(n)).unwrap_or_else(|| self.real())
+    }
+
+    /// Files, by numbers that a rule makes of all records.
+    fn by_records(&self, rule: fn(&[u8]) -> Option<u32>) -> u32 {
+        match self.real() {
+            code @ 3..=6 => rule(self.bytes(Slot::File)).unwrap_or(code),
+            code => code,
+        }
+    }
+
+    /// On refusal changes the first byte of a lent list.
+    fn mark(&self, wanted: bool, slot: Slot) -> u32 {
+        let code = self.real();
+        if wanted && code != 0 {
+            if let Some(b) = self.bytes(slot).first_mut() {
+                *b ^= 1;
+            }
+        }
+        code
+    }
+
+    /// A byte behind the end of a list, or before its start, where the call is accepted.
+    fn stray(&self, wanted: bool, slot: Slot, behind: bool) -> u32 {
+        self.then(wanted, |_| {
+            if let Some((at, n)) = self.place(slot) {
+                let place = if behind { at.wrapping_add(n * slot.width()) } else { at.wrapping_sub(1) };
+                unsafe { *place ^= 1 };
+            }
+        })
+    }
+
+    /// The call on another buffer in one place.
+    fn with(&self, slot: Slot, list: &mut [u8]) -> u32 {
+        let k = self.call.slots().iter().position(|&s| s == slot).unwrap();
+        let mut at = self.at.to_vec();
+        at[k] = (list.as_mut_ptr(), list.len());
+        unsafe { planner::real(self.call, &at) }
+    }
+
+    /// The same call with other numbers.
+    fn other(&self, call: Call) -> u32 {
+        unsafe { planner::real(call, self.at) }
+    }
+
+    /// A call on files that sees another file.
+    fn seeing(&self, wanted: bool, change: fn(&mut [u8])) -> u32 {
+        if !wanted {
+            return self.real();
+        }
+        let mut file = self.bytes(Slot::File).to_vec();
+        change(&mut file);
+        self.with(Slot::File, &mut file)
+    }
+
+    /// Spoils each 16-byte record of an accepted plan file.
+    fn records(&self, wanted: bool, spoil: fn(&mut [u8])) -> u32 {
+        self.then(wanted, |job| self.bytes(Slot::Plan)[..16 * job.speeds.len()].chunks_mut(16).for_each(spoil))
+    }
+}
+
+fn gcd(a: u128, b: u128) -> u128 {
+    if b == 0 {
+        a
+    } else {
+        gcd(b, a % b)
+    }
+}
+
+fn reduced(b: Bound) -> Bound {
+    let g = gcd(b.0, b.1);
+    (b.0 / g, b.1 / g)
+}
+
+/// The same bound as the highest-numbered machine has it.
+fn of_last_machine(job: &Job, s: &[u32], found: Bound) -> Bound {
+    let shares = (0..job.speeds.len()).map(|p| (job.weight(s[p] as usize, s[p + 1] as usize), job.speeds[p] as u128));
+    shares.filter(|&b| !less(b, found)).last().unwrap_or(found)
+}
+
+fn best_bound(job: &Job) -> Bound {
+    answers::Solved::of(job).bottleneck
+}
+
+/// All bids of a trial that fails.
+fn all_bids(job: &Job, bound: Bound) -> Vec<Bound> {
+    let (mut at, mut bids) = (0, Vec::new());
+    for (p, &e) in job.speeds.iter().enumerate() {
+        let share = |to: usize| (job.weight(at, to), e as u128);
+        if p + 1 == job.speeds.len() {
+            bids.push(share(job.weights.len()));
+            break;
+        }
+        let to = (at..=job.weights.len()).rev().find(|&to| !less(bound, share(to))).unwrap();
+        bids.push(share(to + 1));
+        at = to;
+    }
+    bids
+}
+
+/// Puts another bid of the failed trial into the answer.
+fn rebid(l: Lists, choose: fn(&[Bound], Bound) -> Bound) -> u32 {
+    let Call::Trial { load, speed } = l.call else { return l.real() };
+    l.pair(true, 1, |job, found| match methods::trial(job, (load as u128, speed as u128)) {
+        Tried::Next(_) => choose(&all_bids(job, (load as u128, speed as u128)), found),
+        Tried::Fits(_) => found,
+    })
+}
+
+/// Another quick plan: its separators, with their bottleneck.
+fn requick(l: Lists, nearer: fn(i128, i128) -> bool) -> u32 {
+    l.then(l.call == Call::Quick, |job| {
+        let whole = job.weight(0, job.weights.len()) as i128;
+        let all: i128 = job.speeds.iter().map(|&e| e as i128).sum();
+        let mut sofar = 0;
+        let mut s = vec![0usize];
+        for &e in &job.speeds[..job.speeds.len() - 1] {
+            sofar += e as i128;
+            let off = |i: usize| job.weight(0, i) as i128 * all - whole * sofar;
+            let pick = |best: usize, i: usize| if nearer(off(i), off(best)) { i } else { best };
+            s.push((0..=job.weights.len()).reduce(pick).unwrap());
+        }
+        s.push(job.weights.len());
+        let found = slow::bottleneck(job, &s);
+        for (to, from) in l.words(Slot::Separators).iter_mut().zip(&s) {
+            *to = *from as u32;
+        }
+        for (to, from) in l.answer().iter_mut().zip([found.0, found.1]) {
+            *to = from as u64;
+        }
+    })
+}
+
+/// The table's value where each entry looks only at its crossing.
+fn crossing_only(job: &Job) -> Bound {
+    let tiles = job.weights.len();
+    let mut row: Vec<Bound> = (0..=tiles).map(|i| (job.weight(0, i), job.speeds[0] as u128)).collect();
+    for &e in &job.speeds[1..] {
+        let share = |j: usize, i: usize| (job.weight(j, i), e as u128);
+        let at = |i: usize| (0..=i).find(|&j| !less(row[j], share(j, i))).unwrap();
+        row = (0..=tiles).map(|i| row[at(i)]).collect();
+    }
+    row[tiles]
+}
+
+/// True once in so many times.
+fn seldom(times: u64) -> bool {
+    static TURN: AtomicU64 = AtomicU64::new(0);
+    TURN.fetch_add(1, Relaxed) % times == times - 1
+}
+
+fn value(r: &[u8]) -> u32 {
+    u32::from_le_bytes(r[4..8].try_into().unwrap())
+}
+
+/// The least number of any record.
+fn rule_by_rule(file: &[u8]) -> Option<u32> {
+    (1..=file.len() / 8).filter_map(|n| job::read(&file[..8 * n], 1, usize::MAX).err()).filter(|n| (3..=6).contains(n)).min()
+}
+
+/// 5 before 4 in one record.
+fn speed_before_place(file: &[u8]) -> Option<u32> {
+    let mut tiles = false;
+    for r in file.chunks(8) {
+        if r[1] != 0 || r[2] != 0 || r[3] != 0 || r[0] == 0 || r[0] > 2 {
+            return None;
+        }
+        let bad = r[0] == 1 && (value(r) == 0 || value(r) > 10_000);
+        if tiles && r[0] == 1 {
+            return bad.then_some(5);
+        }
+        tiles |= r[0] == 2;
+    }
+    None
+}
+
+fn swap_fields(r: &mut [u8]) {
+    for k in 8..12 {
+        r.swap(k, k + 4);
+    }
+}
+
+#[rustfmt::skip]
+const FAULTS: &[(&str, &str, Run)] = &[
+    ("none", "no fault: this one must pass", |l| l.real()),
+    // Plans by lists and by the C call.
+    ("plan-separator-short", "the first inner separator one too small", |l| l.inner(l.is_plans(), |_, s| if s.len() > 2 && s[1] > 0 { s[1] -= 1 })),
+    ("plan-separator-long", "the last inner separator one too great", |l| l.inner(l.is_plans(), |_, s| { let k = s.len() - 2; if k > 0 && s[k] < s[k + 1] { s[k] += 1 } })),
+    ("plan-tie", "a share stopped before tiles of weight 0", |l| l.inner(l.is_plans(), |j, s| for k in 1..s.len() - 1 { if s[k] > s[k - 1] && j.weights[s[k] as usize - 1] == 0 { s[k] -= 1 } })),
+    ("plan-many", "one separator wrong, by bisection, with more than 200 machines", |l| l.inner(l.is_plan(3), |_, s| { let k = s.len() - 2; if k > 200 && s[k] > s[k - 1] { s[k] -= 1 } })),
+    ("plan-seldom", "one separator wrong once in 50,000 plans", |l| l.inner(l.is_plans(), |_, s| if s.len() > 2 && s[1] > 0 && seldom(50_000) { s[1] -= 1 })),
+    ("plan-quick", "the quick plan for bidding", |l| l.inner(l.is_plan(2), |j, s| for (to, from) in s.iter_mut().zip(methods::quick(j)) { *to = from as u32 })),
+    ("plan-whole", "a bound rounded up to a whole number", |l| l.inner(l.is_plans(), |j, s| { let b = slow::bottleneck(j, &s.iter().map(|&x| x as usize).collect::<Vec<_>>()); if let Tried::Fits(d) = methods::trial(j, (b.0.div_ceil(b.1), 1)) { for (to, from) in s.iter_mut().zip(d) { *to = from as u32 } } })),
+    ("plan-crossing", "the table looking only at the crossing", |l| l.inner(l.is_plan(1) && l.at[1].1 < 200, |j, s| if let Tried::Fits(d) = methods::trial(j, crossing_only(j)) { for (to, from) in s.iter_mut().zip(d) { *to = from as u32 } })),
+    ("plan-endless", "bisection without end for three machines of speed 3", |l| { while l.is_plan(3) && l.words(Slot::Speeds) == [3, 3, 3] {} l.real() }),
+    ("plan-nothing", "no separators written", |l| { let before = l.words(Slot::Separators).to_vec(); l.then(l.is_plans(), |_| l.words(Slot::Separators).copy_from_slice(&before)) }),
+    ("host-separator", "C call: a separator one too small", |l| l.inner(l.is_host(), |_, s| if s.len() > 2 && s[1] > 0 { s[1] -= 1 })),
+    ("host-tie", "C call: a share stopped before tiles of weight 0", |l| l.inner(l.is_host(), |j, s| for k in 1..s.len() - 1 { if s[k] > s[k - 1] && j.weights[s[k] as usize - 1] == 0 { s[k] -= 1 } })),
+    ("host-many", "C call: a separator wrong with 256 machines only", |l| l.inner(l.is_host(), |_, s| { let k = s.len() - 2; if k == 255 && s[k] > s[k - 1] { s[k] -= 1 } })),
+    ("host-big-endian", "C call: the load's bytes in the other order", |l| l.records(l.is_host(), |r| r[8..12].reverse())),
+    ("host-exchanged", "C call: load and speed exchanged", |l| l.records(l.is_host(), swap_fields)),
+    ("host-kind-3", "C call: a record of kind 3 taken for a tile", |l| l.seeing(l.is_host(), |f| f.chunks_exact_mut(8).for_each(|r| if r[0] == 3 { r[0] = 2 }))),
+    ("host-past", "C call: a byte written past the plan buffer", |l| l.stray(l.is_host(), Slot::Plan, true)),
+    ("host-before", "C call: a byte written before the plan buffer", |l| l.stray(l.is_host(), Slot::Plan, false)),
+    ("host-later", "C call: the bytes after the plan cleared", |l| l.then(l.is_host(), |j| l.bytes(Slot::Plan)[16 * j.speeds.len()..].fill(0))),
+    ("host-refused", "C call: the plan buffer changed on refusal", |l| l.mark(l.is_host(), Slot::Plan)),
+    ("host-input", "C call: the job file changed", |l| l.then(l.is_host(), |_| l.bytes(Slot::File)[4] ^= 1)),
+    ("host-length", "C call: a file of 8 n + 4 bytes judged by 8 n", |l| if l.is_host() && l.at[0].1 % 8 == 4 { let mut f = l.bytes(Slot::File).to_vec(); f.truncate(l.at[0].1 - 4); l.with(Slot::File, &mut f) } else { l.real() }),
+    ("host-method", "C call: method 4 taken for 3", |l| if l.call == (Call::Host { method: 4 }) { l.other(Call::Host { method: 3 }) } else { l.real() }),
+    ("host-9-early", "C call: no plan buffer tested before the file", |l| if l.is_host() && l.at[1].1 == 0 && l.real() > 1 { 9 } else { l.real() }),
+    // Figures.
+    ("count-table", "table: a move too many", |l| l.figure(l.is_plan(1), 0, |_, v| v + 1)),
+    ("count-bidding", "bidding: the trial that fits not counted", |l| l.figure(l.is_plan(2), 0, |_, v| v - 1)),
+    ("count-bisection", "bisection: the closing walk counted", |l| l.figure(l.is_plan(3), 0, |_, v| v + 1)),
+    ("count-zero", "table: moves over tiles of weight 0 not counted", |l| l.figure(l.is_plan(1), 0, |j, v| v.saturating_sub(j.weights.iter().filter(|&&w| w == 0).count() as u64))),
+    ("allowance-table", "table: one too many", |l| l.figure(l.is_plan(1), 1, |_, v| v + 1)),
+    ("allowance-bidding", "bidding: without its 1", |l| l.figure(l.is_plan(2), 1, |_, v| v - 1)),
+    ("allowance-bisection", "bisection: without its 1", |l| l.figure(l.is_plan(3), 1, |_, v| v - 1)),
+    ("allowance-nought", "bisection: 0 has a digit", |l| l.figure(l.is_plan(3), 1, |_, v| v.max(2))),
+    ("allowance-slowest", "bisection: D not divided by the slowest speed", |l| l.figure(l.is_plan(3), 1, |j, _| methods::allowance(&Job::new(&[&j.speeds[..], &[1]].concat(), &j.weights), 3))),
+    ("imbalance-up", "rounded up", |l| l.figure(l.is_plans(), 4, |j, v| { let (w, e) = methods::ideal(j); let b = best_bound(j); if w > 0 && 1000 * (b.0 * e - w * b.1) % (w * b.1) != 0 { v + 1 } else { v } })),
+    ("imbalance-hundred", "per hundred", |l| l.figure(l.is_plans(), 4, |_, v| v / 10)),
+    ("bottleneck-reduced", "plan: the pair reduced", |l| l.pair(l.is_plans(), 2, |_, b| reduced(b))),
+    ("bottleneck-last", "plan: the pair of the highest-numbered machine", |l| { let s = l.words(Slot::Separators); l.pair(l.is_plans(), 2, |j, b| of_last_machine(j, s, b)) }),
+    ("bottleneck-nought", "plan: 0/1 where nothing weighs", |l| l.pair(l.is_plans(), 2, |_, b| if b.0 == 0 { (0, 1) } else { b })),
+    // Refusals.
+    ("order-6-5", "weights before speeds", |l| l.ordered(&[1, 6, 5, 7, 8, 9, 10, 11])),
+    ("order-7-5", "counts before values", |l| l.ordered(&[1, 7, 8, 5, 6, 9, 10, 11])),
+    ("order-8-7", "tiles counted before machines", |l| l.ordered(&[1, 5, 6, 8, 7, 9, 10, 11])),
+    ("order-9-8", "lengths before the count of tiles", |l| l.ordered(&[1, 5, 6, 7, 9, 8, 10, 11])),
+    ("order-10-9", "the bound before the lengths", |l| l.ordered(&[1, 5, 6, 7, 8, 10, 9, 11])),
+    ("order-11-9", "the division before the lengths", |l| l.ordered(&[1, 5, 6, 7, 8, 11, 9, 10])),
+    ("order-1-last", "the method tested last", |l| l.ordered(&[5, 6, 7, 8, 9, 10, 11, 1])),
+    ("order-rules", "reading: 3 to 6 rule by rule, not record by record", |l| l.by_records(rule_by_rule)),
+    ("order-5-4", "reading: 5 before 4 in one record", |l| l.by_records(speed_before_place)),
+    ("order-2-late", "reading: the length tested after the records", |l| if l.call == Call::Read && l.at[0].1 % 8 != 0 { let mut f = l.bytes(Slot::File).to_vec(); f.truncate(l.at[0].1 / 8 * 8); match l.with(Slot::File, &mut f) { n @ 3..=6 => n, _ => 2 } } else { l.real() }),
+    ("limit-speed", "speed 10,000 refused", |l| if l.call == Call::Test && l.words(Slot::Speeds).contains(&10_000) { 5 } else { l.real() }),
+    ("limit-weight", "weight 1,000,001 passes", |l| if l.call == Call::Test && l.numbers() == [6] && l.words(Slot::Weights).iter().all(|&w| w <= 1_000_001) { 0 } else { l.real() }),
+    ("limit-machines", "257 machines pass", |l| if l.call == Call::Test && l.numbers() == [7] && l.at[0].1 == 257 { 0 } else { l.real() }),
+    ("limit-tiles", "2,048 tiles refused", |l| if l.call == Call::Test && l.numbers().is_empty() && l.at[1].1 == 2_048 { 8 } else { l.real() }),
+    ("limit-load", "a bound's load of 100,000,000,000,000 refused", |l| if matches!(l.call, Call::Trial { load: 100_000_000_000_000, .. }) && l.numbers().is_empty() { 10 } else { l.real() }),
+    ("limit-bound", "a bound's speed of 1,000,000,001 passes", |l| match l.call { Call::Trial { load, speed: 1_000_000_001 } => l.other(Call::Trial { load, speed: 1_000_000_000 }), _ => l.real() }),
+    ("short-separators", "P separators taken for enough", |l| if l.call == Call::Quick && l.numbers() == [9] && l.at[2].1 == l.at[0].1 { 0 } else { l.real() }),
+    ("short-work", "5 N work numbers taken for enough", |l| if l.is_plans() && l.numbers() == [9] && l.at[3].1 >= 5 * l.at[1].1 { 0 } else { l.real() }),
+    // Stores.
+    ("refused-separators", "separators changed on refusal", |l| l.mark(true, Slot::Separators)),
+    ("refused-work", "a work number changed on refusal", |l| l.mark(l.is_plans(), Slot::Work)),
+    ("refused-answer", "an answer given on refusal", |l| l.mark(true, Slot::Answer)),
+    ("refused-file", "writing: the buffer changed on refusal", |l| l.mark(l.call == Call::Write, Slot::File)),
+    ("refused-speeds", "reading: the list of speeds changed on refusal", |l| l.mark(l.call == Call::Read, Slot::Speeds)),
+    ("refused-plan", "plan file: the buffer changed on refusal", |l| l.mark(l.call == Call::PlanFile, Slot::Plan)),
+    ("past-separators", "quick plan: written past the separators", |l| l.stray(l.call == Call::Quick, Slot::Separators, true)),
+    ("past-work", "plan: written past the work numbers", |l| l.stray(l.is_plans(), Slot::Work, true)),
+    ("past-weights", "reading: written past the weights", |l| l.stray(l.call == Call::Read, Slot::Weights, true)),
+    ("past-file", "writing: written past the buffer", |l| l.stray(l.call == Call::Write, Slot::File, true)),
+    ("before-plan", "plan file: written before the buffer", |l| l.stray(l.call == Call::PlanFile, Slot::Plan, false)),
+    ("later-separators", "plan: the entry after the separators changed", |l| l.then(l.is_plans(), |j| if let Some(v) = l.words(Slot::Separators).get_mut(j.speeds.len() + 1) { *v ^= 1 })),
+    ("later-work", "plan: a work number past 5 (N + 1) changed", |l| l.then(l.is_plans(), |j| if let Some(v) = l.words(Slot::Work).get_mut(5 * (j.weights.len() + 1)) { *v ^= 1 })),
+    ("later-speeds", "reading: entries after the speeds cleared", |l| l.then(l.call == Call::Read, |j| l.words(Slot::Speeds)[j.speeds.len()..].fill(0))),
+    ("later-file", "writing: bytes after the file cleared", |l| l.then(l.call == Call::Write, |j| l.bytes(Slot::File)[8 * (j.speeds.len() + j.weights.len())..].fill(0))),
+    ("input-weights", "measuring: a weight changed", |l| l.then(l.call == Call::Measure, |_| if let Some(v) = l.words(Slot::Weights).first_mut() { *v ^= 1 })),
+    ("input-separators", "plan file: a separator changed", |l| l.then(l.call == Call::PlanFile, |_| l.words(Slot::Separators)[0] ^= 1)),
+    // Files.
+    ("read-kind-3", "reading: kind 3 taken for a tile", |l| l.seeing(l.call == Call::Read, |f| f.chunks_exact_mut(8).for_each(|r| if r[0] == 3 { r[0] = 2 }))),
+    ("read-byte-3", "reading: byte 3 not tested", |l| l.seeing(l.call == Call::Read, |f| f.chunks_exact_mut(8).for_each(|r| r[3] = 0))),
+    ("read-big-endian", "reading: the value's bytes in the other order", |l| l.seeing(l.call == Call::Read, |f| f.chunks_exact_mut(8).for_each(|r| r[4..8].reverse()))),
+    ("read-high-byte", "reading: the value's highest byte left out", |l| l.seeing(l.call == Call::Read, |f| f.chunks_exact_mut(8).for_each(|r| r[7] = 0))),
+    ("read-counts", "reading: P and N exchanged", |l| l.then(l.call == Call::Read, |_| if let Some(a) = l.answer().get_mut(..2) { a.swap(0, 1) })),
+    ("read-short", "reading: a list of N - 1 weights taken for enough", |l| match l.real() { 9 if l.call == Call::Read => { let j = l.job(); if l.at[1].1 >= j.speeds.len() && l.at[2].1 + 1 == j.weights.len() { 0 } else { 9 } } n => n }),
+    ("write-kind", "writing: tiles as machines", |l| l.then(l.call == Call::Write, |j| l.bytes(Slot::File).chunks_exact_mut(8).take(j.speeds.len() + j.weights.len()).for_each(|r| r[0] = 1))),
+    ("write-blank", "writing: bytes 1 to 3 not cleared", |l| { let before = l.bytes(Slot::File).to_vec(); l.then(l.call == Call::Write, |_| l.bytes(Slot::File)[1..4].copy_from_slice(&before[1..4])) }),
+    ("write-big-endian", "writing: the value's bytes in the other order", |l| l.then(l.call == Call::Write, |_| l.bytes(Slot::File)[4..8].reverse())),
+    ("write-count", "writing: records counted, not bytes", |l| l.figure(l.call == Call::Write, 0, |_, v| v / 8)),
+    ("planfile-big-endian", "plan file: the load's bytes in the other order", |l| l.records(l.call == Call::PlanFile, |r| r[8..12].reverse())),
+    ("planfile-exchanged", "plan file: load and speed exchanged", |l| l.records(l.call == Call::PlanFile, swap_fields)),
+    ("planfile-24-bits", "plan file: a load of 24 bits", |l| l.records(l.call == Call::PlanFile, |r| r[11] = 0)),
+    ("planfile-30-bits", "plan file: a load of 30 bits", |l| l.records(l.call == Call::PlanFile, |r| r[11] &= 0x3F)),
+    ("planfile-count", "plan file: records counted, not bytes", |l| l.figure(l.call == Call::PlanFile, 0, |_, v| v / 16)),
+    ("planfile-no-division", "plan file: a division that ends early taken", |l| match l.real() { 11 if l.call == Call::PlanFile => { let (s, n) = (l.words(Slot::Separators), l.at[0].1); if answers::is_division(&s[..n + 1], s[n] as usize) && (s[n] as usize) < l.at[1].1 { 0 } else { 11 } } n => n }),
+    // Measuring, trial, quick plan.
+    ("measure-no-division", "measuring: a division that does not begin at 0 taken", |l| match l.real() { 11 if l.call == Call::Measure => { let (s, n) = (l.words(Slot::Separators), l.at[0].1); let first = std::mem::replace(&mut s[0], 0); let code = l.real(); s[0] = first; if n > 0 { code } else { 11 } } n => n }),
+    ("measure-load", "measuring: the greatest load, not the greatest bound", |l| { let s = l.words(Slot::Separators).to_vec(); l.pair(l.call == Call::Measure, 0, |j, _| (0..j.speeds.len()).map(|p| (j.weight(s[p] as usize, s[p + 1] as usize), j.speeds[p] as u128)).reduce(|a, b| if b.0 > a.0 { b } else { a }).unwrap()) }),
+    ("measure-last", "measuring: the pair of the highest-numbered machine", |l| { let s = l.words(Slot::Separators).to_vec(); l.pair(l.call == Call::Measure, 0, |j, b| of_last_machine(j, &s, b)) }),
+    ("measure-reduced", "measuring: the pair reduced", |l| l.pair(l.call == Call::Measure, 0, |_, b| reduced(b))),
+    ("trial-lax", "trial: fits at a bound that is one below", |l| match l.call { Call::Trial { load, speed } if load < 100_000_000_000_000 => l.other(Call::Trial { load: load + 1, speed }), _ => l.real() }),
+    ("trial-strict", "trial: a share equal to the bound is too much", |l| match l.call { Call::Trial { load, speed } if (1..=100_000_000_000_000).contains(&load) && (1..=1_000_000_000).contains(&speed) => l.other(Call::Trial { load: load - 1, speed }), _ => l.real() }),
+    ("trial-writes", "trial: separators written by a trial that fails", |l| l.then(l.is_trial(), |_| if l.answer().first() == Some(&0) { l.words(Slot::Separators)[0] ^= 1 })),
+    ("trial-silent", "trial: no separators written by a fit", |l| { let before = l.words(Slot::Separators).to_vec(); l.then(l.is_trial(), |_| l.words(Slot::Separators).copy_from_slice(&before)) }),
+    ("trial-fails", "trial: fails always", |l| l.figure(l.is_trial(), 0, |_, _| 0)),
+    ("trial-next-last", "trial: a tie of next bids to the highest machine", |l| rebid(l, |bids, b| bids.iter().copied().filter(|&x| !less(b, x)).last().unwrap_or(b))),
+    ("trial-next-greatest", "trial: the greatest next bid", |l| rebid(l, |bids, b| bids.iter().copied().fold(b, |a, x| if less(a, x) { x } else { a }))),
+    ("trial-next-rest", "trial: the last machine does not bid", |l| rebid(l, |bids, b| bids[..bids.len() - 1].iter().copied().reduce(|a, x| if less(x, a) { x } else { a }).unwrap_or(b))),
+    ("trial-next-reduced", "trial: the next bid reduced", |l| rebid(l, |_, b| reduced(b))),
+    ("quick-tie", "quick plan: the greatest of the nearest indices", |l| requick(l, |new, old| new.abs() <= old.abs())),
+    ("quick-below", "quick plan: the last index below the target, not the nearest", |l| requick(l, |new, _| new <= 0)),
+    ("quick-best", "quick plan: the bottleneck of the best plan", |l| l.pair(l.call == Call::Quick, 0, |j, _| best_bound(j))),
+];

@@ -1,0 +1,228 @@
+//! Jobs by lists that must be refused: the smallest, and every set of faults together.
+
+use crate::answers::bytes_of;
+use crate::check::Check;
+use crate::planner::Call;
+use crate::rng::Rng;
+
+/// What a call on lists is given.
+struct Input {
+    method: u32,
+    bound: (u64, u64),
+    speeds: Vec<u32>,
+    weights: Vec<u32>,
+    separators: Vec<u32>,
+    /// Work numbers, plan bytes or file bytes, whichever the call takes.
+    room: usize,
+}
+
+/// A call by number, so that the calls can be gone through; its numbers come from the input.
+const CALLS: [(&str, &[u32]); 7] = [
+    ("test", &[5, 6, 7, 8]),
+    ("write", &[5, 6, 7, 8, 9]),
+    ("measure", &[5, 6, 7, 8, 9, 11]),
+    ("trial", &[5, 6, 7, 8, 9, 10]),
+    ("quick", &[5, 6, 7, 8, 9]),
+    ("plan", &[1, 5, 6, 7, 8, 9]),
+    ("plan file", &[5, 6, 7, 8, 9, 11]),
+];
+
+fn call_of(name: &str, i: &Input) -> Call {
+    match name {
+        "test" => Call::Test,
+        "write" => Call::Write,
+        "measure" => Call::Measure,
+        "trial" => Call::Trial { load: i.bound.0, speed: i.bound.1 },
+        "quick" => Call::Quick,
+        "plan" => Call::Plan { method: i.method },
+        _ => Call::PlanFile,
+    }
+}
+
+/// The entries that the call's other list must have.
+fn room_needed(name: &str, machines: usize, tiles: usize) -> usize {
+    match name {
+        "write" => 8 * (machines + tiles),
+        "plan" => 5 * (tiles + 1),
+        "plan file" => 16 * machines,
+        _ => 0,
+    }
+}
+
+/// Makes the call; `number` is what the rule says.
+fn refuse(c: &mut Check, name: &str, i: &Input, number: u32) {
+    let (e, w, s) = (bytes_of(&i.speeds), bytes_of(&i.weights), bytes_of(&i.separators));
+    let entries = c.rng.below(7);
+    let answer = c.rng.pattern(8 * entries);
+    let wide = if name == "plan" { 4 } else { 1 };
+    let other = c.rng.pattern(wide * i.room);
+    let call = call_of(name, i);
+    let given: Vec<&[u8]> = match name {
+        "test" => vec![&e, &w],
+        "write" => vec![&e, &w, &other, &answer],
+        "plan" | "plan file" => vec![&e, &w, &s, &other, &answer],
+        _ => vec![&e, &w, &s, &answer],
+    };
+    c.refuse(call, &given, number);
+}
+
+/// A division of so many tiles.
+fn some_division(r: &mut Rng, machines: usize, tiles: usize) -> Vec<u32> {
+    let mut inner: Vec<u32> = (1..machines).map(|_| r.range(0, tiles as u32)).collect();
+    inner.sort();
+    inner.insert(0, 0);
+    inner.push(tiles as u32);
+    inner
+}
+
+const BAD_SPEED: [u32; 5] = [0, 10_001, 65_537, 1_000_000, u32::MAX];
+const BAD_WEIGHT: [u32; 5] = [1_000_001, 1 << 20, 1 << 24, 1 << 31, u32::MAX];
+const BAD_METHOD: [u32; 6] = [0, 4, 255, 257, 65_538, u32::MAX];
+
+/// Counts and values: the lists of a job with these faults of 5 to 8, and the numbers of those that could be made.
+fn job_with(r: &mut Rng, faults: &[u32]) -> (Vec<u32>, Vec<u32>, Vec<u32>) {
+    let has = |n: u32| faults.contains(&n);
+    let mut made: Vec<u32> = faults.iter().copied().filter(|n| (6..=8).contains(n)).collect();
+    let machines = if has(7) { r.pick(&[0, 257, 258, 600]) } else { r.pick(&[1, 2, 3, 5, 255, 256]) };
+    let tiles = if has(8) { r.pick(&[2_049, 2_050, 5_000]) } else { r.pick(&[1, 2, 4, 7, 2_048]) };
+    let mut speeds: Vec<u32> = (0..machines).map(|_| r.pick(&[1, 2, 9_999, 10_000])).collect();
+    let mut weights: Vec<u32> = (0..tiles).map(|_| r.pick(&[0, 1, 999_999, 1_000_000])).collect();
+    if has(5) && machines > 0 {
+        let k = r.pick(&[0, machines / 2, machines - 1]);
+        speeds[k] = r.pick(&BAD_SPEED);
+        made.push(5);
+    }
+    if has(6) {
+        let k = r.pick(&[0, tiles / 2, tiles - 1]);
+        weights[k] = r.pick(&BAD_WEIGHT);
+    }
+    (speeds, weights, made)
+}
+
+/// The lent lists: too short ones, and separators that are no division.
+fn lend_with(r: &mut Rng, name: &str, faults: &[u32], i: &mut Input, made: &mut Vec<u32>) {
+    let (machines, tiles) = (i.speeds.len(), i.weights.len());
+    let no_division = faults.contains(&11) && machines > 0;
+    if no_division {
+        match r.below(4) {
+            0 => i.separators[0] = 1 + r.range(0, 3),
+            1 => i.separators[machines] = tiles as u32 + 1 + r.range(0, 3),
+            2 => i.separators[machines] = tiles as u32 - 1,
+            _ => i.separators[machines - 1] = tiles as u32 + 1,
+        }
+        made.push(11);
+    }
+    let needed = room_needed(name, machines, tiles);
+    i.room = needed + r.below(3);
+    if faults.contains(&9) {
+        let (lends_list, lends_room) = (name != "write" && name != "test", needed > 0);
+        let which = r.below(3);
+        if lends_list && (which != 1 || !lends_room) {
+            i.separators.truncate(r.pick(&[0, machines / 2, machines]));
+            made.push(9);
+        }
+        if lends_room && (which != 0 || !lends_list) {
+            i.room = r.pick(&[0, needed / 2, needed - 1]);
+            made.push(9);
+        }
+    } else {
+        let more = r.below(3);
+        i.separators.extend((0..more).map(|_| r.next() as u32));
+    }
+}
+
+/// An input with these faults, and the least number among those that could be made.
+fn input_with(r: &mut Rng, name: &str, faults: &[u32]) -> (Input, u32) {
+    let (speeds, weights, mut made) = job_with(r, faults);
+    let separators = some_division(r, speeds.len(), weights.len());
+    let mut i = Input { method: r.range(1, 3), bound: (1_000_000, 1), speeds, weights, separators, room: 0 };
+    lend_with(r, name, faults, &mut i, &mut made);
+    if faults.contains(&1) {
+        i.method = r.pick(&BAD_METHOD);
+        made.push(1);
+    }
+    if faults.contains(&10) {
+        i.bound = r.pick(&[(100_000_000_000_001, 1), (0, 0), (5, 1_000_000_001), (u64::MAX, u64::MAX), (1, 1 << 32)]);
+        made.push(10);
+    }
+    let number = made.into_iter().min().unwrap_or(0);
+    (i, number)
+}
+
+/// Every set of faults of every call, in several shapes.
+fn together(c: &mut Check, rounds: usize) {
+    for (name, numbers) in CALLS {
+        for set in 0u32..1 << numbers.len() {
+            let faults: Vec<u32> = numbers.iter().enumerate().filter(|(k, _)| set >> k & 1 == 1).map(|(_, &n)| n).collect();
+            let times = if faults.is_empty() { 1 } else { rounds };
+            for _ in 0..times {
+                let (i, number) = input_with(&mut c.rng, name, &faults);
+                refuse(c, name, &i, number);
+            }
+        }
+    }
+}
+
+/// Entries that are enough for any other list.
+const PLENTY: usize = 8 * 2_060;
+
+fn smallest_input(speeds: &[u32], weights: &[u32], separators: &[u32], room: usize) -> Input {
+    Input { method: 1, bound: (0, 1), speeds: speeds.to_vec(), weights: weights.to_vec(), separators: separators.to_vec(), room }
+}
+
+/// The smallest lists that cause 5 to 8, and those beside them that pass.
+fn smallest_jobs(c: &mut Check, name: &str) {
+    let (many, row) = ([1u32; 257], [0u32; 2_049]);
+    let none: &[u32] = &[];
+    for (speeds, weights, number) in [
+        (&[0u32][..], none, 5),
+        (&[10_001], none, 5),
+        (&[1], &[1_000_001], 6),
+        (none, &[1_000_001], 6),
+        (none, none, 7),
+        (&many, none, 7),
+        (&[1], &row, 8),
+    ] {
+        refuse(c, name, &smallest_input(speeds, weights, &[], 0), number);
+    }
+    refuse(c, name, &smallest_input(&[10_000], &[1_000_000], &[0, 1], PLENTY), 0);
+    refuse(c, name, &smallest_input(&many[1..], none, &[0; 257], PLENTY), 0);
+    refuse(c, name, &smallest_input(&[1], &row[1..], &[0, 2_048], PLENTY), 0);
+}
+
+/// The smallest lists that cause 9 and 11, the nearest bounds that cause 10, and any method for 1.
+fn smallest_lists(c: &mut Check, name: &str, numbers: &[u32]) {
+    if name != "write" && name != "test" {
+        refuse(c, name, &smallest_input(&[1], &[], &[], PLENTY), 9);
+        refuse(c, name, &smallest_input(&[1], &[], &[0], PLENTY), 9);
+    }
+    let needed = room_needed(name, 1, 0);
+    for room in 0..=needed {
+        refuse(c, name, &smallest_input(&[1], &[], &[0, 0], room), if room < needed { 9 } else { 0 });
+    }
+    let out = [(0, 0), (100_000_000_000_001, 1), (0, 1_000_000_001)];
+    let within = [(0, 1), (100_000_000_000_000, 1_000_000_000)];
+    for bound in out.into_iter().chain(within).filter(|_| name == "trial") {
+        let number = if within.contains(&bound) { 0 } else { 10 };
+        refuse(c, name, &Input { bound, ..smallest_input(&[1], &[], &[7, 7], 0) }, number);
+    }
+    if numbers.contains(&11) {
+        for s in [[0, 1], [1, 0], [1, 1], [u32::MAX, 0], [0, u32::MAX]] {
+            refuse(c, name, &smallest_input(&[1], &[], &s, PLENTY), 11);
+        }
+        for (s, number) in [(&[0, 2, 1][..], 11), (&[0, 1, 0], 11), (&[0, 1, 1, 0], 0)] {
+            refuse(c, name, &smallest_input(&[1, 1], &[5], s, PLENTY), number);
+        }
+    }
+    for method in BAD_METHOD.into_iter().filter(|_| name == "plan") {
+        refuse(c, name, &Input { method, ..smallest_input(&[], &[], &[], 0) }, 1);
+    }
+}
+
+pub fn run(c: &mut Check, times: usize) {
+    for (name, numbers) in CALLS {
+        smallest_jobs(c, name);
+        smallest_lists(c, name, numbers);
+    }
+    together(c, 60 * times);
+}

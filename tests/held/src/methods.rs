@@ -1,0 +1,193 @@
+//! Trial, quick plan, the counts of the three methods and what else a plan carries, each as document 01 says it.
+
+use crate::job::Job;
+use crate::slow::{self, less, Bound};
+
+/// What a trial says: the division that it wrote, or the least next bid.
+#[derive(Clone, Debug, PartialEq)]
+pub enum Tried {
+    Fits(Vec<usize>),
+    Next(Bound),
+}
+
+/// A trial: each machine but the last takes tiles up to the greatest index whose share is within the bound.
+pub fn trial(job: &Job, bound: Bound) -> Tried {
+    let tiles = job.weights.len();
+    let mut separators = vec![0];
+    let mut least: Option<Bound> = None;
+    let mut at = 0;
+    for (p, &speed) in job.speeds.iter().enumerate() {
+        let speed = speed as u128;
+        let mut share = (0, speed);
+        let mut more = at;
+        let is_last = p + 1 == job.speeds.len();
+        // A share only grows, so the first index that is too much ends the search.
+        while more < tiles {
+            let longer = (share.0 + job.weights[more] as u128, speed);
+            if !is_last && less(bound, longer) {
+                break;
+            }
+            share = longer;
+            more += 1;
+        }
+        if is_last && !less(bound, share) {
+            separators.push(tiles);
+            return Tried::Fits(separators);
+        }
+        if more < tiles || is_last {
+            let bid = if is_last { share } else { (share.0 + job.weights[more] as u128, speed) };
+            if least.map_or(true, |l| less(bid, l)) {
+                least = Some(bid);
+            }
+        }
+        separators.push(more);
+        at = more;
+    }
+    Tried::Next(least.unwrap())
+}
+
+/// The quick plan: the smallest index whose W(1,s) is nearest to the machine's target, among all indices.
+pub fn quick(job: &Job) -> Vec<usize> {
+    let tiles = job.weights.len();
+    let whole: i128 = job.weight(0, tiles) as i128;
+    let all_speed: i128 = job.speeds.iter().map(|&e| e as i128).sum();
+    let mut separators = vec![0];
+    let mut speed_so_far = 0;
+    for &e in &job.speeds[..job.speeds.len() - 1] {
+        speed_so_far += e as i128;
+        let (mut best, mut distance, mut sum) = (0, whole * speed_so_far, 0i128);
+        for i in 1..=tiles {
+            sum += job.weights[i - 1] as i128;
+            let d = (sum * all_speed - whole * speed_so_far).abs();
+            if d < distance {
+                (best, distance) = (i, d);
+            }
+        }
+        separators.push(best);
+    }
+    separators.push(tiles);
+    separators
+}
+
+pub fn ideal(job: &Job) -> Bound {
+    (job.weight(0, job.weights.len()), job.speeds.iter().map(|&e| e as u128).sum())
+}
+
+/// Bidding's trials.
+pub fn bids(job: &Job) -> u64 {
+    let mut bound = ideal(job);
+    let mut trials = 0;
+    loop {
+        trials += 1;
+        match trial(job, bound) {
+            Tried::Fits(_) => return trials,
+            Tried::Next(next) => bound = next,
+        }
+    }
+}
+
+/// Bisection's trials.
+pub fn halvings(job: &Job) -> u64 {
+    let Tried::Next(mut low) = trial(job, ideal(job)) else { return 1 };
+    let mut high = slow::bottleneck(job, &quick(job));
+    let mut trials = 1;
+    while less(low, high) || less(high, low) {
+        trials += 1;
+        let half = (low.0 * high.1 + high.0 * low.1, 2 * low.1 * high.1);
+        match trial(job, half) {
+            Tried::Fits(division) => high = slow::bottleneck(job, &division),
+            Tried::Next(next) => low = next,
+        }
+    }
+    trials
+}
+
+/// The table's moves, by the table itself: every value from every j, every crossing by trying each j.
+pub fn moves_by_table(job: &Job) -> u64 {
+    let tiles = job.weights.len();
+    let mut row: Vec<Bound> = (0..=tiles).map(|i| (job.weight(0, i), job.speeds[0] as u128)).collect();
+    let mut moves = 0;
+    for &e in &job.speeds[1..] {
+        let share = |j: usize, i: usize| (job.weight(j, i), e as u128);
+        let crossing = |i: usize| (0..=i).find(|&j| !less(row[j], share(j, i))).unwrap();
+        let mut pointer = 0;
+        for i in 0..=tiles {
+            let goal = crossing(i);
+            assert!(goal >= pointer, "the pointer would have to go back for {:?}", job);
+            moves += (goal - pointer) as u64;
+            pointer = goal;
+        }
+        let greater = |j: usize, i: usize| if less(row[j], share(j, i)) { share(j, i) } else { row[j] };
+        let least = |i: usize| (0..=i).map(|j| greater(j, i)).reduce(|a, b| if less(b, a) { b } else { a }).unwrap();
+        row = (0..=tiles).map(least).collect();
+    }
+    moves
+}
+
+/// The same number with no table: the crossing of (p, N) is the first j at which no division of the first j tiles among the
+/// machines before p stays strictly below W(j+1,N)/ep, and whether it does is asked of one walk.
+pub fn moves_by_walks(job: &Job) -> u64 {
+    let tiles = job.weights.len();
+    let mut rest = vec![0i128; tiles + 1];
+    for i in (0..tiles).rev() {
+        rest[i] = rest[i + 1] + job.weights[i] as i128;
+    }
+    let mut moves = 0;
+    for p in 1..job.speeds.len() {
+        let e = job.speeds[p] as i128;
+        let (mut low, mut high) = (0, tiles);
+        while low < high {
+            let j = (low + high) / 2;
+            if stays_below(&job.weights[..j], &job.speeds[..p], rest[j], e) {
+                low = j + 1;
+            } else {
+                high = j;
+            }
+        }
+        moves += low as u64;
+    }
+    moves
+}
+
+/// Whether a division of these tiles keeps every share strictly below load/speed.
+fn stays_below(weights: &[u32], speeds: &[u32], load: i128, speed: i128) -> bool {
+    if load == 0 {
+        return false;
+    }
+    let mut left = weights.iter().peekable();
+    for &e in speeds {
+        let mut sum = 0i128;
+        while let Some(&&w) = left.peek() {
+            if (sum + w as i128) * speed >= load * e as i128 {
+                break;
+            }
+            sum += w as i128;
+            left.next();
+        }
+    }
+    left.peek().is_none()
+}
+
+/// The most that a method may count.
+pub fn allowance(job: &Job, method: u32) -> u64 {
+    let steps = ((job.speeds.len() - 1) * job.weights.len()) as u64;
+    let heaviest = job.weights.iter().copied().max().unwrap_or(0) as u128;
+    let fastest = *job.speeds.iter().max().unwrap() as u128;
+    let slowest = *job.speeds.iter().min().unwrap() as u128;
+    let mut d = heaviest * fastest * fastest / slowest;
+    let mut digits = 0;
+    while d > 0 {
+        d /= 2;
+        digits += 1;
+    }
+    [steps, steps + 1, digits + 1][method as usize - 1]
+}
+
+/// 1000 × (bottleneck − ideal) / ideal, rounded down.
+pub fn imbalance(job: &Job, bottleneck: Bound) -> u64 {
+    let (whole, all_speed) = ideal(job);
+    if whole == 0 {
+        return 0;
+    }
+    (1000 * (bottleneck.0 * all_speed - whole * bottleneck.1) / (whole * bottleneck.1)) as u64
+}
