@@ -390,7 +390,7 @@ const FAULTS: &[(&str, &str, Run)] = &[
     ("allowance-nought", "bisection: 0 has a digit", |l| l.figure(l.is_plan(3), 1, |_, v| v.max(2))),
     ("allowance-slowest", "bisection: D not divided by the slowest speed", |l| l.figure(l.is_plan(3), 1, |j, _| methods::allowance(&Job::new(&[&j.speeds[..], &[1]].concat(), &j.weights), 3))),
     ("imbalance-up", "rounded up", |l| l.figure(l.is_plans(), 4, |j, v| { let (w, e) = methods::ideal(j); let b = best_bound(j); if w > 0 && 1000 * (b.0 * e - w * b.1) % (w * b.1) != 0 { v + 1 } else { v } })),
-    ("imbalance-best", "per hundred", |l| l.figure(l.is_plans(), 4, |_, v| v / 10)),
+    ("imbalance-hundred", "per hundred", |l| l.figure(l.is_plans(), 4, |_, v| v / 10)),
     ("bottleneck-reduced", "plan: the pair reduced", |l| l.pair(l.is_plans(), 2, |_, b| reduced(b))),
     ("bottleneck-last", "plan: the pair of the highest-numbered machine", |l| { let s = l.words(Slot::Separators); l.pair(l.is_plans(), 2, |j, b| of_last_machine(j, s, b)) }),
     ("bottleneck-nought", "plan: 0/1 where nothing weighs", |l| l.pair(l.is_plans(), 2, |_, b| if b.0 == 0 { (0, 1) } else { b })),
@@ -445,7 +445,7 @@ const FAULTS: &[(&str, &str, Run)] = &[
     ("planfile-big-endian", "plan file: the load's bytes in the other order", |l| l.records(l.call == Call::PlanFile, |r| r[8..12].reverse())),
     ("planfile-exchanged", "plan file: load and speed exchanged", |l| l.records(l.call == Call::PlanFile, swap_fields)),
     ("planfile-24-bits", "plan file: a load of 24 bits", |l| l.records(l.call == Call::PlanFile, |r| r[11] = 0)),
-    ("planfile-31-bits", "plan file: a load of 30 bits", |l| l.records(l.call == Call::PlanFile, |r| r[11] &= 0x3F)),
+    ("planfile-30-bits", "plan file: a load of 30 bits", |l| l.records(l.call == Call::PlanFile, |r| r[11] &= 0x3F)),
     ("planfile-count", "plan file: records counted, not bytes", |l| l.figure(l.call == Call::PlanFile, 0, |_, v| v / 16)),
     ("planfile-no-division", "plan file: a division that ends early taken", |l| match l.real() { 11 if l.call == Call::PlanFile => { let (s, n) = (l.words(Slot::Separators), l.at[0].1); if answers::is_division(&s[..n + 1], s[n] as usize) && (s[n] as usize) < l.at[1].1 { 0 } else { 11 } } n => n }),
     // Measuring, trial, quick plan.
