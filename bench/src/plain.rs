@@ -106,32 +106,41 @@ fn ideal(speeds: &[u32], sums: &[u32]) -> Bound {
     }
 }
 
-/// The last index from a on whose sum is at most the cap, by galloping and halving; the last sum is above it. The search begins at
-/// the hint if that is no further.
-#[inline]
-fn last_at_most(sums: &[u32], a: usize, cap: u32, hint: usize) -> usize {
-    let n = sums.len() - 1;
-    let mut low = if a <= hint && hint <= n && sums[hint] <= cap { hint } else { a };
-    let mut high = n + 1;
-    let mut step = 1;
-    while step <= n - low {
-        let next = low + step;
-        if sums[next] > cap {
-            high = next;
-            break;
-        }
-        low = next;
+/// The last index from a to n whose sum is at most the cap, as that at a is: galloping by 8, 16, .., halving the step, then
+/// counting among seven sums without a branch. Kept out of line: in line it made the walk slower.
+#[inline(never)]
+fn last_far(sums: &[u32], a: usize, n: usize, cap: u32) -> usize {
+    let mut low = a;
+    let mut step = 8;
+    while step <= n - low && sums[low + step] <= cap {
+        low += step;
         step += step;
     }
-    while high - low > 1 {
-        let mid = low + (high - low) / 2;
-        if sums[mid] <= cap {
-            low = mid;
-        } else {
-            high = mid;
+    while step > 8 {
+        step -= step / 2;
+        if step <= n - low && sums[low + step] <= cap {
+            low += step;
         }
     }
-    low
+    let near = &sums[low + 1..=n];
+    let near = near.first_chunk::<7>().map_or(near, |seven| seven);
+    low + near.iter().map(|&sum| (sum <= cap) as usize).sum::<usize>()
+}
+
+/// The same; often it is a itself, and one look tells.
+#[inline]
+fn last_at_most(sums: &[u32], a: usize, n: usize, cap: u32) -> usize {
+    if a < n && sums[a + 1] <= cap { last_far(sums, a + 1, n, cap) } else { a }
+}
+
+/// The same for all sums; the search begins at the hint if that is no further.
+#[inline]
+fn last_from(sums: &[u32], a: usize, cap: u32, hint: usize) -> usize {
+    let n = sums.len() - 1;
+    if a <= hint && hint < n && sums[hint] <= cap {
+        return last_at_most(sums, hint, n, cap);
+    }
+    last_at_most(sums, a, n, cap)
 }
 
 /// The greatest end of a part from a on that is within the bound on a machine of this speed.
@@ -142,7 +151,7 @@ fn part_end(sums: &[u32], a: usize, speed: u32, bound: Bound, hint: usize) -> us
     if (sums[n] - sums[a]) as u64 <= limit {
         return n;
     }
-    last_at_most(sums, a, sums[a] + limit as u32, hint)
+    last_from(sums, a, sums[a] + limit as u32, hint)
 }
 
 /// The bound of the part from a to b.
@@ -235,23 +244,14 @@ fn bottleneck(speeds: &[u32], sums: &[u32], separators: &[u32]) -> Bound {
     parts.fold(first, |most, part| if part.at_most(most) { most } else { part })
 }
 
-/// The smallest index from a to before b whose sum is at least the limit, else b.
-#[inline]
-fn first_at_least(sums: &[u32], a: usize, b: usize, limit: u64) -> usize {
-    match sums[a..b].iter().position(|&sum| sum as u64 >= limit) {
-        Some(i) => a + i,
-        None => b,
-    }
-}
-
 /// The smallest index from s on with the same sum as `last`; mostly that is `last` itself, and one look at the sum before tells.
 #[inline]
 fn first_equal(sums: &[u32], s: usize, last: usize) -> usize {
     let sum = sums[last];
-    if s < last && sums[last - 1] < sum {
+    if s == last || sums[last - 1] < sum {
         return last;
     }
-    first_at_least(sums, s, last, sum as u64)
+    if sums[s] == sum { s } else { last_far(sums, s, last - 1, sum - 1) + 1 }
 }
 
 /// The quick plan's separators.
@@ -268,7 +268,7 @@ fn quick(speeds: &[u32], sums: &[u32], separators: &mut [u32]) {
     for (&e, slot) in speeds[..last].iter().zip(&mut separators[1..]) {
         speed += e as u64;
         let target = weight * speed;
-        past = first_at_least(sums, past, n + 1, target / total + 1);
+        past = last_at_most(sums, past - 1, n, (target / total) as u32) + 1;
         let low = sums[past - 1] as u64;
         let nearer = past <= n && sums[past] as u64 * total - target < target - low * total;
         s = if nearer { past } else { first_equal(sums, s, past - 1) };

@@ -22,10 +22,11 @@ use Rattle.chain.proofs.Ideal.{total-speed-is}
 use Rattle.chain.proofs.Heuristic.{nearest-le, nearest-first, nearest-grows, heuristic-at, heuristic-end, heuristic-partition}
 use Rattle.chain.proofs.Ranges.{speeds-to-limit, index-fits, total-speed-fits, total-weight-limit, loads-fit, heuristic-products}
 use Rattle.parts.specs.Prefix.{Prefix, Ready}
+use Rattle.parts.specs.Search.{LastAtMost}
 use Rattle.parts.proofs.Front.{Front, front-store, front-end}
-use Rattle.parts.proofs.Laws.{speed-read, prefix-grows}
+use Rattle.parts.proofs.Laws.{speed-read, prefix-grows, prefix-fits}
 use Rattle.heuristic.specs.Target.{firstAtLeast, off, nearestTo, Target, Behind, FirstPast}
-use Rattle.heuristic.proofs.Nearest.{smallest-unique, first-past-is, nearest-high, nearest-low, targetOf, nearest-to-target, target-grows, target-most, behind-first, behind-more}
+use Rattle.heuristic.proofs.Nearest.{smallest-unique, sum-of-behind, first-past-is, nearest-high, nearest-low, targetOf, nearest-to-target, target-grows, target-most, behind-first, behind-more}
 
 -- The sum of the speeds of the first p processors.
 pub record SpeedTo (job : Job) (p total : ℕ) : Type 0 where
@@ -52,29 +53,14 @@ pub speed-end : {job : Job} {p total : ℕ} → SpeedTo job p total → processo
 speed-end {job} {p} w h =
     w .total-is ∙ ap (sumTo (speedOf job)) (let e : p ≡ processors job = omega (arith, w .to) in e) ∙ sym (total-speed-is job)
 
--- The search: every entry from a to i is less than the limit.
-pub record Passed (xs : List ℕ) (a b limit i : ℕ) : Type 0 where
-  pub from : a ≤ i
-  pub to : i ≤ b
-  pub less : (k : ℕ) → a ≤ k → k < i → at xs k < limit
+-- Every entry from a to i is less than the limit.
+record Passed (xs : List ℕ) (a b limit i : ℕ) : Type 0 where
+  from : a ≤ i
+  to : i ≤ b
+  less : (k : ℕ) → a ≤ k → k < i → at xs k < limit
 
-pub passed-start : {xs : List ℕ} {a b limit : ℕ} → a ≤ b → Passed xs a b limit a
-passed-start h = record { from = omega arith; to = h; less = λ k l m. absurd (let z : ⊥ = omega arith in z) }
-
-pub passed-turn : {xs : List ℕ} {a b limit i : ℕ} → Passed xs a b limit i → i < b → at xs i < limit → Passed xs a b limit (i + 1)
-passed-turn {xs} {a} {b} {limit} {i} w h e =
-    record {
-      from = omega (arith, w .from);
-      to = omega arith;
-      less = λ k l m.
-          elim (decLe (suc k) i) [
-            | yes j ↦ w .less k l j
-            | no j ↦ subst (λ (n : ℕ). at xs n < limit) (let z : i ≡ k = omega arith in z) e
-          ];
-    }
-
--- It ends at b, or at an entry that is at least the limit.
-pub passed-end : {xs : List ℕ} {a b limit i : ℕ} → Passed xs a b limit i → ((i ≡ b) ⊎ (limit ≤ at xs i)) → i ≡ firstAtLeast xs a b limit
+-- i is the smallest index whose entry is not, or b.
+passed-end : {xs : List ℕ} {a b limit i : ℕ} → Passed xs a b limit i → ((i ≡ b) ⊎ (limit ≤ at xs i)) → i ≡ firstAtLeast xs a b limit
 unfolding firstAtLeast
 passed-end {xs} {a} {b} {limit} {i} w f =
     smallest-unique
@@ -85,25 +71,60 @@ passed-end {xs} {a} {b} {limit} {i} w f =
       before = λ k l m. lt-leb limit (at xs k) (w .less k l m);
     })
 
--- Where the prefix sum before b is less, so is every one before it.
-pub passed-all : {job : Job} {xs : List ℕ} {a b limit : ℕ} → Prefix job xs → a < b → b ≤ tasks job → at xs (b - 1) < limit → b ≡ firstAtLeast xs a b limit
-passed-all {job} {xs} {a} {b} {limit} p h k e =
+-- Where the first entry is at least the limit, or there is none, it is a.
+pub level-first : (xs : List ℕ) {a b limit : ℕ} → a ≤ b → ((a ≡ b) ⊎ (limit ≤ at xs a)) → a ≡ firstAtLeast xs a b limit
+level-first xs h f =
+    passed-end (record { from = omega arith; to = h; less = λ k l m. absurd (let z : ⊥ = omega arith in z) }) f
+
+-- Where the prefix sum before b is less, so is every one before it: it is b.
+pub level-all : {job : Job} {xs : List ℕ} {a b limit : ℕ} → Prefix job xs → a < b → b ≤ tasks job → at xs (b - 1) < limit → b ≡ firstAtLeast xs a b limit
+level-all {job} {xs} {a} {b} {limit} p h k e =
     passed-end
     (record { from = omega arith; to = omega arith; less = λ i l m. omega (arith, prefix-grows p i (b - 1) (omega arith) (omega arith)) })
     (inl refl)
 
--- The limit of the search for the first index past a target fits, and that index is what the search finds.
-pub limit-fits : {job : Job} {total target : ℕ} → Valid job → Target job total target → target / total + 1 < 2 ^ 64
-limit-fits {job} {total} {target} v t = rw (t .speed) (omega (arith, quotient, total-weight-limit v, loads-fit))
+-- Else it is the index after the last less than the limit.
+pub level-after : {job : Job} {xs : List ℕ} {a b limit r : ℕ} → Prefix job xs → a < b → b ≤ tasks job → at xs a < limit → limit ≤ at xs (b - 1)
+    → LastAtMost xs a (b - 1) (limit - 1) r → r + 1 ≡ firstAtLeast xs a b limit
+level-after {job} {xs} {a} {b} {limit} {r} p g h l m w =
+    passed-end
+    (record {
+      from = omega (arith, w .from);
+      to = omega arith;
+      less = λ k x y. omega (arith, prefix-grows p k r (omega arith) (omega arith), w .below);
+    })
+    (inr (subst (λ (i : ℕ). limit ≤ at xs i) (sym (add-one r)) (omega (arith, w .above short))))
   where
-    quotient : target / totalSpeed job ≤ totalWeight job
-    quotient = div-le-of-le-mul (totalSpeed job) (omega (arith, t .most))
+    short : r < b - 1
+    short =
+        elim (decLe (b - 1) r) [
+          | yes x ↦
+              absurd
+              (let e : r ≡ b - 1 = omega (arith, w .to) in
+              let y : at xs (b - 1) ≤ limit - 1 = subst (λ (i : ℕ). at xs i ≤ limit - 1) e (w .below) in
+              let z : ⊥ = omega arith in
+              z)
+          | no x ↦ omega arith
+        ]
 
-pub first-past-of : {job : Job} {xs : List ℕ} {i total target r : ℕ} → Ready job xs → Target job total target → Behind job target i
-    → r ≡ firstAtLeast xs i (tasks job + 1) (target / total + 1) → FirstPast job target r
-first-past-of {job} {xs} {i} {total} {target} ready t b e =
-    subst (λ (n : ℕ). FirstPast job target n)
-    (sym (e ∙ ap₂ (λ (n m : ℕ). firstAtLeast xs i n (target / m + 1)) (add-one (tasks job)) (t .speed))) (first-past-is ready b)
+-- The search for the first index past a target: its cap fits, it begins at most there, and it finds that index.
+module _ {job : Job} {xs : List ℕ} {total target : ℕ} (ready : Ready job xs) (t : Target job total target) where
+  pub cap-fits : target / total < 2 ^ 32
+  cap-fits =
+      rw (t .speed)
+      (lt-of-le-of-lt (div-le-of-le-mul (totalSpeed job) (omega (arith, t .most)))
+      (subst (λ (n : ℕ). n < 2 ^ 32) (weight-all job) (prefix-fits (ready .valid) (tasks job))))
+
+  pub start-below : {i : ℕ} → Behind job target i → {cap : ℕ} → cap ≡ target / total → at xs (i - 1) ≤ cap
+  start-below {i} b {cap} e =
+      subst (λ (n : ℕ). at xs (i - 1) ≤ n) (sym (e ∙ ap (λ (n : ℕ). target / n) (t .speed)))
+      (sum-of-behind ready (i - 1) (omega (arith, b .to)) (b .before (i - 1) (omega (arith, b .from))))
+
+  pub first-past-of : {i : ℕ} → Behind job target i → {cap r : ℕ} → cap ≡ target / total → LastAtMost xs (i - 1) (tasks job) cap r → FirstPast job target (r + 1)
+  first-past-of {i} b {cap} {r} e w =
+      subst (λ (n : ℕ). FirstPast job target n) (sym (add-one r))
+      (first-past-is ready b
+      (subst (λ (n : ℕ). LastAtMost xs (i - 1) (tasks job) n r) (e ∙ ap (λ (n : ℕ). target / n) (t .speed)) w))
 
 -- The choice between the first index g past a target and the one before it, whose prefix sums are high and low.
 module _ {job : Job} {xs : List ℕ} {g total target : ℕ} (ready : Ready job xs) (t : Target job total target) (f : FirstPast job target g) where

@@ -19,6 +19,8 @@ use Rattle.chain.proofs.Indices.{Smallest, smallest-is, SmallestLeast, smallest
 use Rattle.chain.proofs.Ideal.{total-speed-is, sum-grows}
 use Rattle.chain.proofs.Ranges.{total-speed-positive}
 use Rattle.parts.specs.Prefix.{Ready}
+use Rattle.parts.specs.Search.{LastAtMost}
+use Rattle.parts.proofs.Laws.{prefix-grows}
 use Rattle.heuristic.specs.Target.{firstAtLeast, off, nearestTo, Behind, FirstPast}
 
 -- There is only one smallest index at which a test holds,
@@ -145,34 +147,23 @@ module _ {job : Job} {xs : List ℕ} (r : Ready job xs) where
   speed-positive : 0 < totalSpeed job
   speed-positive = total-speed-positive (r .valid)
 
-  -- The first index past the target is the first whose prefix sum is greater than the target over all speed.
-  pub first-past-is : {target i : ℕ} → Behind job target i → FirstPast job target (firstAtLeast xs i (suc (tasks job)) (target / totalSpeed job + 1))
-  unfolding firstAtLeast
-  first-past-is {target} {i} b = go (smallestFrom f i (suc (tasks job) - i)) (smallest-is f i (suc (tasks job) - i))
+  -- An index is not past the target where its prefix sum is at most the target over all speed.
+  pub sum-of-behind : {target : ℕ} (i : ℕ) → i ≤ tasks job → partWeight job 0 i * totalSpeed job ≤ target → at xs i ≤ target / totalSpeed job
+  sum-of-behind {target} i h e =
+      subst (λ (n : ℕ). n ≤ target / totalSpeed job) (sym (r .prefix .sums i h)) (le-div-iff-mul-le speed-positive .1 e)
+
+  -- The index after the last such one is the first past the target.
+  pub first-past-is : {target i q : ℕ} → Behind job target i → LastAtMost xs (i - 1) (tasks job) (target / totalSpeed job) q → FirstPast job target (suc q)
+  first-past-is {target} {i} {q} b w =
+      record { behind = record { from = omega arith; to = omega (arith, w .to); before = before }; past = past }
     where
-      f : ℕ → Bool
-      f k = leb (target / totalSpeed job + 1) (at xs k)
+      before : (k : ℕ) → k < suc q → partWeight job 0 k * totalSpeed job ≤ target
+      before k h =
+          le-div-iff-mul-le speed-positive .0
+          (omega (arith, r .prefix .sums k (omega (arith, w .to)), prefix-grows (r .prefix) k q (omega arith) (w .to), w .below))
 
-      go : (q : ℕ) → Smallest f i (suc (tasks job) - i) q → FirstPast job target q
-      go q s = record { behind = record { from = omega (arith, s .from, b .from); to = omega (arith, s .to, b .to); before = before }; past = past }
-        where
-          late : (k : ℕ) → k ≤ tasks job → f k ≡ false → partWeight job 0 k * totalSpeed job ≤ target
-          late k h e =
-              le-div-iff-mul-le speed-positive .0
-              (omega (arith, leb-false (target / totalSpeed job + 1) (at xs k) e, r .prefix .sums k h))
-
-          before : (k : ℕ) → k < q → partWeight job 0 k * totalSpeed job ≤ target
-          before k h =
-              elim (decLe i k) [ yes m ↦ late k (omega (arith, s .to, b .to)) (s .before k m h) | no m ↦ b .before k (omega arith) ]
-
-          past : q ≤ tasks job → target < partWeight job 0 q * totalSpeed job
-          past h =
-              elim (s .found) [
-                | inl e ↦ absurd (let z : ⊥ = omega (arith, b .to) in z)
-                | inr e ↦
-                    div-lt-iff-lt-mul speed-positive .0
-                    (omega (arith, leb-true (target / totalSpeed job + 1) (at xs q) e, r .prefix .sums q h))
-              ]
+      past : suc q ≤ tasks job → target < partWeight job 0 (suc q) * totalSpeed job
+      past h = div-lt-iff-lt-mul speed-positive .0 (omega (arith, r .prefix .sums (suc q) h, w .above h))
 
   module _ {target g : ℕ} (p : FirstPast job target g) where
     -- The first index past the target, where it is nearer than the one before it.

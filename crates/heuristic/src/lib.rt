@@ -14,22 +14,12 @@ ghost use Rattle.heuristic.specs.Target.{firstAtLeast, nearestTo, Target
 use bound::Bound;
 use figures::total_speed;
 use parts::index;
+use parts::last_at_most;
+use parts::last_far;
 use parts::narrow;
-
-// Inner. The smallest index from a to b whose entry is at least the limit, b if there is none.
-fn first_at_least(xs: &[u32], a: usize, b: usize, limit: u64) -> usize
-    requires { ⌜ (a ≤ b) × (b ≤ length (now xs)) ⌝ }
-    ensures { λ r. ⌜ r ≡ firstAtLeast (now (xs .entry)) a b limit ⌝ }
-{
-    let mut i = a;
-    while i < b {
-        if limit <= parts::wide(xs[i]) {
-            return i;
-        }
-        i += 1;
-    }
-    i
-}
+use parts::narrow_load;
+use parts::part_bound;
+use parts::wide;
 
 // Inner. The first index past the target, where none before i is.
 fn first_past(
@@ -45,7 +35,7 @@ fn first_past(
     requires { ⌜ Behind (jobOf (now weights) (now speeds)) target i ⌝ }
     ensures { λ r. ⌜ FirstPast (jobOf (now (weights .entry)) (now (speeds .entry))) target r ⌝ }
 {
-    first_at_least(sums, i, weights.len() + 1, target / total + 1)
+    last_at_most(sums, i - 1, weights.len(), narrow_load(target / total)) + 1
 }
 
 // Inner. Whether high, past the target, is nearer to it than low, not past it, both times all speed.
@@ -64,18 +54,21 @@ fn first_level(
     sums: &[u32],
     a: usize,
     b: usize,
-    limit: u64,
+    limit: u32,
 ) -> usize
     requires { ⌜ Ready (jobOf (now weights) (now speeds)) (now sums) ⌝ }
     requires { ⌜ (a ≤ b) × (b ≤ length (now weights)) ⌝ }
     ensures { λ r. ⌜ r ≡ firstAtLeast (now (sums .entry)) a b limit ⌝ }
 {
     if a < b {
-        if parts::wide(sums[b - 1]) < limit {
+        if sums[b - 1] < limit {
             return b;
         }
+        if sums[a] < limit {
+            return last_far(sums, a, b - 1, limit - 1) + 1;
+        }
     }
-    first_at_least(sums, a, b, limit)
+    a
 }
 
 // Inner. The smallest index nearest to the target, which is not before s; the first index past the target is known.
@@ -95,9 +88,9 @@ fn nearest_from(
     ensures { λ r. ⌜ r ≡ nearestTo (jobOf (now (weights .entry)) (now (speeds .entry))) target ⌝ }
 {
     let before = past - 1;
-    let low = parts::wide(sums[before]);
+    let low = sums[before];
     if past <= weights.len() {
-        if high_nearer(low, parts::wide(sums[past]), total, target) {
+        if high_nearer(wide(low), wide(sums[past]), total, target) {
             return past;
         }
     }
@@ -111,7 +104,7 @@ pub fn heuristic_in(speeds: &[u32], weights: &[u32], sums: &[u32], separators: &
     ensures { λ r. ⌜ now (separators .exit) ≡ heuristic (jobOf (now (weights .entry)) (now (speeds .entry))) ++ drop (suc (length (now (speeds .entry)))) (now (separators .entry)) ⌝ }
 {
     let total = total_speed(speeds, weights);
-    let weight = parts::wide(sums[weights.len()]);
+    let weight = wide(sums[weights.len()]);
     let last = speeds.len() - 1;
     let mut speed = 0u64;
     let mut past = 1;
@@ -119,7 +112,7 @@ pub fn heuristic_in(speeds: &[u32], weights: &[u32], sums: &[u32], separators: &
     let mut p = 0;
     separators[0] = 0;
     while p < last {
-        speed += parts::wide(speeds[p]);
+        speed += wide(speeds[p]);
         p += 1;
         let target = weight * speed;
         past = first_past(speeds, weights, sums, past, total, target);
@@ -144,7 +137,7 @@ fn bound_at(speeds: &[u32], weights: &[u32], sums: &[u32], separators: &[u32], p
     requires { ⌜ p < length (now speeds) ⌝ }
     ensures { λ r. ⌜ r ≡ boundAt (jobOf (now (weights .entry)) (now (speeds .entry))) (now (separators .entry)) p ⌝ }
 {
-    parts::part_bound(
+    part_bound(
         speeds,
         weights,
         sums,

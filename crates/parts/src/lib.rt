@@ -3,9 +3,10 @@
 ghost use Prim.Native.Nat.{ℕ, suc, _+_, _≤_, _<_, _^_};
 ghost use mathlib.Core.Path.{_≡_};
 ghost use mathlib.Core.List.{_++_};
-ghost use lib.ListN.{length, drop};
+ghost use lib.ListN.{length, getD, drop};
 ghost use Rattle.chain.specs.Job.{jobOf, Valid, Partition, partBound, bottleneck};
 ghost use Rattle.parts.specs.Prefix.{prefixes, Ready};
+ghost use Rattle.parts.specs.Search.{Rising, Within, LastAtMost};
 use bound::Bound;
 
 // What a method ends with: the bottleneck found, and the count of its moves or trials.
@@ -34,6 +35,14 @@ pub fn narrow(i: usize) -> u32
     ensures { λ r. ⌜ r ≡ i ⌝ }
 {
     i as u32
+}
+
+// Inner. A load that fits 32 bits.
+pub fn narrow_load(load: u64) -> u32
+    requires { ⌜ load < 2 ^ 32 ⌝ }
+    ensures { λ r. ⌜ r ≡ load ⌝ }
+{
+    load as u32
 }
 
 // Inner. Writes W(1,0) to W(1,N) to the front of the list.
@@ -69,4 +78,101 @@ pub fn part_bound(
         load: wide(sums[b] - sums[a]),
         speed: wide(speeds[p]),
     }
+}
+
+// An index whose entry is at most a cap, and a step: the entry a step on is above the cap, or past the last.
+pub struct Span {
+    pub low: usize,
+    pub step: usize,
+}
+
+// Inner. From a on in steps of 8, 16, 32, .. to before the first entry seen above the cap.
+pub fn gallop(xs: &[u32], a: usize, n: usize, cap: u32) -> Span
+    requires { ⌜ (a ≤ n) × (n < length (now xs)) × (getD (now xs) a 0 ≤ cap) ⌝ }
+    ensures { λ r. ⌜ Within (now (xs .entry)) a n cap (r .low) (r .step) ⌝ }
+{
+    let mut low = a;
+    let mut step: usize = 8;
+    while step <= n - low {
+        if cap < xs[low + step] {
+            return Span { low, step };
+        }
+        low += step;
+        step += step;
+    }
+    Span { low, step }
+}
+
+// Inner. The same with a step of 8, by halving the step.
+pub fn halve(xs: &[u32], span: Span, n: usize, cap: u32) -> usize
+    requires { ⌜ Rising (now xs) n ⌝ }
+    requires { ⌜ Within (now xs) (span .low) n cap (span .low) (span .step) ⌝ }
+    ensures { λ r. ⌜ Within (now (xs .entry)) (span .low) n cap r 8 ⌝ }
+{
+    let mut low = span.low;
+    let mut step = span.step;
+    while 8 < step {
+        step -= step / 2;
+        if step <= n - low {
+            if xs[low + step] <= cap {
+                low += step;
+            }
+        }
+    }
+    low
+}
+
+// Inner. The last entry at most the cap among low and so many more, whose number is counted: no branch depends on an entry.
+pub fn last_counted(xs: &[u32], low: usize, more: usize, cap: u32) -> usize
+    requires { ⌜ Rising (now xs) (low + more) ⌝ }
+    requires { ⌜ getD (now xs) low 0 ≤ cap ⌝ }
+    ensures { λ r. ⌜ LastAtMost (now (xs .entry)) low (low + more) cap r ⌝ }
+{
+    let mut r = low;
+    let mut k = 0;
+    while k < more {
+        k += 1;
+        if xs[low + k] <= cap {
+            r += 1;
+        }
+    }
+    r
+}
+
+// Inner. The last entry at most the cap, where it is fewer than 8 on.
+pub fn last_near(xs: &[u32], low: usize, n: usize, cap: u32) -> usize
+    requires { ⌜ Rising (now xs) n ⌝ }
+    requires { ⌜ Within (now xs) low n cap low 8 ⌝ }
+    ensures { λ r. ⌜ LastAtMost (now (xs .entry)) low n cap r ⌝ }
+{
+    if 8 <= n - low {
+        return last_counted(xs, low, 7, cap);
+    }
+    last_counted(xs, low, n - low, cap)
+}
+
+// Inner. The last entry at most the cap from a to n, by galloping, halving and counting.
+pub fn last_far(xs: &[u32], a: usize, n: usize, cap: u32) -> usize
+    requires { ⌜ Rising (now xs) n ⌝ }
+    requires { ⌜ (a ≤ n) × (getD (now xs) a 0 ≤ cap) ⌝ }
+    ensures { λ r. ⌜ LastAtMost (now (xs .entry)) a n cap r ⌝ }
+{
+    let span = gallop(xs, a, n, cap);
+    let low = halve(xs, span, n, cap);
+    last_near(xs, low, n, cap)
+}
+
+// Inner. The last entry at most the cap from a to n. Often it is a itself: one look tells. It takes time in the logarithm of its
+// distance from a.
+pub fn last_at_most(xs: &[u32], a: usize, n: usize, cap: u32) -> usize
+    requires { ⌜ Rising (now xs) n ⌝ }
+    requires { ⌜ (a ≤ n) × (getD (now xs) a 0 ≤ cap) ⌝ }
+    ensures { λ r. ⌜ LastAtMost (now (xs .entry)) a n cap r ⌝ }
+{
+    if a < n {
+        if xs[a + 1] <= cap {
+            return last_far(xs, a + 1, n, cap);
+        }
+    }
+    a
 }

@@ -1,4 +1,3 @@
-pub mod Search
 pub mod Reach
 pub mod Bids
 pub mod Answer

@@ -18,7 +18,7 @@ use Rattle.chain.proofs.Walk.{reach-to, reach-within, reach-past}
 use Rattle.chain.proofs.Ranges.{Lendable, part-small, probe-products}
 use Rattle.parts.specs.Prefix.{Ready}
 use Rattle.parts.proofs.Laws.{speed-read, prefix-split, prefix-fits}
-use Rattle.probe.specs.Search.{LastAtMost}
+use Rattle.parts.specs.Search.{LastAtMost}
 
 -- An index whose part is within the bound, while the part with one more task is not, is as far as the part reaches.
 pub reach-unique : {job : Job} → Proper job → (p a r : ℕ) (B : Bound) → a ≤ r → r ≤ tasks job → partBound job p a r ≼ B

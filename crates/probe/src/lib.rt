@@ -9,84 +9,31 @@ ghost use Rattle.chain.specs.Job.{jobOf, partBound};
 ghost use Rattle.chain.specs.Probe.{reach, walk};
 ghost use Rattle.chain.proofs.Ranges.{Lendable};
 ghost use Rattle.parts.specs.Prefix.{Ready};
-ghost use Rattle.probe.specs.Search.{Bracket, LastAtMost};
+ghost use Rattle.parts.specs.Search.{Rising, LastAtMost};
 ghost use Rattle.probe.specs.Outcome.{Narrow, OneMore, outcomeOf};
 ghost use Rattle.probe.specs.Walk.{Reached};
 use bound::Bound;
 use parts::index;
+use parts::last_at_most;
 use parts::narrow;
 use parts::part_bound;
 use parts::wide;
 
-// Two indices: the entry at low is at most a cap; the one at high is above it, or high is past the last.
-pub struct Span {
-    pub low: usize,
-    pub high: usize,
-}
-
-// Inner. From a on in steps of 1, 2, 4, .. to the first entry seen above the cap.
-pub fn gallop(xs: &[u32], a: usize, n: usize, cap: u32) -> Span
-    requires { ⌜ (a ≤ n) × (n < length (now xs)) × (getD (now xs) a 0 ≤ cap) ⌝ }
-    ensures { λ r. ⌜ Bracket (now (xs .entry)) a n cap r ⌝ }
-{
-    let mut low = a;
-    let mut step: usize = 1;
-    while step <= n - low {
-        let next = low + step;
-        if cap < xs[next] {
-            return Span { low, high: next };
-        }
-        low = next;
-        step += step;
-    }
-    Span { low, high: n + 1 }
-}
-
-// Inner. The last entry at most the cap from low to before high, found by halving.
-pub fn halve(xs: &[u32], low: usize, high: usize, cap: u32) -> usize
-    requires { ⌜ (low < high) × (high ≤ length (now xs)) × (getD (now xs) low 0 ≤ cap) ⌝ }
-    ensures { λ r. ⌜ LastAtMost (now (xs .entry)) low (high - 1) cap r ⌝ }
-{
-    let mut a = low;
-    let mut b = high;
-    while 1 < b - a {
-        let mid = a + (b - a) / 2;
-        if xs[mid] <= cap {
-            a = mid;
-        } else {
-            b = mid;
-        }
-    }
-    a
-}
-
-// Inner. Where to search from: the hint, if it is from a to n and its entry is at most the cap, else a.
-pub fn search_from(xs: &[u32], a: usize, n: usize, cap: u32, hint: usize) -> usize
-    requires { ⌜ (a ≤ n) × (n < length (now xs)) × (getD (now xs) a 0 ≤ cap) ⌝ }
-    ensures { λ r. ⌜ (a ≤ r) × (r ≤ n) × (getD (now (xs .entry)) r 0 ≤ cap) ⌝ }
-{
-    if hint < a {
-        return a;
-    }
-    if n < hint {
-        return a;
-    }
-    if xs[hint] <= cap {
-        return hint;
-    }
-    a
-}
-
-// Inner. An index from a to n whose entry is at most the cap while the next one is not. No order of the entries is asked; where
-// they grow it is the last index at most the cap, whatever the hint. It takes time in the logarithm of its distance from a, and
+// Inner. The last entry at most the cap from a to n, whatever the hint. It takes time in the logarithm of its distance from a, and
 // from a hint that is before it in that of its distance from there.
-pub fn last_at_most(xs: &[u32], a: usize, n: usize, cap: u32, hint: usize) -> usize
-    requires { ⌜ (a ≤ n) × (n < length (now xs)) × (getD (now xs) a 0 ≤ cap) ⌝ }
+pub fn last_from(xs: &[u32], a: usize, n: usize, cap: u32, hint: usize) -> usize
+    requires { ⌜ Rising (now xs) n ⌝ }
+    requires { ⌜ (a ≤ n) × (getD (now xs) a 0 ≤ cap) ⌝ }
     ensures { λ r. ⌜ LastAtMost (now (xs .entry)) a n cap r ⌝ }
 {
-    let from = search_from(xs, a, n, cap, hint);
-    let span = gallop(xs, from, n, cap);
-    halve(xs, span.low, span.high, cap)
+    if a <= hint {
+        if hint < n {
+            if xs[hint] <= cap {
+                return last_at_most(xs, hint, n, cap);
+            }
+        }
+    }
+    last_at_most(xs, a, n, cap)
 }
 
 // Inner. The greatest load within the bound on a processor of this speed.
@@ -127,7 +74,7 @@ pub fn part_end(
     if wide(sums[n] - sum) <= limit {
         return n;
     }
-    last_at_most(sums, a, n, raised(sum, limit), hint)
+    last_from(sums, a, n, raised(sum, limit), hint)
 }
 
 // Inner. The lesser of two bounds, the first among equals.

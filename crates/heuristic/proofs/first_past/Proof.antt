@@ -3,37 +3,44 @@
 use native.Mathlib.Omega.{arith}
 use borrow.Author.Needs.{needs}
 use Rattle.chain.proofs.Ranges.{total-speed-positive}
-use Rattle.heuristic.proofs.Laws.{limit-fits, first-past-of}
+use Rattle.parts.proofs.Search.{prefix-rising}
+use Rattle.heuristic.proofs.Laws.{cap-fits, start-below, first-past-of}
 use Rattle.heuristic.proofs.first_past.Statement.{statement}
 use Rattle.heuristic.proofs.first_past.Tie as tie
 
-add-first-at-least : tie.Need-add-first-at-least
-add-first-at-least c = search needs
+sub-last-at-most : tie.Need-sub-last-at-most
+sub-last-at-most c = search needs
 
-div-first-at-least : tie.Need-div-first-at-least
-div-first-at-least c =
+div-narrow-load : tie.Need-div-narrow-load
+div-narrow-load c =
     let s = c .before .before .before in
     omega (arith, total-speed-positive (s .pre .0 .valid), s .pre .1 .0 .speed)
 
-add-first-at-least-2 : tie.Need-add-first-at-least-2
-add-first-at-least-2 c =
+narrow-load-requires : tie.Need-narrow-load-requires
+narrow-load-requires c κs =
     let s = c .before .before .before in
-    record { fits = limit-fits (s .pre .0 .valid) (s .pre .1 .0) }
+    cap-fits (s .pre .0) (s .pre .1 .0)
 
-first-at-least-requires : tie.Need-first-at-least-requires
-first-at-least-requires c κs = search needs
+last-at-most-requires : tie.Need-last-at-most-requires
+last-at-most-requires c κs =
+    let s = c .before .before .before .before in
+    (prefix-rising (s .pre .0 .prefix), (omega (arith, s .pre .1 .1 .to), start-below (s .pre .0) (s .pre .1 .0) (s .pre .1 .1) (c .narrow-load .ensures)))
+
+add-result : tie.Need-add-result
+add-result c = search needs
 
 returns : tie.Need-returns
 returns c =
-    let s = c .before .before .before .before in
-    first-past-of (s .pre .0) (s .pre .1 .0) (s .pre .1 .1) (c .first-at-least .ensures)
+    let s = c .before .before .before .before .before in
+    first-past-of (s .pre .0) (s .pre .1 .0) (s .pre .1 .1) (c .before .narrow-load .ensures) (c .last-at-most .ensures)
 
 pub first-past-spec : {M : Type 1} → statement M
 first-past-spec =
     tie.close
     (tie.spec
-    add-first-at-least
-    div-first-at-least
-    add-first-at-least-2
-    first-at-least-requires
+    sub-last-at-most
+    div-narrow-load
+    narrow-load-requires
+    last-at-most-requires
+    add-result
     returns)

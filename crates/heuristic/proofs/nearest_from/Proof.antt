@@ -2,7 +2,7 @@
 -- Assumes nothing.
 use Prim.Native.Nat.{_-_, _≤_}
 use mathlib.Core.Logic.{⊎-elim}
-use mathlib.Core.Path.{sym, _∙_}
+use mathlib.Core.Path.{refl, sym, _∙_}
 use native.Mathlib.Omega.{arith}
 use borrow.Author.Needs.{needs}
 use Rattle.chain.specs.Job.{jobOf, tasks}
@@ -15,20 +15,20 @@ use Rattle.heuristic.proofs.nearest_from.Tie as tie
 sub-before : tie.Need-sub-before
 sub-before c = search needs
 
+mul-low : tie.Need-mul-low
+mul-low c = search needs
+
+shared-slice-read-low : tie.Need-shared-slice-read-low
+shared-slice-read-low c = search needs
+
+wide-requires : tie.Need-wide-requires
+wide-requires c κs = search needs
+
 mul-wide : tie.Need-mul-wide
 mul-wide c = search needs
 
 shared-slice-read-wide : tie.Need-shared-slice-read-wide
 shared-slice-read-wide c = search needs
-
-wide-requires : tie.Need-wide-requires
-wide-requires c κs = search needs
-
-mul-wide-2 : tie.Need-mul-wide-2
-mul-wide-2 c = search needs
-
-shared-slice-read-wide-2 : tie.Need-shared-slice-read-wide-2
-shared-slice-read-wide-2 c = search needs
 
 wide-requires-2 : tie.Need-wide-requires-2
 wide-requires-2 c κs = search needs
@@ -36,46 +36,46 @@ wide-requires-2 c κs = search needs
 high-nearer-requires : tie.Need-high-nearer-requires
 high-nearer-requires c κs =
     let s = c .before .before .before .before .before .before .before .before in
-    choice-products (s .pre .0) (s .pre .1 .0) (s .pre .1 .1 .0) (c .before .before .if1 .taken) (c .before .before .before .wide .ensures) (c .wide2 .ensures)
+    choice-products (s .pre .0) (s .pre .1 .0) (s .pre .1 .1 .0) (c .before .before .before .if1 .taken) (c .before .before .wide .ensures) (c .wide2 .ensures)
 
 returns : tie.Need-returns
 returns c =
     let s = c .before .before .before .before .before .before .before .before .before .before in
-    choice-high (s .pre .0) (s .pre .1 .0) (s .pre .1 .1 .0) (c .before .before .before .before .if1 .taken) (c .before .before .before .before .before .wide .ensures) (c .before .before .wide2 .ensures) (sym (c .before .high-nearer .ensures) ∙ c .if2 .taken)
+    choice-high (s .pre .0) (s .pre .1 .0) (s .pre .1 .1 .0) (c .before .before .before .before .before .if1 .taken) (c .before .before .before .before .wide .ensures) (c .before .before .wide2 .ensures) (sym (c .before .high-nearer .ensures) ∙ c .if2 .taken)
 
 -- Where the search for the smaller index begins, the index before is as near.
 near : (c : tie.Joined1)
-    → let s = c .before .before .before .before .before .before in
+    → let s = c .before .before .before .before .before in
     s .args .past ≤ tasks (jobOf (s .args .weights .now) (s .args .speeds .now))
     → off (jobOf (s .args .weights .now) (s .args .speeds .now)) (s .args .target) (s .args .past - 1)
     ≤ off (jobOf (s .args .weights .now) (s .args .speeds .now)) (s .args .target) (s .args .past)
 near c h =
-    let s = c .before .before .before .before .before .before in
+    let s = c .before .before .before .before .before in
     ⊎-elim
-    (λ w. choice-low (s .pre .0) (s .pre .1 .0) (s .pre .1 .1 .0) h (c .before .wide .ensures) (w .2 .ensures) (sym (w .3 .ensures) ∙ w .4 .left))
+    (λ w. choice-low (s .pre .0) (s .pre .1 .0) (s .pre .1 .1 .0) h (w .1 .ensures) (w .3 .ensures) (sym (w .4 .ensures) ∙ w .5 .left))
     (λ w. absurd (let z : ⊥ = omega arith in z)) (c .if1 .came)
 
 first-level-requires : tie.Need-first-level-requires
 first-level-requires c κs =
-    let s = c .before .before .before .before .before .before in
+    let s = c .before .before .before .before .before in
     let m = nearest-before (s .pre .0) (s .pre .1 .1 .0) (near c) in
     (s .pre .0, (omega arith, omega arith))
 
 returns-2 : tie.Need-returns-2
 returns-2 c =
-    let s = c .before .before .before .before .before .before .before in
-    choice-end (s .pre .0) (s .pre .1 .0) (s .pre .1 .1 .0) _ (near (c .before)) (c .before .before .wide .ensures) (omega arith) (c .first-level .ensures)
+    let s = c .before .before .before .before .before .before in
+    choice-end (s .pre .0) (s .pre .1 .0) (s .pre .1 .1 .0) _ (near (c .before)) refl (omega arith) (c .first-level .ensures)
 
 pub nearest-from-spec : {M : Type 1} → statement M
 nearest-from-spec =
     tie.close
     (tie.spec
     sub-before
+    mul-low
+    shared-slice-read-low
+    wide-requires
     mul-wide
     shared-slice-read-wide
-    wide-requires
-    mul-wide-2
-    shared-slice-read-wide-2
     wide-requires-2
     high-nearer-requires
     returns

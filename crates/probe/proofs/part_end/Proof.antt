@@ -4,6 +4,7 @@ use native.Mathlib.Omega.{arith}
 use lib.ListN.{length}
 use borrow.Author.Needs.{needs}
 use Rattle.parts.proofs.Laws.{prefix-grows}
+use Rattle.parts.proofs.Search.{prefix-rising}
 use Rattle.probe.proofs.Reach.{limit-fits, end-all, cap-fits, end-last}
 use Rattle.probe.proofs.part_end.Statement.{statement}
 use Rattle.probe.proofs.part_end.Tie as tie
@@ -51,14 +52,16 @@ raised-requires c κs =
     cap-fits (s .pre .0) (s .pre .1 .0) (s .args .p) (s .args .a) (s .pre .1 .1 .0) (s .pre .1 .1 .1) (c .before .before .before .before .most-load .ensures)
     (omega (arith, c .before .wide .ensures))
 
-last-at-most-requires : tie.Need-last-at-most-requires
-last-at-most-requires c κs = search needs
+last-from-requires : tie.Need-last-from-requires
+last-from-requires c κs =
+    let s = c .before .before .before .before .before .before .before .before .before .before in
+    (prefix-rising (s .pre .0 .prefix), (s .pre .1 .1 .1, omega (arith, c .raised .ensures)))
 
 returns-2 : tie.Need-returns-2
 returns-2 c =
     let s = c .before .before .before .before .before .before .before .before .before .before .before in
     end-last (s .pre .0) (s .pre .1 .0) (s .args .p) (s .args .a) (s .pre .1 .1 .0) (s .pre .1 .1 .1)
-    (c .before .before .before .before .before .before .most-load .ensures) (c .before .raised .ensures) (c .last-at-most .ensures)
+    (c .before .before .before .before .before .before .most-load .ensures) (c .before .raised .ensures) (c .last-from .ensures)
 
 pub part-end-spec : {M : Type 1} → statement M
 part-end-spec =
@@ -75,5 +78,5 @@ part-end-spec =
     wide-requires
     returns
     raised-requires
-    last-at-most-requires
+    last-from-requires
     returns-2)
