@@ -24,10 +24,6 @@ rising-to h w = record { enough = omega (arith, w .enough); up = λ i j k l. w .
 pub rising-above : {xs : List ℕ} {n cap : ℕ} → Rising xs n → (i j : ℕ) → i ≤ j → j ≤ n → cap < getD xs i 0 → cap < getD xs j 0
 rising-above w i j h k e = omega (arith, w .up i j h k)
 
--- What is last from an index on is last from any index before it on.
-pub last-earlier : {xs : List ℕ} {a b n cap r : ℕ} → a ≤ b → LastAtMost xs b n cap r → LastAtMost xs a n cap r
-last-earlier h w = record { from = omega (arith, w .from); to = w .to; below = w .below; above = w .above }
-
 -- A halved step: the index stays, or it goes on by what the step has become.
 module _ {xs : List ℕ} {n cap : ℕ} (w : Rising xs n) {a low step : ℕ} (b : Within xs a n cap low step) where
   pub half-stays : (half : ℕ) → (low + half ≤ n → cap < getD xs (low + half) 0) → Within xs a n cap low half
@@ -87,17 +83,18 @@ module _ {xs : List ℕ} {n cap low : ℕ} (k : ℕ) {r : ℕ} (w : Rising xs n)
             ];
       }
 
--- What is last among an index and seven more is last where the eighth is above the cap.
-pub near-last : {xs : List ℕ} {a n cap low r : ℕ} → Within xs a n cap low 8 → low + 8 ≤ n → LastAtMost xs low (low + 7) cap r → LastAtMost xs low n cap r
-near-last {xs} {a} {n} {cap} {low} {r} b h c =
+-- What is last up to the entry before the eighth is last where the eighth is above the cap.
+pub near-last : {xs : List ℕ} {a n cap low m r : ℕ} → Within xs a n cap low 8 → low + 8 ≤ n → low + 8 ≡ suc m → LastAtMost xs low m cap r
+    → LastAtMost xs low n cap r
+near-last {xs} {a} {n} {cap} {low} {m} {r} b h e c =
     record {
       from = c .from;
       to = omega (arith, c .to);
       below = c .below;
       above = λ l.
-          elim (decLe (suc r) (low + 7)) [
-            | yes m ↦ c .above m
-            | no m ↦ subst (λ (i : ℕ). cap < getD xs i 0) (let z : low + 8 ≡ suc r = omega (arith, c .to) in z) (b .above h)
+          elim (decLe (suc r) m) [
+            | yes k ↦ c .above k
+            | no k ↦ subst (λ (i : ℕ). cap < getD xs i 0) (let z : low + 8 ≡ suc r = omega (arith, c .to) in z) (b .above h)
           ];
     }
 

@@ -1,4 +1,4 @@
-// Prefix sums of the weights, and what is read off them: the bound of a part, and the bottleneck of a partition.
+// Prefix sums of the weights, and what is read off them: the bound of a part, and the last index whose sum is at most a cap.
 // All functions here are inner: their callers have tested the job.
 ghost use Prim.Native.Nat.{ℕ, suc, _+_, _≤_, _<_, _^_};
 ghost use mathlib.Core.Path.{_≡_};
@@ -122,7 +122,8 @@ pub fn halve(xs: &[u32], span: Span, n: usize, cap: u32) -> usize
     low
 }
 
-// Inner. The last entry at most the cap among low and so many more, whose number is counted: no branch depends on an entry.
+// Inner. The last entry at most the cap among low and so many more. It is counted to, so that the compiled code has no branch on an
+// entry.
 pub fn last_counted(xs: &[u32], low: usize, more: usize, cap: u32) -> usize
     requires { ⌜ Rising (now xs) (low + more) ⌝ }
     requires { ⌜ getD (now xs) low 0 ≤ cap ⌝ }

@@ -16,6 +16,7 @@ use bound::Bound;
 use parts::index;
 use parts::last_at_most;
 use parts::narrow;
+use parts::narrow_load;
 use parts::part_bound;
 use parts::wide;
 
@@ -49,7 +50,7 @@ pub fn raised(sum: u32, load: u64) -> u32
     requires { ⌜ sum + load < 2 ^ 32 ⌝ }
     ensures { λ r. ⌜ r ≡ sum + load ⌝ }
 {
-    sum + (load as u32)
+    sum + narrow_load(load)
 }
 
 // Inner. The greatest index from a to N whose part, from a on, is within the bound on processor p. The hint changes only the time:

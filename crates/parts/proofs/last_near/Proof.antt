@@ -17,7 +17,7 @@ last-counted-requires c κs =
 returns : tie.Need-returns
 returns c =
     let s = c .before .before .before in
-    near-last (s .pre .1) (omega arith) (c .last-counted .ensures)
+    near-last (s .pre .1) (omega arith) (omega arith) (c .last-counted .ensures)
 
 sub-last-counted : tie.Need-sub-last-counted
 sub-last-counted c = search needs
