@@ -1,11 +1,11 @@
 -- The small algebra of fractions: sum, half, multiple, midpoint.
 -- Assumes nothing.
-use Prim.Native.Nat.{ℕ, _+_, _*_, _≤_, _<_}
+use Prim.Native.Nat.{ℕ, _*_, _<_}
 use native.Mathlib.Omega.{arith}
 use native.Mathlib.Nat.{mul-le-mul-right, le-of-mul-le-mul-right, one-le-mul}
 use Rattle.bound.specs.declared.Bound.{Bound}
-use Rattle.bound.specs.Order.{over, _≼_, _≺_, plus, half, times, middle}
-use Rattle.bound.proofs.Order.{open-le, make-le, open-lt, make-lt}
+use Rattle.bound.specs.Order.{_≼_, plus, half, times, middle}
+use Rattle.bound.proofs.Order.{open-le, make-le}
 
 pub plus-comm : (B C : Bound) → plus B C ≼ plus C B
 plus-comm B C = make-le (omega arith)

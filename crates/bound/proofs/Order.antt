@@ -5,11 +5,10 @@ use mathlib.Core.Path.{_≡_, refl, sym, subst}
 use mathlib.Core.Bool.{Bool, true, false, not}
 use mathlib.Core.Logic.{_⊎_, inl, inr}
 use native.Mathlib.Omega.{arith}
-use native.Mathlib.Decide.{decLe}
 use native.Mathlib.Nat.{mul-le-mul-right, le-of-mul-le-mul-right}
 use lib.Dec.{T, leb, leb→le, le→leb, nleb→lt, T-not, not-T}
 use Rattle.bound.specs.declared.Bound.{Bound}
-use Rattle.bound.specs.Order.{over, nought, le, _≼_, _≺_, _≈_, pick, greater, lesser, Real}
+use Rattle.bound.specs.Order.{nought, le, _≼_, _≺_, _≈_, pick, greater, lesser, Real}
 
 -- What the order says of the products, and back.
 pub open-le : {B C : Bound} → B ≼ C → B .load * C .speed ≤ C .load * B .speed

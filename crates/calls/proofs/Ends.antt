@@ -1,6 +1,6 @@
 -- What each call answers and leaves in the lent list, by the number of its refusal.
 -- Assumes nothing.
-use Prim.Native.Nat.{ℕ, suc, _+_, _≤_, _<_}
+use Prim.Native.Nat.{ℕ, suc, _+_, _≤_}
 use mathlib.Core.Path.{_≡_, refl, sym, ap, subst, _∙_}
 use mathlib.Core.Bool.{Bool, true, false, not, cond}
 use mathlib.Core.List.{List, _++_}
@@ -9,10 +9,9 @@ use native.Mathlib.Omega.{arith}
 use native.Mathlib.Numerals.{add-one}
 use lib.Dec.{T}
 use lib.ListN.{length, take, drop, length-append}
-use lib.Seq.{take-at}
 use borrow.Author.Tests.{ne-eqb}
 use Rattle.bound.specs.declared.Bound.{Bound}
-use Rattle.chain.specs.Job.{Job, Valid, Partition, processors, bottleneck}
+use Rattle.chain.specs.Job.{Job, Valid, processors, bottleneck}
 use Rattle.chain.specs.Probe.{walk, fits, nextBid}
 use Rattle.chain.specs.Heuristic.{heuristic}
 use Rattle.chain.specs.Refusal.{refusal}

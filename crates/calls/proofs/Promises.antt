@@ -1,9 +1,9 @@
 -- What a caller may read off the answers of the three calls and off the list that they leave.
 -- Assumes nothing.
-use Prim.Native.Nat.{ℕ, suc, _≤_, _<_}
+use Prim.Native.Nat.{ℕ, suc}
 use mathlib.Core.Path.{_≡_, refl, sym, ap, subst, _∙_}
 use mathlib.Core.Bool.{Bool, true, false, not, cond}
-use mathlib.Core.List.{List, [], _∷_, _++_, map, List·Memᴰ·head, Memᴰ·append-left, Memᴰ·append-right}
+use mathlib.Core.List.{List, [], _∷_, _++_, List·Memᴰ·head, Memᴰ·append-left, Memᴰ·append-right}
 use mathlib.Core.Logic.{_≢_, _↔_}
 use native.Mathlib.Omega.{arith}
 use lib.Dec.{T, eqb, eqb→eq}
@@ -15,23 +15,21 @@ use Rattle.bound.proofs.Order.{speed-real}
 use Rattle.chain.specs.Job.{Job, Valid, Partition, Within, processors, heaviest, slowest, ideal, bottleneck}
 use Rattle.chain.specs.Probe.{walk, fits, nextBid}
 use Rattle.chain.specs.Heuristic.{heuristic}
-use Rattle.chain.specs.Refusal.{Inputs, lengthTest, boundTest, partitionTest, jobTests, callTests, refusal}
+use Rattle.chain.specs.Refusal.{lengthTest, boundTest, partitionTest, jobTests, callTests, refusal}
 use Rattle.chain.proofs.Parts.{Proper, valid-proper}
 use Rattle.chain.proofs.Walk as walks
 use Rattle.chain.proofs.NextBid as bids
 use Rattle.chain.proofs.Heuristic.{heuristic-partition, heuristic-bound}
-use Rattle.chain.proofs.Ranges.{Lendable, lendable-test}
+use Rattle.chain.proofs.Ranges.{lendable-test}
 use Rattle.chain.proofs.Refusals.{call-accepted, call-valid, partition-test}
 use Rattle.jobs.proofs.Lent.{lent-refused}
 use Rattle.jobs.specs.Answers.{lentAfter}
-use Rattle.probe.proofs.Answer.{walk-count}
-use Rattle.calls.specs.declared.Measured.{Measured}
 use Rattle.calls.specs.declared.Measured.the-variants.{Bottleneck, Refused}
 use Rattle.calls.specs.declared.Probed.{Probed}
 use Rattle.calls.specs.declared.Probed.the-variants.{Fits, Fails, Refused as ProbeRefused}
 use Rattle.calls.specs.Answers.{measuredNumber, probedNumber, measureInputs, probeInputs, heuristicInputs, measuredOf, measureAnswer, probed, probedOf, probeAnswer, probeWrites, heuristicAnswer, heuristicWrites}
-use Rattle.parts.proofs.Front.{taken, front-partition, front-bottleneck}
-use Rattle.calls.proofs.Ends.{measured-refused, probed-refused, lent-front}
+use Rattle.parts.proofs.Front.{taken, front-partition}
+use Rattle.calls.proofs.Ends.{lent-front}
 
 truth : (b : Bool) → T b → b ≡ true
 truth true t = refl

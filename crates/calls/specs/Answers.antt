@@ -1,7 +1,7 @@
 -- What measuring, the probe and the heuristic answer, and what they leave in the lent list of separators: each one definition
 -- on the whole input, refusals included. Document 01, "Trial at a bound", "Quick plan", "Who causes which number".
-use Prim.Native.Nat.{ℕ, zero, suc}
-use mathlib.Core.Bool.{Bool, true, false, cond}
+use Prim.Native.Nat.{ℕ, suc}
+use mathlib.Core.Bool.{cond}
 use mathlib.Core.List.{List, [], _∷_}
 use lib.ListN.{length, take}
 use lib.Dec.{eqb}

@@ -1,6 +1,6 @@
 // The callable functions on a job by lists: measuring, the probe ("trial") and the heuristic ("quick plan").
 // None has a `requires`: every test is inside, and nothing lent is written before the last test has passed.
-ghost use Prim.Native.Nat.{ℕ, suc, _+_, _≤_, _<_};
+ghost use Prim.Native.Nat.{suc, _+_, _≤_, _<_};
 ghost use mathlib.Core.Path.{_≡_};
 ghost use mathlib.Core.Bool.{cond};
 ghost use mathlib.Core.List.{_++_};

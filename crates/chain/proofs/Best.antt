@@ -1,23 +1,23 @@
 -- The one thing that every method must reach: a bound that fits and is at most every bound that fits. The walk at any such
 -- bound is the best partition, and there is only one best partition.
 -- Assumes nothing.
-use Prim.Native.Nat.{ℕ, zero, suc, _+_, _-_, _≤_, _<_}
-use mathlib.Core.Path.{_≡_, refl, sym, ap, subst, _∙_}
+use Prim.Native.Nat.{ℕ, zero, suc, _+_, _-_, _≤_}
+use mathlib.Core.Path.{_≡_, sym, ap, subst, _∙_}
 use mathlib.Core.List.{List}
 use native.Mathlib.Omega.{arith}
 use native.Mathlib.Decide.{decLe}
 use lib.Dec.{T}
-use lib.ListN.{length, List·getD-eq-default}
+use lib.ListN.{List·getD-eq-default}
 use lib.Seq.{ext-getD}
 use Rattle.bound.specs.declared.Bound.{Bound}
 use Rattle.bound.specs.Order.{_≼_, _≈_, Real}
 use Rattle.bound.proofs.Order.{le-trans, eq-sym}
 use Rattle.chain.specs.Job.{Job, tasks, processors, last, at, Partition, bottleneck, Within}
-use Rattle.chain.specs.Probe.{separator, walk, fits}
+use Rattle.chain.specs.Probe.{walk, fits}
 use Rattle.chain.specs.Plan.{Best}
 use Rattle.chain.proofs.Parts.{Proper}
 use Rattle.chain.proofs.Bottleneck.{processors-last, bottleneck-real, bottleneck-le, within-bottleneck, le-bottleneck}
-use Rattle.chain.proofs.Walk.{walk-partition, walk-within, walk-at, walk-end, walk-length, walk-alike, partition-fits, partition-covers, furthest}
+use Rattle.chain.proofs.Walk.{walk-partition, walk-within, walk-at, walk-end, walk-alike, partition-fits, partition-covers, furthest}
 
 -- A bound that fits, and is at most every bound that fits.
 pub record Least (job : Job) (B : Bound) : Type 0 where

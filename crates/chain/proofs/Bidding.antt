@@ -2,18 +2,18 @@
 -- Assumes nothing.
 use Prim.Native.Nat.{ℕ, zero, suc, _+_, _-_, _*_, _≤_, _<_}
 use mathlib.Core.Path.{_≡_, refl, sym, ap, subst, _∙_}
-use mathlib.Core.Bool.{Bool, true, false, not}
+use mathlib.Core.Bool.{not}
 use native.Mathlib.Omega.{arith}
 use native.Mathlib.Decide.{decLe}
 use lib.Dec.{T, T-not}
 use Rattle.bound.specs.declared.Bound.{Bound}
 use Rattle.bound.specs.Order.{_≼_, _≺_, Real}
-use Rattle.bound.proofs.Order.{make-le, lt-le, le-or-lt, le-trans, not-both}
-use Rattle.chain.specs.Lists.{sum, sumTo, isFirst}
-use Rattle.chain.specs.Job.{Job, tasks, processors, last, speedOf, partLoad, totalWeight, totalSpeed, partBound, ideal}
-use Rattle.chain.specs.Probe.{separator, walk, fits, bid, nextBid}
+use Rattle.bound.proofs.Order.{make-le, lt-le, not-both}
+use Rattle.chain.specs.Lists.{sumTo, isFirst}
+use Rattle.chain.specs.Job.{Job, tasks, last, speedOf, partLoad, totalWeight, totalSpeed, partBound, ideal}
+use Rattle.chain.specs.Probe.{separator, fits, bid, nextBid}
 use Rattle.chain.specs.Search.{bidding}
-use Rattle.chain.proofs.Parts.{Proper, part-left, part-real, weight-all}
+use Rattle.chain.proofs.Parts.{Proper, part-left, weight-all}
 use Rattle.chain.proofs.Indices.{first-holds, first-fails, first-exists}
 use Rattle.chain.proofs.Bottleneck.{processors-last}
 use Rattle.chain.proofs.Walk.{separator-to, separator-grows, separator-past, growing, walk-partition, walk-within, le-fits}

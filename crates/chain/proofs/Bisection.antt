@@ -1,27 +1,26 @@
 -- Bisection: the ends never cross, their gap is at least halved by each round, and unequal ends are at least 1/fastest² apart;
 -- so it ends at the least bound that fits, after at most digits(D) rounds.
 -- Assumes nothing.
-use Prim.Native.Nat.{ℕ, zero, suc, _+_, _-_, _*_, _/_, _^_, _≤_, _<_}
-use mathlib.Core.Path.{_≡_, refl, sym, ap, subst, _∙_}
+use Prim.Native.Nat.{ℕ, zero, suc, _-_, _*_, _^_, _≤_, _<_}
+use mathlib.Core.Path.{_≡_, refl, sym, subst}
 use mathlib.Core.Bool.{Bool, true, false, not, _&&_}
 use mathlib.Core.List.{List}
-use mathlib.Core.Logic.{_⊎_, inl, inr}
 use native.Mathlib.Omega.{arith}
-use native.Mathlib.Nat.{mul-le-mul, mul-le-mul-right, mul-le-mul-left, le-of-mul-le-mul-right, one-le-mul, le-div-iff-mul-le, le-trans as ≤-trans}
-use lib.Dec.{T, T-not, ltb}
+use native.Mathlib.Nat.{mul-le-mul, mul-le-mul-right, mul-le-mul-left, le-of-mul-le-mul-right, one-le-mul, le-div-iff-mul-le}
+use lib.Dec.{T, ltb}
 use Rattle.bound.specs.declared.Bound.{Bound}
-use Rattle.bound.specs.Order.{over, le, _≼_, _≺_, _≈_, plus, times, half, middle, pick, Real}
-use Rattle.bound.proofs.Order.{open-le, make-le, open-lt, le-or-lt, lt-le, le-trans, not-both, speed-real}
-use Rattle.bound.proofs.Algebra.{plus-mono, plus-left, middle-above, middle-below}
+use Rattle.bound.specs.Order.{over, le, _≼_, _≺_, plus, times, middle, pick, Real}
+use Rattle.bound.proofs.Order.{open-le, make-le, open-lt, lt-le, le-trans, speed-real}
+use Rattle.bound.proofs.Algebra.{plus-mono}
 use Rattle.chain.specs.Lists.{isFirst, digits}
-use Rattle.chain.specs.Job.{Job, tasks, processors, last, speedOf, heaviest, fastest, slowest, partBound, boundAt, bottleneck, ideal}
+use Rattle.chain.specs.Job.{Job, tasks, processors, last, heaviest, fastest, slowest, partBound, boundAt, bottleneck, ideal}
 use Rattle.chain.specs.Probe.{separator, walk, fits, bid, nextBid}
 use Rattle.chain.specs.Heuristic.{heuristic}
 use Rattle.chain.specs.Search.{Ends, firstEnds, narrow, ends, meet}
 use Rattle.chain.specs.Plan.{difference}
 use Rattle.chain.proofs.Parts.{Proper}
-use Rattle.chain.proofs.Indices.{first-holds, first-fails, first-exists}
-use Rattle.chain.proofs.Bottleneck.{processors-last, bottleneck-real, bottleneck-le, bottleneck-cases}
+use Rattle.chain.proofs.Indices.{first-fails, first-exists}
+use Rattle.chain.proofs.Bottleneck.{bottleneck-le, bottleneck-cases}
 use Rattle.chain.proofs.Walk.{walk-partition, walk-within, fits-raise}
 use Rattle.chain.proofs.NextBid.{next-cases, next-above, next-least}
 use Rattle.chain.proofs.Best.{Least, bottleneck-fits}

@@ -1,14 +1,14 @@
 -- The bottleneck is within a bound exactly when every part is, and it is one of the parts' bounds.
 -- Assumes nothing.
-use Prim.Native.Nat.{ℕ, zero, suc, _+_, _-_, _≤_, _<_}
-use mathlib.Core.Path.{_≡_, refl, sym, ap, subst}
+use Prim.Native.Nat.{ℕ, zero, suc, _-_, _≤_, _<_}
+use mathlib.Core.Path.{_≡_, subst}
 use mathlib.Core.List.{List}
 use native.Mathlib.Omega.{arith}
 use native.Mathlib.Decide.{decLe}
 use Rattle.bound.specs.declared.Bound.{Bound}
-use Rattle.bound.specs.Order.{_≼_, _≈_, greater, Real}
+use Rattle.bound.specs.Order.{_≼_, greater, Real}
 use Rattle.bound.proofs.Order.{le-refl, le-trans, greater-cases, greater-left, greater-right, greater-le}
-use Rattle.chain.specs.Job.{Job, tasks, processors, last, boundAt, bottleneckTo, bottleneck, Within}
+use Rattle.chain.specs.Job.{Job, processors, last, boundAt, bottleneckTo, bottleneck, Within}
 use Rattle.chain.proofs.Parts.{Proper, part-real}
 
 module _ {job : Job} (ok : Proper job) where

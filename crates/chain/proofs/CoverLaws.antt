@@ -1,13 +1,11 @@
 -- What the first processors can take within a bound: with fewer tasks too.
 -- Assumes nothing.
 use Prim.Native.Nat.{ℕ, zero, suc, _≤_}
-use mathlib.Core.Path.{_≡_}
 use native.Mathlib.Omega.{arith}
 use native.Mathlib.Decide.{decLe}
 use Rattle.bound.specs.declared.Bound.{Bound}
-use Rattle.bound.specs.Order.{_≼_}
 use Rattle.bound.proofs.Order.{le-trans}
-use Rattle.chain.specs.Job.{Job, partBound}
+use Rattle.chain.specs.Job.{Job}
 use Rattle.chain.proofs.Parts.{Proper, part-empty, part-right, part-real}
 use Rattle.chain.proofs.Cover.{Cover}
 

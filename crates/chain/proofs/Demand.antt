@@ -1,7 +1,7 @@
 -- Demand 3 whole, at the level of definitions: every method ends, at the least bottleneck, within its allowance; every plan of
 -- a job has the separators of the one best partition, whichever method made it.
 -- Assumes nothing.
-use Prim.Native.Nat.{ℕ, zero, suc, _+_, _*_, _≤_}
+use Prim.Native.Nat.{ℕ, suc, _+_, _*_, _≤_}
 use mathlib.Core.Path.{_≡_, refl, sym, ap, subst, _∙_}
 use mathlib.Core.Bool.{Bool, true, false, not}
 use mathlib.Core.List.{List}
@@ -10,17 +10,17 @@ use lib.Dec.{T, T-not}
 use Rattle.bound.specs.declared.Bound.{Bound}
 use Rattle.bound.specs.Order.{_≼_, _≈_, Real}
 use Rattle.bound.proofs.Order.{le-refl, le-trans}
-use Rattle.chain.specs.Lists.{digits, isFirst}
-use Rattle.chain.specs.Job.{Job, tasks, last, at, Partition, bottleneck, ideal, Valid}
+use Rattle.chain.specs.Lists.{digits}
+use Rattle.chain.specs.Job.{Job, tasks, last, Partition, bottleneck, ideal}
 use Rattle.chain.specs.Probe.{walk, fits}
 use Rattle.chain.specs.Dynamic.{tableValue, moves}
 use Rattle.chain.specs.Search.{bidding, ends, meet}
-use Rattle.chain.specs.Plan.{leastBottleneck, planOf, Best, Method, table, biddings, bisection, TableEnds, BiddingEnds, BisectionEnds, at-once, after, MethodEnds, difference, allowance, imbalance, Plan, PlanBy}
-use Rattle.chain.proofs.Parts.{Proper, valid-proper}
+use Rattle.chain.specs.Plan.{leastBottleneck, planOf, Best, Method, table, biddings, bisection, BisectionEnds, at-once, after, MethodEnds, difference, allowance, imbalance, Plan, PlanBy}
+use Rattle.chain.proofs.Parts.{Proper}
 use Rattle.chain.proofs.Indices.{first-holds, first-unique}
 use Rattle.chain.proofs.Bottleneck.{bottleneck-real, bottleneck-le, within-bottleneck}
 use Rattle.chain.proofs.Walk.{fits-cover, cover-fits, walk-partition, walk-within, partition-fits}
-use Rattle.chain.proofs.Best.{Least, least-best, least-alike, least-met, best-unique}
+use Rattle.chain.proofs.Best.{Least, least-best, least-alike, best-unique}
 use Rattle.chain.proofs.Table.{table-real, table-cover, moves-allowed}
 use Rattle.chain.proofs.Ideal.{ideal-real}
 use Rattle.chain.proofs.Bidding.{ideal-below, bidding-least, bidding-allowed, bidding-ends}

@@ -3,14 +3,14 @@
 use Prim.Native.Nat.{ℕ, zero, suc, _+_, _-_, _≤_, _<_}
 use mathlib.Core.Path.{_≡_, refl, sym, ap, subst, _∙_}
 use mathlib.Core.Bool.{Bool, true, false, not, cond, _&&_}
-use mathlib.Core.List.{List, [], _∷_, _++_}
+use mathlib.Core.List.{List, _∷_, _++_}
 use mathlib.Core.Logic.{_⊎_, inl, inr}
 use native.Mathlib.Omega.{arith}
-use native.Mathlib.Decide.{decLe, ℕ-discrete}
-use lib.Dec.{T, leb, leb→le, T-not}
+use native.Mathlib.Decide.{decLe}
+use lib.Dec.{T, leb, T-not}
 use lib.ListN.{length, getD}
 use borrow.Author.Tests.{leb-true, leb-false}
-use Rattle.chain.specs.Lists.{tabulate, sumTo, all, isFirst, greatestFrom, smallestFrom, smallestLeast}
+use Rattle.chain.specs.Lists.{tabulate, all, isFirst, greatestFrom, smallestFrom, smallestLeast}
 
 -- The greatest index from a to a + d: in range; f holds there unless it is a; f fails past it.
 pub record Greatest (f : ℕ → Bool) (a d r : ℕ) : Type 0 where

@@ -2,17 +2,17 @@
 -- with a failed walk up to the first processor whose bid is within that bound.
 -- Assumes nothing.
 use Prim.Native.Nat.{ℕ, zero, suc, _+_, _-_, _≤_, _<_}
-use mathlib.Core.Path.{_≡_, refl, sym, ap, ap₂, subst, _∙_}
+use mathlib.Core.Path.{_≡_, sym, ap, ap₂, subst, _∙_}
 use mathlib.Core.Bool.{Bool, true, false, not}
-use mathlib.Core.Logic.{_⊎_, inl, inr}
+use mathlib.Core.Logic.{inl, inr}
 use native.Mathlib.Omega.{arith}
 use native.Mathlib.Decide.{decLe}
 use lib.Dec.{T, ltb, T-not}
 use borrow.Author.Tests.{lt-ltb, le-ltb}
 use Rattle.bound.specs.declared.Bound.{Bound}
 use Rattle.bound.specs.Order.{_≼_, _≺_, pick, lesser, Real}
-use Rattle.bound.proofs.Order.{le-refl, le-trans, lt-le, le-or-lt, lt-le-trans, not-both, lesser-cases, lesser-left, lesser-right}
-use Rattle.chain.specs.Job.{Job, tasks, processors, last, partBound}
+use Rattle.bound.proofs.Order.{le-refl, le-trans, le-or-lt, lt-le-trans, not-both, lesser-cases, lesser-left, lesser-right}
+use Rattle.chain.specs.Job.{Job, tasks, last, partBound}
 use Rattle.chain.specs.Probe.{separator, fits, bid, leastBidTo, nextBid}
 use Rattle.chain.proofs.Parts.{Proper, part-empty, part-left, part-right, part-real}
 use Rattle.chain.proofs.Walk.{separator-to, separator-grows, separator-mono, separator-within, separator-past, growing, fits-le, le-fits, fails-lt}

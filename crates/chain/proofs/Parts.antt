@@ -1,15 +1,15 @@
 -- The laws of parts. Everything about probes, methods and best partitions rests on these four and on the order of bounds:
 -- a part grows when it is extended at either end, an empty part is at most everything, every part's bound is a real fraction.
 -- Assumes nothing.
-use Prim.Native.Nat.{ℕ, zero, suc, _+_, _-_, _*_, _≤_, _<_}
-use mathlib.Core.Path.{_≡_, refl, sym, ap, subst, _∙_}
+use Prim.Native.Nat.{ℕ, _+_, _-_, _≤_}
+use mathlib.Core.Path.{_≡_, ap, _∙_}
 use mathlib.Core.List.{List, [], _∷_, _++_}
 use native.Mathlib.Omega.{arith}
 use native.Mathlib.Nat.{mul-le-mul-right}
-use lib.ListN.{length, getD, take, drop, take-append-drop}
+use lib.ListN.{take, drop}
 use lib.Seq.{take-add, drop-drop, take-length}
 use Rattle.bound.specs.declared.Bound.{Bound}
-use Rattle.bound.specs.Order.{over, _≼_, Real}
+use Rattle.bound.specs.Order.{_≼_, Real}
 use Rattle.bound.proofs.Order.{make-le, zero-load-le, speed-real}
 use Rattle.chain.specs.Lists.{sum}
 use Rattle.chain.specs.Job.{Job, tasks, processors, speedOf, partWeight, partLoad, totalWeight, partBound, Valid}

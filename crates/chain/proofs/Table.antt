@@ -1,9 +1,9 @@
 -- The table holds what it should: each value is the least over every last part, and is at most a bound exactly when the
 -- first processors can take the tasks within it. The crossings grow, so the pointer's moves are the crossings at the end.
 -- Assumes nothing.
-use Prim.Native.Nat.{ℕ, zero, suc, _+_, _-_, _*_, _≤_, _<_}
+use Prim.Native.Nat.{ℕ, zero, suc, _-_, _*_, _≤_, _<_}
 use mathlib.Core.Path.{_≡_, refl, subst}
-use mathlib.Core.Logic.{_⊎_, inl, inr}
+use mathlib.Core.Logic.{inl, inr}
 use native.Mathlib.Omega.{arith}
 use native.Mathlib.Decide.{decLe}
 use Rattle.bound.specs.declared.Bound.{Bound}

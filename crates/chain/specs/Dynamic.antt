@@ -1,6 +1,5 @@
 -- Dynamic programming. Document 01, "The three methods", 1. Table. Row p here is the document's row p + 1.
 use Prim.Native.Nat.{ℕ, zero, suc, _+_, _-_}
-use mathlib.Core.Bool.{Bool}
 use Rattle.bound.specs.declared.Bound.{Bound}
 use Rattle.bound.specs.Order.{le, greater, lesser}
 use Rattle.chain.specs.Lists.{sumTo, smallestFrom}

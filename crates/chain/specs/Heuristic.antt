@@ -1,5 +1,5 @@
 -- The heuristic of Miguet and Pierson. Document 01, "Quick plan".
-use Prim.Native.Nat.{ℕ, zero, suc, _*_}
+use Prim.Native.Nat.{ℕ, suc, _*_}
 use mathlib.Core.List.{List, [], _∷_, _++_}
 use Rattle.chain.specs.Lists.{tabulate, sumTo, smallestLeast, distance}
 use Rattle.chain.specs.Job.{Job, tasks, last, speedOf, partWeight, totalWeight, totalSpeed}

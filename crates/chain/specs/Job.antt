@@ -1,15 +1,14 @@
 -- The job, its parts and its partitions. Document 01, "The job". Processors are counted from 0 here: processor p is the
 -- document's machine p + 1, and a part from a to b is the document's tiles a + 1 to b.
-use Prim.Native.Nat.{ℕ, zero, suc, _+_, _-_, _*_, _/_, _≤_, _<_}
+use Prim.Native.Nat.{ℕ, zero, suc, _-_, _≤_, _<_}
 use mathlib.Core.Path.{_≡_}
 use mathlib.Core.Bool.{Bool}
 use mathlib.Core.List.{List, [], _∷_}
 use lib.ListN.{length, getD, take, drop}
-use lib.Dec.{T}
 use Rattle.bound.specs.declared.Bound.{Bound}
 use Rattle.bound.specs.Order.{over, le, greater, _≼_}
 use Rattle.chain.specs.Limits.{maxTasks, maxWeight, maxProcessors, maxSpeed}
-use Rattle.chain.specs.Lists.{sum, greatestOf, leastOf, sumTo}
+use Rattle.chain.specs.Lists.{sum, greatestOf, leastOf}
 
 -- A job: the weights of the tasks ("tiles") and the speeds of the processors ("machines"), in order.
 pub record Job : Type 0 where

@@ -1,16 +1,16 @@
 -- What a plan is, and what it is held against. Document 01, "The three methods"; demand 3.
 use Prim.Native.Nat.{ℕ, zero, suc, _+_, _-_, _*_, _/_, _≤_}
 use mathlib.Core.Path.{_≡_}
-use mathlib.Core.Bool.{Bool, true, false, not, cond}
+use mathlib.Core.Bool.{not, cond}
 use mathlib.Core.List.{List, [], _∷_, _++_, map}
 use lib.Dec.{T, eqb}
 use Rattle.bound.specs.declared.Bound.{Bound}
 use Rattle.bound.specs.Order.{nought, lesser, _≼_, _≈_}
 use Rattle.chain.specs.Lists.{digits, isFirst}
-use Rattle.chain.specs.Job.{Job, tasks, processors, last, totalWeight, totalSpeed, heaviest, fastest, slowest, at, Partition, bottleneck, ideal}
+use Rattle.chain.specs.Job.{Job, tasks, last, totalWeight, totalSpeed, heaviest, fastest, slowest, at, Partition, bottleneck, ideal}
 use Rattle.chain.specs.Probe.{walk, fits}
 use Rattle.chain.specs.Dynamic.{tableValue, moves}
-use Rattle.chain.specs.Search.{Ends, bidding, ends, meet}
+use Rattle.chain.specs.Search.{bidding, ends, meet}
 
 -- The lists of separators from a on, each made longer in front by b, for every b from a to a + d.
 unfoldable pub spread : (ℕ → List (List ℕ)) → ℕ → ℕ → List (List ℕ)

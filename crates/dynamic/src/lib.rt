@@ -1,6 +1,6 @@
 // The table (dynamic programming): document 01, "The three methods", 1. All functions here are inner: their callers have
 // tested the job. The scratch list holds the N + 1 prefix sums, and behind them two rows of N + 1 pairs, load and speed.
-ghost use Prim.Native.Nat.{ℕ, suc, _+_, _*_, _≤_, _<_, _^_};
+ghost use Prim.Native.Nat.{suc, _+_, _*_, _≤_, _<_, _^_};
 ghost use mathlib.Core.Path.{_≡_};
 ghost use lib.ListN.{length};
 ghost use Rattle.chain.specs.Job.{jobOf, speedOf, partBound};

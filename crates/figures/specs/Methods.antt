@@ -1,6 +1,6 @@
 -- The methods by their numbers. Document 01, "The three methods".
 use Prim.Native.Nat.{ℕ}
-use mathlib.Core.Bool.{Bool, true, false, cond}
+use mathlib.Core.Bool.{cond}
 use lib.Dec.{eqb}
 use Rattle.chain.specs.Plan.{Method, table, biddings, bisection}
 

@@ -1,5 +1,5 @@
 // The figures that a plan carries beside its separators: allowance and imbalance. All functions here are inner.
-ghost use Prim.Native.Nat.{ℕ, suc, _+_, _*_, _≤_, _<_};
+ghost use Prim.Native.Nat.{_+_, _*_, _<_};
 ghost use mathlib.Core.Path.{_≡_};
 ghost use lib.ListN.{length};
 ghost use Rattle.bound.specs.Order.{_≼_};

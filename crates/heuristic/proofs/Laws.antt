@@ -8,19 +8,19 @@ use mathlib.Core.Logic.{_⊎_, inl, inr}
 use native.Mathlib.Omega.{arith}
 use native.Mathlib.Decide.{decLe}
 use native.Mathlib.Numerals.{add-one}
-use native.Mathlib.Nat.{lt-of-le-of-lt, le-trans, div-le-of-le-mul}
+use native.Mathlib.Nat.{lt-of-le-of-lt, div-le-of-le-mul}
 use lib.Dec.{ltb, lit<}
 use lib.ListN.{length, getD, set, drop, length-set}
 use lib.Seq.{getD-set-same, drop-set-lt, ext-getD}
 use borrow.Author.Tests.{le-leb, lt-leb, ltb-true, ltb-false}
 use Rattle.chain.specs.Lists.{tabulate, sumTo, distance}
-use Rattle.chain.specs.Job.{Job, Valid, tasks, processors, last, speedOf, partWeight, totalWeight, totalSpeed, at, bottleneck}
+use Rattle.chain.specs.Job.{Job, Valid, tasks, processors, last, speedOf, partWeight, totalWeight, totalSpeed, at}
 use Rattle.chain.specs.Heuristic.{nearest, heuristic}
 use Rattle.chain.proofs.Parts.{Proper, valid-proper, weight-all}
 use Rattle.chain.proofs.Indices.{length-tabulate, at-tabulate}
 use Rattle.chain.proofs.Ideal.{total-speed-is}
 use Rattle.chain.proofs.Heuristic.{nearest-le, nearest-first, nearest-grows, heuristic-at, heuristic-end, heuristic-partition}
-use Rattle.chain.proofs.Ranges.{speeds-to-limit, index-fits, total-speed-fits, total-weight-limit, loads-fit, heuristic-products}
+use Rattle.chain.proofs.Ranges.{speeds-to-limit, index-fits, total-speed-fits, heuristic-products}
 use Rattle.parts.specs.Prefix.{Prefix, Ready}
 use Rattle.parts.specs.Search.{LastAtMost}
 use Rattle.parts.proofs.Front.{Front, front-store, front-end}

@@ -7,7 +7,7 @@ ghost use lib.Dec.{ltb};
 ghost use lib.ListN.{length, take, drop};
 ghost use Rattle.bound.specs.Order.{greater};
 ghost use Rattle.chain.specs.Lists.{distance};
-ghost use Rattle.chain.specs.Job.{jobOf, Valid, Partition, totalSpeed, boundAt, bottleneck};
+ghost use Rattle.chain.specs.Job.{jobOf, Partition, boundAt, bottleneck};
 ghost use Rattle.chain.specs.Heuristic.{heuristic};
 ghost use Rattle.parts.specs.Prefix.{Ready};
 ghost use Rattle.heuristic.specs.Target.{firstAtLeast, nearestTo, Target, Behind, FirstPast};

@@ -1,8 +1,8 @@
 -- The tests of a file's records from the front, and what the records hold as long as they pass.
 -- Assumes nothing.
-use Prim.Native.Nat.{ℕ, zero, suc, _+_, _*_, _/_, _%_, _≤_, _<_}
-use mathlib.Core.Path.{_≡_, refl, sym, ap, ap₂, subst, _∙_}
-use mathlib.Core.Bool.{Bool, true, false, cond}
+use Prim.Native.Nat.{ℕ, zero, suc, _+_, _%_, _≤_, _<_}
+use mathlib.Core.Path.{_≡_, refl, sym, ap, ap₂, _∙_}
+use mathlib.Core.Bool.{Bool, cond}
 use mathlib.Core.List.{List, [], _∷_, _++_, append-nil}
 use mathlib.Core.Logic.{_≢_, _⊎_, inl, inr}
 use native.Mathlib.Omega.{arith}
@@ -11,7 +11,7 @@ use native.Mathlib.Numerals.{add-one}
 use lib.Dec.{eqb}
 use lib.ListN.{length, length-append}
 use borrow.Author.Tests.{eq-eqb, ne-eqb}
-use Rattle.chain.specs.Refusal.{Test, firstRefusal}
+use Rattle.chain.specs.Refusal.{firstRefusal}
 use Rattle.jobs.specs.JobFile.{processorKind, taskKind}
 use Rattle.jobs.specs.Parse.{recordCount, kindAt, valueAt, isKind, multipleTest, formTest, orderTest, speedTest, weightTest, recordTests, recordsTests, valuesOf, speedsOf, weightsOf}
 use Rattle.jobs.specs.Answers.{answerOf}

@@ -10,7 +10,7 @@ use lib.ListN.{length}
 use borrow.Author.Tests.{not-true, not-false}
 use Rattle.chain.specs.Limits.{maxTasks, maxWeight, maxProcessors, maxSpeed}
 use Rattle.chain.specs.Job.{jobOf}
-use Rattle.chain.specs.Refusal.{Test, test, between, eachBetween, speedsTest, weightsTest, processorsTest, tasksTest, firstRefusal, jobTests}
+use Rattle.chain.specs.Refusal.{test, between, eachBetween, speedsTest, weightsTest, processorsTest, tasksTest, firstRefusal, jobTests}
 use Rattle.jobs.proofs.Limits.{speed-limit, weight-limit}
 use Rattle.jobs.proofs.Steps.{fails, passes}
 

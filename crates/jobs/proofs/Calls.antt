@@ -1,7 +1,7 @@
 -- What the calls promise: each number exactly when its test is the first to fail; a file read and written, a job written and read.
 -- Assumes nothing.
-use Prim.Native.Nat.{ℕ, zero, suc, _+_, _*_, _≤_, _<_}
-use mathlib.Core.Path.{_≡_, refl, sym, ap, ap₂, subst, _∙_}
+use Prim.Native.Nat.{ℕ, _+_, _≤_}
+use mathlib.Core.Path.{_≡_, refl, sym, ap, subst, _∙_}
 use mathlib.Core.Bool.{Bool, true, false, cond}
 use mathlib.Core.List.{List, [], _∷_, _++_}
 use mathlib.Core.Logic.{_≢_, _↔_}
@@ -13,7 +13,7 @@ use Rattle.chain.specs.Job.{Job, tasks, processors, Valid}
 use Rattle.chain.specs.Refusal.{Test, lengthTest, processorsTest, tasksTest, firstRefusal, jobTests, callTests, refusal}
 use Rattle.chain.proofs.Refusals.{Numbered, numbered-nil, numbered-cons, numbered-append, first-refusal-append, FirstFailing, failing-refused, refused-failing, job-accepted}
 use Rattle.jobs.specs.JobFile.{jobBytes}
-use Rattle.jobs.specs.Parse.{recordCount, multipleTest, recordsTests, speedsOf, weightsOf, jobIn, fileTests, fileRefusal}
+use Rattle.jobs.specs.Parse.{recordCount, multipleTest, speedsOf, weightsOf, jobIn, fileTests, fileRefusal}
 use Rattle.jobs.specs.Answers.{readNumber, readProcessors, readTasks, writtenNumber, writtenBytes, lentAfter, answerOf, readTests, readRefusal, readAnswer, readSpeeds, readWeights, bytesNeeded, writeInputs, writeRefusal, writeAnswer, writeBytes}
 use Rattle.jobs.specs.Inner.{Writes}
 use Rattle.jobs.specs.declared.JobRead.{JobRead}

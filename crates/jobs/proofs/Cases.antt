@@ -2,7 +2,7 @@
 -- Weight 1,000,001 gives 6. An empty file and 257 machines give 7. 2,049 tiles give 8. A 7-byte file gives 2." The long files are
 -- run by a program.
 -- Assumes nothing.
-use Prim.Native.Nat.{ℕ, suc}
+use Prim.Native.Nat.{ℕ}
 use mathlib.Core.Path.{_≡_, refl}
 use mathlib.Core.Bool.{Bool, true, _&&_}
 use mathlib.Core.List.{List, [], _∷_, _++_}

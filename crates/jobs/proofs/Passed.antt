@@ -12,7 +12,7 @@ use Rattle.chain.specs.Limits.{maxWeight, maxSpeed}
 use Rattle.chain.specs.Lists.{tabulate}
 use Rattle.chain.specs.Refusal.{firstRefusal}
 use Rattle.jobs.specs.JobFile.{processorKind, taskKind}
-use Rattle.jobs.specs.Parse.{recordCount, kindAt, valueAt, blank, recordTests, recordsTests, valuesOf}
+use Rattle.jobs.specs.Parse.{kindAt, valueAt, blank, recordTests, recordsTests, valuesOf}
 use Rattle.jobs.proofs.OneRecord.{not-blank, processor-late, processor-low, processor-high, task-high}
 use Rattle.jobs.proofs.AllRecords.{records-next, records-fewer, values-more, values-same, kind-cases}
 use Rattle.jobs.proofs.Copying.{tabulate-snoc}

@@ -1,14 +1,13 @@
 -- Records of a job file, in the order in which they are written.
 -- Assumes nothing.
-use Prim.Native.Nat.{ℕ, zero, suc, _+_, _*_, _/_, _%_, _≤_, _<_}
+use Prim.Native.Nat.{ℕ, suc, _+_, _*_, _/_, _%_, _≤_, _<_}
 use mathlib.Core.Path.{_≡_, refl, sym, ap, _∙_}
 use mathlib.Core.List.{List, [], _∷_, _++_, append-assoc, append-nil}
 use native.Mathlib.Omega.{arith}
 use native.Mathlib.Numerals.{add-one}
 use lib.ListN.{length, getD, take, drop, set, length-append, length-drop, take-append-drop}
-use lib.Seq.{take-at, drop-at, take-suc, take-length, length-take-le, drop-drop, drop-append-add, sets-eq}
-use Rattle.chain.specs.Job.{Job, tasks, processors}
-use Rattle.jobs.specs.JobFile.{processorKind, taskKind, fieldBytes, recordBytes, recordsBytes, jobBytes}
+use lib.Seq.{take-at, take-suc, take-length, length-take-le, drop-drop, drop-append-add, sets-eq}
+use Rattle.jobs.specs.JobFile.{fieldBytes, recordBytes, recordsBytes}
 
 -- Eight stores make a record.
 pub eight-stores : (l : List ℕ) (a kind v : ℕ) → a + 8 ≤ length l

@@ -1,28 +1,26 @@
 -- Job files both ways: an accepted file has the bytes of the job that it holds; a valid job's bytes are accepted and hold it; so
 -- the accepted files are exactly the job files.
 -- Assumes nothing.
-use Prim.Native.Nat.{ℕ, zero, suc, _+_, _*_, _/_, _%_, _≤_, _<_}
+use Prim.Native.Nat.{ℕ, zero, suc, _+_, _*_, _≤_, _<_}
 use mathlib.Core.Path.{_≡_, refl, sym, ap, ap₂, subst, _∙_}
-use mathlib.Core.Bool.{Bool, true, false, not, _&&_}
+use mathlib.Core.Bool.{Bool, true, false, _&&_}
 use mathlib.Core.List.{List, [], _∷_, _++_, append-assoc, append-nil}
-use mathlib.Core.Logic.{_≢_, _⊎_, inl, inr, _↔_}
+use mathlib.Core.Logic.{inl, inr, _↔_}
 use native.Mathlib.Omega.{arith}
-use native.Mathlib.Decide.{ℕ-discrete}
-use lib.Dec.{T, leb}
-use lib.ListN.{length, getD, take, drop, length-append}
+use lib.ListN.{length, getD, take}
 use lib.Seq.{take-suc, take-length, take-all}
 use borrow.Author.Tests.{le-leb}
 use Rattle.chain.specs.Limits.{maxWeight, maxSpeed, maxTasks, maxProcessors}
-use Rattle.chain.specs.Job.{Job, jobOf, tasks, processors, speedOf, Valid}
-use Rattle.chain.specs.Refusal.{between, eachBetween, processorsTest, tasksTest, firstRefusal, jobTests}
+use Rattle.chain.specs.Job.{Job, jobOf, speedOf, Valid}
+use Rattle.chain.specs.Refusal.{between, eachBetween, processorsTest, tasksTest, firstRefusal}
 use Rattle.chain.proofs.Refusals.{job-accepted}
 use Rattle.jobs.specs.JobFile.{processorKind, taskKind, recordBytes, recordsBytes, jobBytes, JobFile}
-use Rattle.jobs.specs.Parse.{recordCount, kindAt, valueAt, blank, recordTests, recordsTests, valuesOf, speedsOf, weightsOf, jobIn, fileRefusal}
+use Rattle.jobs.specs.Parse.{recordCount, kindAt, valueAt, recordTests, recordsTests, valuesOf, speedsOf, weightsOf, jobIn, fileRefusal}
 use Rattle.jobs.proofs.Limits.{speed-limit, weight-limit}
 use Rattle.jobs.proofs.Each.{between-in}
 use Rattle.jobs.proofs.Steps.{passes, passed-all}
 use Rattle.jobs.proofs.ByLists.{counts-decide}
-use Rattle.jobs.proofs.Records.{length-records, records-snoc}
+use Rattle.jobs.proofs.Records.{records-snoc}
 use Rattle.jobs.proofs.Writing.{length-bytes}
 use Rattle.jobs.proofs.OneRecord.{processor-passes, task-passes}
 use Rattle.jobs.proofs.AllRecords.{multiple-passes, records-next, records-fewer, values-more, values-same}

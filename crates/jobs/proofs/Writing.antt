@@ -3,14 +3,14 @@
 use Prim.Native.Nat.{ℕ, _+_, _*_, _≤_, _<_}
 use mathlib.Core.Path.{_≡_, refl, sym, ap, _∙_}
 use mathlib.Core.Bool.{Bool, cond}
-use mathlib.Core.List.{List, [], _∷_, _++_, append-assoc}
+use mathlib.Core.List.{List, [], _∷_, _++_}
 use mathlib.Core.Logic.{_≢_}
 use native.Mathlib.Omega.{arith}
 use lib.Dec.{eqb}
 use lib.ListN.{length, take, drop, length-append}
 use lib.Seq.{take-at, drop-drop, drop-append-add}
 use borrow.Author.Tests.{le-leb, lt-leb, ne-eqb}
-use Rattle.chain.specs.Job.{Job, jobOf, tasks, processors}
+use Rattle.chain.specs.Job.{Job, jobOf}
 use Rattle.chain.specs.Refusal.{lengthTest, firstRefusal, jobTests, callTests, refusal}
 use Rattle.jobs.specs.declared.JobWritten.{JobWritten}
 use Rattle.jobs.specs.JobFile.{processorKind, taskKind, recordsBytes, jobBytes}

@@ -1,6 +1,6 @@
 -- What prefix sums say of parts.
 -- Assumes nothing.
-use Prim.Native.Nat.{ℕ, zero, suc, _+_, _-_, _*_, _≤_, _<_, _^_}
+use Prim.Native.Nat.{ℕ, zero, suc, _+_, _-_, _≤_, _<_, _^_}
 use mathlib.Core.Path.{_≡_, refl, sym, ap, subst, _∙_}
 use mathlib.Core.List.{List, [], _∷_, _++_}
 use native.Mathlib.Omega.{arith}
@@ -8,16 +8,14 @@ use native.Mathlib.Numerals.{add-one}
 use lib.Dec.{lit<}
 use lib.ListN.{length, getD, set, length-append, length-set, drop}
 use lib.Seq.{getD-set-same, drop-set-lt}
-use Rattle.bound.specs.declared.Bound.{Bound}
-use Rattle.bound.specs.Order.{over}
 use Rattle.chain.specs.Lists.{tabulate}
-use Rattle.chain.specs.Job.{Job, Valid, tasks, processors, speedOf, partWeight, partLoad, partBound}
+use Rattle.chain.specs.Job.{Job, Valid, tasks, processors, speedOf, partWeight, partLoad}
 use Rattle.chain.proofs.Parts.{weight-split, weight-empty}
 use Rattle.chain.proofs.Indices.{length-tabulate, at-tabulate}
 use Rattle.chain.proofs.Extremes.{weight-one}
 use Rattle.chain.proofs.Ranges.{weight-limit, total-weight-limit, loads-fit}
-use Rattle.parts.specs.Prefix.{prefixes, Prefix, Ready}
-use Rattle.parts.proofs.Front.{Front, front-start, front-store, front-end}
+use Rattle.parts.specs.Prefix.{prefixes, Prefix}
+use Rattle.parts.proofs.Front.{Front, front-store, front-end}
 
 -- An entry of a list, whatever is read past the end.
 pub entry-is : (xs : List ℕ) (i d e : ℕ) → i < length xs → getD xs i d ≡ getD xs i e

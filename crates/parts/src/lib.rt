@@ -1,10 +1,10 @@
 // Prefix sums of the weights, and what is read off them: the bound of a part, and the last index whose sum is at most a cap.
 // All functions here are inner: their callers have tested the job.
-ghost use Prim.Native.Nat.{ℕ, suc, _+_, _≤_, _<_, _^_};
+ghost use Prim.Native.Nat.{suc, _+_, _≤_, _<_, _^_};
 ghost use mathlib.Core.Path.{_≡_};
 ghost use mathlib.Core.List.{_++_};
 ghost use lib.ListN.{length, getD, drop};
-ghost use Rattle.chain.specs.Job.{jobOf, Valid, Partition, partBound, bottleneck};
+ghost use Rattle.chain.specs.Job.{jobOf, Valid, partBound};
 ghost use Rattle.parts.specs.Prefix.{prefixes, Ready};
 ghost use Rattle.parts.specs.Search.{Rising, Within, LastAtMost};
 use bound::Bound;

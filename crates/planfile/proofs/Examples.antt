@@ -1,8 +1,7 @@
 -- Job A of document 01: its plan file, byte by byte, and the order of 9 and 11.
 -- Assumes nothing.
-use Prim.Native.Nat.{ℕ}
 use mathlib.Core.Path.{_≡_, refl}
-use mathlib.Core.List.{List, [], _∷_, _++_}
+use mathlib.Core.List.{[], _∷_, _++_}
 use Rattle.chain.specs.Limits.{maxTasks, maxWeight, maxProcessors, maxSpeed}
 use Rattle.chain.specs.Lists.{sum, all}
 use Rattle.chain.specs.Job.{Job, jobOf, speedOf, partWeight, partLoad}

@@ -5,7 +5,6 @@ use mathlib.Core.Path.{_≡_, sym, ap, _∙_}
 use mathlib.Core.List.{List}
 use native.Mathlib.Omega.{arith}
 use native.Mathlib.Nat.{le-trans, lt-of-le-of-lt}
-use lib.Dec.{lit<}
 use lib.ListN.{length, take, length-take}
 use lib.Seq.{getD-take}
 use Rattle.chain.specs.Lists.{sumTo}

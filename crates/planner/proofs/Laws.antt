@@ -2,26 +2,25 @@
 -- Assumes nothing.
 use Prim.Native.Nat.{ℕ, zero, suc, _+_, _-_, _*_, _≤_, _<_}
 use mathlib.Core.Path.{_≡_, refl, sym, ap, subst, _∙_}
-use mathlib.Core.Bool.{Bool, true, false, cond, _&&_}
+use mathlib.Core.Bool.{Bool, cond, _&&_}
 use mathlib.Core.List.{List, [], _∷_, _++_}
 use native.Mathlib.Omega.{arith}
 use lib.Dec.{leb}
 use borrow.Author.Tests.{le-leb, lt-leb}
-use lib.ListN.{length, take, drop, length-append, length-drop}
+use lib.ListN.{length, drop, length-append, length-drop}
 use lib.Seq.{drop-append-add, drop-drop}
 use Rattle.bound.specs.declared.Bound.{Bound}
 use Rattle.bound.specs.Order.{_≼_}
-use Rattle.chain.specs.Lists.{sum}
-use Rattle.chain.specs.Job.{Job, Valid, Partition, partWeight, tasks, processors, bottleneck, ideal, totalWeight}
+use Rattle.chain.specs.Job.{Job, Valid, partWeight, tasks, processors, bottleneck, ideal, totalWeight}
 use Rattle.chain.specs.Probe.{walk}
 use Rattle.chain.specs.Search.{bidding}
-use Rattle.chain.specs.Plan.{Method, MethodEnds, TableEnds, BiddingEnds, BisectionEnds, planOf, Best, PlanBy, allowance, imbalance}
+use Rattle.chain.specs.Plan.{Method, MethodEnds, BiddingEnds, BisectionEnds, planOf, PlanBy, allowance, imbalance}
 use Rattle.chain.specs.Refusal.{Test, between, methodTest, lengthTest, firstRefusal, jobTests, callTests, refusal}
 use Rattle.chain.proofs.Refusals.{first-refusal-append, first-refusal-before, job-numbered, job-accepted}
 use Rattle.chain.proofs.Indices.{length-tabulate}
 use Rattle.chain.proofs.Parts.{valid-proper, weight-all}
 use Rattle.chain.proofs.Ideal.{ideal-least}
-use Rattle.chain.proofs.Best.{Least, least-alike}
+use Rattle.chain.proofs.Best.{least-alike}
 use Rattle.chain.proofs.Demand.{least-bottleneck, method-least, method-allowed, plan-of-best}
 use Rattle.chain.proofs.Ranges.{Small, Lendable, small-lendable, ideal-lendable, next-bid-small, bottleneck-small}
 use Rattle.parts.specs.Prefix.{Ready, Prefix, prefixes}

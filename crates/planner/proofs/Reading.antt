@@ -2,14 +2,14 @@
 -- Assumes nothing.
 use Prim.Native.Nat.{ℕ, zero, suc, _+_, _-_, _*_, _≤_, _<_}
 use mathlib.Core.Path.{_≡_, refl, sym, ap, ap₂, subst, _∙_}
-use mathlib.Core.Bool.{Bool, true, false, cond, _&&_}
+use mathlib.Core.Bool.{Bool, cond, _&&_}
 use mathlib.Core.List.{List, [], _∷_, _++_}
 use native.Mathlib.Omega.{arith}
-use lib.Dec.{leb, eqb}
+use lib.Dec.{leb}
 use borrow.Author.Tests.{le-leb, lt-leb}
-use lib.ListN.{length, take, drop, length-append, length-drop}
+use lib.ListN.{length, take, drop, length-append}
 use Rattle.chain.specs.Limits.{maxProcessors, maxTasks}
-use Rattle.chain.specs.Job.{Job, jobOf, Valid, tasks, processors}
+use Rattle.chain.specs.Job.{Job, jobOf, Valid, processors}
 use Rattle.chain.specs.Plan.{planOf}
 use Rattle.chain.specs.Refusal.{Test, between, methodTest, lengthTest, firstRefusal}
 use Rattle.chain.proofs.Refusals.{first-refusal-append, first-refusal-before}

@@ -1,6 +1,6 @@
 -- What planning answers and leaves in the lent lists, refusals included. Document 01, "The three methods", "Who causes which
 -- number"; demand 3.
-use Prim.Native.Nat.{ℕ, zero, suc, _+_, _*_, _≤_, _<_}
+use Prim.Native.Nat.{ℕ, suc, _+_, _*_, _≤_, _<_}
 use mathlib.Core.Path.{_≡_}
 use mathlib.Core.List.{List, [], _∷_, _++_}
 use lib.ListN.{length, drop}

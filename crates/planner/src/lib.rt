@@ -1,8 +1,8 @@
 // Planning by table, bidding or bisection: every method ends at the least bottleneck, and one walk there writes the plan.
-ghost use Prim.Native.Nat.{ℕ, suc, _+_, _*_, _≤_, _<_};
+ghost use Prim.Native.Nat.{suc, _+_, _*_, _≤_, _<_};
 ghost use mathlib.Core.Path.{_≡_};
 ghost use mathlib.Core.List.{_++_};
-ghost use lib.ListN.{length, take, drop};
+ghost use lib.ListN.{length, drop};
 ghost use Rattle.chain.specs.Job.{jobOf, Valid};
 ghost use Rattle.chain.specs.Plan.{MethodEnds, PlanBy, planOf};
 ghost use Rattle.chain.proofs.Ranges.{Lendable};

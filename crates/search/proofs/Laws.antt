@@ -1,20 +1,18 @@
 -- What the loops of bidding and bisection keep.
 -- Assumes nothing.
-use Prim.Native.Nat.{ℕ, zero, suc, _+_, _-_, _*_, _≤_, _<_, _^_}
-use mathlib.Core.Path.{_≡_, refl, sym, ap, ap₂, subst, subst₂, _∙_}
+use Prim.Native.Nat.{ℕ, zero, suc, _+_, _-_, _*_, _<_, _^_}
+use mathlib.Core.Path.{_≡_, refl, sym, ap, ap₂, subst, _∙_}
 use mathlib.Core.Bool.{Bool, true, false, not, _&&_}
-use mathlib.Core.List.{List, _++_}
+use mathlib.Core.List.{List}
 use native.Mathlib.Omega.{arith}
 use native.Mathlib.Decide.{decLe}
 use native.Mathlib.Numerals.{add-one}
 use lib.Dec.{T}
-use lib.ListN.{length, take}
-use lib.Seq.{take-at}
 use Rattle.bound.specs.declared.Bound.{Bound}
-use Rattle.bound.specs.Order.{_≼_, _≺_, middle, le}
+use Rattle.bound.specs.Order.{middle, le}
 use Rattle.bound.proofs.Order.{le-true}
-use Rattle.chain.specs.Lists.{isFirst, digits}
-use Rattle.chain.specs.Job.{Job, Valid, Partition, tasks, processors, last, ideal, bottleneck}
+use Rattle.chain.specs.Lists.{digits}
+use Rattle.chain.specs.Job.{Job, Valid, tasks, last, ideal, bottleneck}
 use Rattle.chain.specs.Probe.{walk, fits, nextBid}
 use Rattle.chain.specs.Heuristic.{heuristic}
 use Rattle.chain.specs.Search.{Ends, bidding, firstEnds, narrow, ends, meet}
@@ -22,7 +20,7 @@ use Rattle.chain.specs.Plan.{BiddingEnds, BisectionEnds, at-once, after, differ
 use Rattle.chain.proofs.Parts.{valid-proper}
 use Rattle.chain.proofs.Indices.{first-of}
 use Rattle.chain.proofs.Bidding.{failures-below}
-use Rattle.chain.proofs.Bisection.{Bracket, bracket-after, low-high, rounds-below}
+use Rattle.chain.proofs.Bisection.{bracket-after, low-high, rounds-below}
 use Rattle.chain.proofs.Ranges.{Small, Lendable, small-lendable, ideal-lendable, bottleneck-small, next-bid-small}
 use Rattle.parts.proofs.Front.{Behind}
 use Rattle.figures.proofs.Laws.{count-fits, digits-fit}

@@ -2,7 +2,7 @@
 -- Assumes nothing.
 use Prim.Native.Nat.{ℕ, zero, suc, _+_, _*_, _^_, _≤_, _<_}
 use mathlib.Core.Path.{_≡_, refl, sym, ap, ap₂, subst, _∙_}
-use mathlib.Core.Bool.{Bool, false, not}
+use mathlib.Core.Bool.{false, not}
 use mathlib.Core.List.{List, _++_}
 use native.Mathlib.Omega.{arith}
 use native.Mathlib.Decide.{decLe}
@@ -19,12 +19,11 @@ use Rattle.chain.proofs.Bottleneck.{processors-last}
 use Rattle.chain.proofs.Walk.{separator-to, separator-grows, walk-at}
 use Rattle.chain.proofs.NextBid.{bid-before, next-above, next-real, separator-stays, least-stays}
 use Rattle.chain.proofs.Ranges.{Lendable, next-bid-small}
-use Rattle.probe.specs.declared.Point.{Point}
 use Rattle.probe.specs.Outcome.{Narrow}
 use Rattle.probe.specs.Walk.{none, leastBefore, Reached}
 use Rattle.probe.proofs.Answer.{written-at, written-length}
 use Rattle.probe.proofs.Bids.{narrow-products, small-narrow, lesser-narrow, none-narrow, least-turn}
-use Rattle.search.specs.Start.{Rejected, FailedWalk}
+use Rattle.search.specs.Start.{FailedWalk}
 
 -- What the scan keeps: the bids of the processors before p are above the next bid C.
 pub record Parted (job : Job) (B C : Bound) (p a : ℕ) (least : Bound) : Type 0 where

@@ -1,6 +1,6 @@
 // The listing of a job file: it comes on standard input, and its counts and the plan of each method go to standard output, or the
 // number that it is refused with. What is planned and refused is the library's; here is what is read and how it is written out.
-ghost use Prim.Native.Nat.{suc, _+_, _*_, _≤_};
+ghost use Prim.Native.Nat.{_+_, _*_, _≤_};
 ghost use mathlib.Core.Path.{_≡_};
 ghost use lib.ListN.{length};
 ghost use Rattle.io.specs.Counts.{Counts};

@@ -1,9 +1,9 @@
 -- `copy_front` meets its contract: the loop fills the front of the list.
 -- Assumes nothing.
-use Prim.Native.Nat.{ℕ, suc, _-_, _≤_}
+use Prim.Native.Nat.{_-_, _≤_}
 use mathlib.Core.Path.{refl}
 use native.Mathlib.Omega.{arith}
-use lib.ListN.{length, getD}
+use lib.ListN.{getD}
 use Rattle.parts.proofs.Front.{Front, front-start, front-next}
 use Rattle.calls.proofs.Laws.{copied}
 use Rattle.calls.proofs.copy_front.Statement.{statement}

@@ -1,7 +1,6 @@
 -- `heuristic_tested` meets its contract.
 -- Assumes nothing.
 use Prim.Native.Nat.{suc}
-use mathlib.Core.List.{List}
 use native.Mathlib.Omega.{arith}
 use lib.ListN.{length, drop}
 use Rattle.chain.specs.Job.{Job, jobOf}

@@ -1,7 +1,7 @@
 -- `value_at` meets its contract: it compares the two candidates, each by the greater of its two bounds.
 -- Assumes nothing.
 use borrow.Author.Needs.{needs}
-use Prim.Native.Nat.{ℕ, suc, _+_, _-_, _≤_}
+use Prim.Native.Nat.{suc, _-_, _≤_}
 use mathlib.Core.Path.{_≡_, sym, ap, _∙_}
 use native.Mathlib.Omega.{arith}
 use Rattle.chain.specs.Job.{Job, jobOf, partBound}

@@ -1,6 +1,6 @@
 -- `exported_probe` meets its contract: the number and the lent list are `probe`'s.
 -- Assumes nothing.
-use mathlib.Core.Path.{_≡_, _∙_, ap}
+use mathlib.Core.Path.{_∙_, ap}
 use Rattle.calls.specs.Answers.{probedNumber}
 use borrow.Author.Needs.{needs}
 use Rattle.exported.proofs.exported_probe.Statement.{statement}

@@ -1,6 +1,6 @@
 -- `exported_read_job` meets its contract: the number and the lists are `read_job`'s.
 -- Assumes nothing.
-use mathlib.Core.Path.{_≡_, _∙_, ap}
+use mathlib.Core.Path.{_∙_, ap}
 use Rattle.jobs.specs.Answers.{readNumber}
 use borrow.Author.Needs.{needs}
 use Rattle.exported.proofs.exported_read_job.Statement.{statement}

@@ -1,6 +1,6 @@
 -- `exported_write_job` meets its contract: the number and the lent list are `write_job`'s.
 -- Assumes nothing.
-use mathlib.Core.Path.{_≡_, _∙_, ap}
+use mathlib.Core.Path.{_∙_, ap}
 use Rattle.jobs.specs.Answers.{writtenNumber}
 use borrow.Author.Needs.{needs}
 use Rattle.exported.proofs.exported_write_job.Statement.{statement}

@@ -1,6 +1,6 @@
 -- `exported_write_plan` meets its contract: the number and the lent list are `write_plan`'s.
 -- Assumes nothing.
-use mathlib.Core.Path.{_≡_, _∙_, ap}
+use mathlib.Core.Path.{_∙_, ap}
 use Rattle.planfile.specs.Answers.{planWrittenNumber}
 use borrow.Author.Needs.{needs}
 use Rattle.exported.proofs.exported_write_plan.Statement.{statement}

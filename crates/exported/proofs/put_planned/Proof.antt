@@ -1,6 +1,6 @@
 -- `put_planned` meets its contract: the number of what the call answered.
 -- Assumes nothing.
-use mathlib.Core.Path.{_≡_, sym, ap}
+use mathlib.Core.Path.{sym, ap}
 use Rattle.planner.specs.Answers.{plannedNumber}
 use borrow.Author.Needs.{needs}
 use Rattle.exported.proofs.put_planned.Statement.{statement}

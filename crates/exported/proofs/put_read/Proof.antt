@@ -1,6 +1,6 @@
 -- `put_read` meets its contract: the number of what reading answered.
 -- Assumes nothing.
-use mathlib.Core.Path.{_≡_, sym, ap}
+use mathlib.Core.Path.{sym, ap}
 use Rattle.jobs.specs.Answers.{readNumber}
 use borrow.Author.Needs.{needs}
 use Rattle.exported.proofs.put_read.Statement.{statement}

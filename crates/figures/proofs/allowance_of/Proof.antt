@@ -1,7 +1,7 @@
 -- `allowance_of` meets its contract, method by method.
 -- Assumes nothing.
-use Prim.Native.Nat.{ℕ, _*_, _-_, _<_, _^_}
-use mathlib.Core.Path.{_≡_, subst, sym, ap, _∙_}
+use Prim.Native.Nat.{ℕ, _-_, _<_, _^_}
+use mathlib.Core.Path.{subst, sym}
 use native.Mathlib.Omega.{arith}
 use lib.Count.{leading-le}
 use Rattle.chain.specs.Job.{Job, jobOf}

@@ -1,8 +1,7 @@
 -- `difference_of` meets its contract.
 -- Assumes nothing.
 use Prim.Native.Nat.{ℕ, _*_, _/_, _<_, _^_}
-use mathlib.Core.Path.{_≡_, subst, sym, ap, ap₂, _∙_}
-use native.Mathlib.Omega.{arith}
+use mathlib.Core.Path.{_≡_, subst, sym, ap₂, _∙_}
 use Rattle.chain.specs.Job.{Job, jobOf, heaviest, fastest, slowest}
 use Rattle.chain.specs.Plan.{difference}
 use Rattle.chain.proofs.Parts.{valid-proper}

@@ -1,7 +1,6 @@
 -- `first_level` meets its contract: prefix sums grow, so the one before b decides for all before it, and the last that is less
 -- stands before the first that is not.
 -- Assumes nothing.
-use mathlib.Core.Path.{refl}
 use mathlib.Core.Logic.{inl, inr}
 use native.Mathlib.Omega.{arith}
 use borrow.Author.Needs.{needs}

@@ -1,6 +1,6 @@
 -- `put_records` meets its contract: after j turns the first j records stand in the file.
 -- Assumes nothing.
-use Prim.Native.Nat.{_+_, _-_}
+use Prim.Native.Nat.{_-_}
 use native.Mathlib.Omega.{arith}
 use lib.ListN.{length}
 use Rattle.jobs.proofs.Records.{Putting, putting-none, putting-next, putting-all}

@@ -1,10 +1,8 @@
 -- `test_records` meets its contract: as long as the loop goes on, the records passed are accepted and counted.
 -- Assumes nothing.
 use Prim.Native.Nat.{_-_}
-use mathlib.Core.Path.{_∙_}
 use mathlib.Core.Logic.{⊎-elim}
 use native.Mathlib.Omega.{arith}
-use Rattle.jobs.specs.Parse.{recordCount}
 use Rattle.jobs.proofs.AllRecords.{Tested, tested-none, tested-processor, tested-task, multiple-fails, answer-refused, tested-refused, tested-all}
 use Rattle.jobs.proofs.test_records.Statement.{statement}
 use Rattle.jobs.proofs.test_records.Tie as tie

@@ -1,7 +1,7 @@
 -- `fill` ends: its counter rises to `to`.
 -- Assumes nothing.
 use Prim.Native.Nat.{_-_}
-use mathlib.Core.Path.{_≡_, refl, _∙_}
+use mathlib.Core.Path.{_≡_, refl}
 use native.Mathlib.Omega.{arith}
 use lib.ListN.{length}
 use Rattle.jobs_run.proofs.fill.Statement.{statement}

@@ -1,10 +1,9 @@
 -- `prefix_sums` meets its contract: the loop keeps `Summed`.
 -- Assumes nothing.
-use Prim.Native.Nat.{ℕ, _-_, _<_}
-use mathlib.Core.Path.{_≡_}
+use Prim.Native.Nat.{_-_, _<_}
 use native.Mathlib.Omega.{arith}
 use lib.ListN.{length, length-set}
-use Rattle.chain.specs.Job.{Job, jobOf}
+use Rattle.chain.specs.Job.{jobOf}
 use Rattle.parts.proofs.Laws.{Summed, summed-start, summed-fits, summed-turn, summed-end}
 use Rattle.parts.proofs.prefix_sums.Statement.{statement}
 use Rattle.parts.proofs.prefix_sums.Tie as tie

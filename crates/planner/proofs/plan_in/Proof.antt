@@ -1,9 +1,6 @@
 -- `plan_in` meets its contract: prefix sums, the method, the closing walk.
 -- Assumes nothing.
-use Prim.Native.Nat.{ℕ, suc}
-use mathlib.Core.Path.{_≡_, sym, ap, _∙_}
 use native.Mathlib.Omega.{arith}
-use lib.ListN.{length, drop}
 use Rattle.chain.specs.Job.{Job, jobOf}
 use Rattle.chain.specs.Plan.{planOf}
 use Rattle.parts.proofs.Front.{behind-is}

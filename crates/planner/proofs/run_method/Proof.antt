@@ -1,10 +1,9 @@
 -- `run_method` meets its contract, method by method.
 -- Assumes nothing.
 use Prim.Native.Nat.{suc}
-use mathlib.Core.Path.{_≡_, sym}
 use native.Mathlib.Omega.{arith}
 use lib.ListN.{length}
-use Rattle.chain.specs.Job.{Job, jobOf, tasks}
+use Rattle.chain.specs.Job.{Job, jobOf}
 use Rattle.chain.specs.Probe.{walk}
 use Rattle.chain.proofs.Ranges.{small-lendable}
 use Rattle.parts.proofs.Front.{behind-start, behind-written}

@@ -1,11 +1,11 @@
 -- `bidding_in` meets its contract: the loop keeps `Bidden`.
 -- Assumes nothing.
-use Prim.Native.Nat.{ℕ, suc, _-_, _*_, _<_}
-use mathlib.Core.Path.{_≡_, sym, _∙_}
+use Prim.Native.Nat.{suc, _-_, _*_}
+use mathlib.Core.Path.{sym, _∙_}
 use native.Mathlib.Omega.{arith}
 use borrow.Author.Needs.{needs}
 use lib.ListN.{length}
-use Rattle.chain.specs.Job.{Job, jobOf, tasks, last}
+use Rattle.chain.specs.Job.{Job, jobOf, last}
 use Rattle.chain.specs.Probe.{walk}
 use Rattle.parts.proofs.Front.{Behind, behind-start, behind-written, behind-is}
 use Rattle.probe.specs.Walk.{Reached}

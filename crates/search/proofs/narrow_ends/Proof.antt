@@ -1,9 +1,8 @@
 -- `narrow_ends` meets its contract, by what the trial at the middle answers.
 -- Assumes nothing.
 use Prim.Native.Nat.{ℕ, suc}
-use mathlib.Core.Path.{_≡_, subst, sym, ap, _∙_}
+use mathlib.Core.Path.{subst, sym, _∙_}
 use mathlib.Core.List.{List}
-use native.Mathlib.Omega.{arith}
 use lib.ListN.{length, drop}
 use Rattle.bound.specs.declared.Bound.{Bound}
 use Rattle.chain.specs.Job.{Job, jobOf}

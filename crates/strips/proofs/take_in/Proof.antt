@@ -1,6 +1,6 @@
 -- `take_in` meets its contract: what has come lies within the buffer, and each turn leaves less room.
 -- Assumes nothing.
-use Prim.Native.Nat.{_+_, _-_, _≤_}
+use Prim.Native.Nat.{_-_, _≤_}
 use mathlib.Core.Path.{_≡_}
 use native.Mathlib.Omega.{arith}
 use lib.ListN.{length}

@@ -1,9 +1,9 @@
 -- `total_weight` meets its contract: the loop keeps `Total`, and each turn adds a number of 32 bits.
 -- Assumes nothing.
 use Prim.Native.Nat.{ℕ, _+_, _*_, _-_, _≤_}
-use mathlib.Core.Path.{_≡_, sym, subst}
+use mathlib.Core.Path.{sym, subst}
 use native.Mathlib.Omega.{arith}
-use lib.ListN.{length, getD}
+use lib.ListN.{length}
 use Rattle.chain.specs.Limits.{maxTasks}
 use Rattle.figures.proofs.Laws.{Total, total-start, total-next, total-end}
 use Rattle.strips.proofs.total_weight.Statement.{statement}

@@ -1,12 +1,12 @@
 -- `plan_job` meets its contract: the method, the file, the buffer, the plan.
 -- Assumes nothing.
-use mathlib.Core.Path.{_≡_, sym, _∙_}
+use mathlib.Core.Path.{sym, _∙_}
 use native.Mathlib.Omega.{arith}
-use Prim.Native.Nat.{ℕ, zero}
+use Prim.Native.Nat.{zero}
 use lib.ListN.{length, replicate, length-replicate}
 use lib.Seq.{length-take-le}
 use Rattle.jobs.proofs.Limits.{processors-limit, tasks-limit}
-use Rattle.planner.proofs.Reading.{host-few, host-many, host-file, host-stays, Taken, read-taken, read-rejected, taken-valid, host-done}
+use Rattle.planner.proofs.Reading.{host-few, host-many, host-file, host-stays, read-taken, read-rejected, taken-valid, host-done}
 use borrow.Author.Needs.{needs}
 use Rattle.planner.proofs.host.plan_job.Statement.{statement}
 use Rattle.planner.proofs.host.plan_job.Tie as tie

@@ -1,6 +1,5 @@
 -- `write_best` meets its contract: the plan, then its bytes.
 -- Assumes nothing.
-use native.Mathlib.Omega.{arith}
 use Rattle.chain.specs.Job.{Job, jobOf}
 use Rattle.chain.specs.Plan.{planOf}
 use Rattle.parts.proofs.Front.{front-partition}
