@@ -10,6 +10,7 @@ fn main() {
         panic!("no archive at {}", archive.display());
     }
     let placement = std::env::var("PLACEMENT").map_or(0, |text| text.parse().expect("PLACEMENT"));
+    println!("cargo:rustc-env=PLACE={placement}");
     println!("cargo:rustc-env=PADDING={}", 16 * placement);
     println!("cargo:rerun-if-env-changed=PLACEMENT");
     println!("cargo:rerun-if-changed=build.rs");

@@ -10,6 +10,9 @@ pub const FASTEST: [u32; 3] = [1, 4, 16];
 pub const PROCESSORS: [usize; 3] = [256, 64, 16];
 /// The shape of the figures in microseconds, N/P = 16.
 pub const SINGLE: usize = 128;
+/// The place of the code of this build, of so many (see build.rs).
+const PLACEMENT: &str = env!("PLACE");
+pub const PLACEMENTS: [&str; 4] = ["0", "1", "2", "3"];
 pub const GROWTH_TASKS: [usize; 4] = [256, 512, 1024, 2048];
 pub const GROWTH_PROCESSORS: [usize; 5] = [16, 32, 64, 128, 256];
 
@@ -65,6 +68,7 @@ fn measure(shape: Shape) {
         }
         let sums: Vec<f64> = times.iter().map(|times| times.iter().sum()).collect();
         records::write("ratio", contest.sides[1].0, shape, &[sums[0] / sums[1]]);
+        records::write(&records::placed(PLACEMENT), contest.sides[1].0, shape, &[sums[0] / sums[1]]);
         let fact = |name: &str, values: Vec<f64>| {
             records::write("fact", &format!("{} {name}", contest.name), shape, &values);
         };

@@ -2,9 +2,14 @@
 use crate::jobs::{Family, Shape};
 use std::collections::HashMap;
 
-/// What a record is about: its kind (`time` in nanoseconds, `ratio` of times, `count` of instructions, `fact`), its name and its
-/// shape.
+/// What a record is about: its kind (`time` in nanoseconds, `ratio` of times, the same ratio by the place of the code, `count` of
+/// instructions, `fact`), its name and its shape.
 type Key = (String, String, Shape);
+
+/// The kind of a ratio of times in this place of the code.
+pub fn placed(placement: &str) -> String {
+    format!("ratio in place {placement}")
+}
 
 pub fn write(kind: &str, name: &str, shape: Shape, values: &[f64]) {
     let values: Vec<String> = values.iter().map(|value| value.to_string()).collect();
@@ -28,7 +33,7 @@ impl Records {
             let text = std::fs::read_to_string(file).expect("a file of records");
             for line in text.lines() {
                 let (key, values) = parse(line).unwrap_or_else(|| panic!("no record: {line}"));
-                if key.0 == "ratio" {
+                if key.0.starts_with("ratio") {
                     records.entry(key).or_default().extend(values);
                     continue;
                 }
@@ -41,7 +46,7 @@ impl Records {
         Records(records)
     }
 
-    fn values(&self, kind: &str, name: &str, shape: Shape) -> &[f64] {
+    pub fn values(&self, kind: &str, name: &str, shape: Shape) -> &[f64] {
         let key = (kind.to_string(), name.to_string(), shape);
         self.0.get(&key).unwrap_or_else(|| panic!("no record of {key:?}"))
     }

@@ -1,7 +1,7 @@
 //! The tables of docs/BENCHMARKS.md, from the records of a run.
 use crate::jobs::{Family, Shape};
-use crate::measure::{growth, FASTEST, GROWTH_PROCESSORS, GROWTH_TASKS, PROCESSORS, SINGLE, TASKS};
-use crate::records::Records;
+use crate::measure::{growth, FASTEST, GROWTH_PROCESSORS, GROWTH_TASKS, PLACEMENTS, PROCESSORS, SINGLE, TASKS};
+use crate::records::{self, Records};
 
 /// A table of ratios: its title and the two sides.
 const RATIOS: [(&str, &str, &str); 6] = [
@@ -95,6 +95,19 @@ fn ratios(records: &Records) {
     }
 }
 
+/// The 27 shapes of the ratios.
+fn all_shapes() -> impl Iterator<Item = Shape> {
+    PROCESSORS.into_iter().flat_map(rows)
+}
+
+fn geometric_mean(values: &[f64]) -> f64 {
+    (values.iter().map(|value| value.ln()).sum::<f64>() / values.len() as f64).exp()
+}
+
+fn greatest(values: &[f64]) -> f64 {
+    values.iter().copied().fold(f64::MIN, f64::max)
+}
+
 /// The geometric mean and the greatest of all ratios of each table.
 fn summary(records: &Records) {
     println!("## In short\n");
@@ -103,18 +116,41 @@ fn summary(records: &Records) {
     for (title, planner, plain) in RATIOS {
         let mut cells = vec![title.to_string()];
         for kind in KINDS {
-            let mut logs = Vec::new();
-            for processors in PROCESSORS {
-                for shape in rows(processors) {
-                    logs.push(ratio(records, kind, planner, plain, shape).ln());
-                }
-            }
-            cells.push(format!("{:.2}", (logs.iter().sum::<f64>() / logs.len() as f64).exp()));
-            cells.push(format!("{:.2}", logs.iter().copied().fold(f64::MIN, f64::max).exp()));
+            let all: Vec<f64> = all_shapes().map(|shape| ratio(records, kind, planner, plain, shape)).collect();
+            cells.push(format!("{:.2}", geometric_mean(&all)));
+            cells.push(format!("{:.2}", greatest(&all)));
         }
         row(&cells);
     }
     println!("\nThe mean is the geometric one.\n");
+}
+
+/// Each ratio in other ways than the median of the passes: by place, by pass, and of the least times of all passes.
+fn passes(records: &Records) {
+    println!("## Every pass, and every place of the code\n");
+    println!("The same ratios of times over the 27 shapes, taken in other ways: the mean in each of the four places of the code; the");
+    println!("greatest of all single passes, and how many are above 1.2; and the ratio of the least times that each side had anywhere.\n");
+    let mut columns = vec![String::new()];
+    columns.extend(PLACEMENTS.map(|place| format!("place {place}")));
+    columns.extend(texts(&["passes", "greatest pass", "above 1.2", "least times: mean", "greatest"]));
+    head(&columns);
+    for (title, planner, plain) in RATIOS {
+        let mut cells = vec![title.to_string()];
+        let gather = |kind: &str| -> Vec<f64> {
+            all_shapes().flat_map(|shape| records.values(kind, plain, shape).to_vec()).collect()
+        };
+        cells.extend(PLACEMENTS.map(|place| format!("{:.2}", geometric_mean(&gather(&records::placed(place))))));
+        let all = gather("ratio");
+        cells.push(all.len().to_string());
+        cells.push(format!("{:.2}", greatest(&all)));
+        cells.push(all.iter().filter(|&&value| value > 1.2).count().to_string());
+        let time = |side: &str, shape: Shape| records.get("time", side, shape);
+        let least: Vec<f64> = all_shapes().map(|shape| time(planner, shape) / time(plain, shape)).collect();
+        cells.push(format!("{:.2}", geometric_mean(&least)));
+        cells.push(format!("{:.2}", greatest(&least)));
+        row(&cells);
+    }
+    println!();
 }
 
 fn single(records: &Records) {
@@ -207,6 +243,7 @@ fn growth_table(records: &Records, shapes: &[Shape]) {
 pub fn print(files: &[String]) {
     let records = Records::read(files);
     summary(&records);
+    passes(&records);
     single(&records);
     ratios(&records);
     counts(&records);
