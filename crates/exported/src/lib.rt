@@ -4,12 +4,13 @@
 ghost use mathlib.Core.Path.{_≡_};
 ghost use Rattle.chain.specs.Job.{jobOf};
 ghost use Rattle.chain.specs.Refusal.{firstRefusal, jobTests};
-ghost use lib.ListN.{length};
+ghost use lib.ListN.{length, set};
 ghost use Rattle.jobs.specs.Answers.{readNumber, readAnswer, readSpeeds, readWeights, writtenNumber, writeAnswer, writeBytes};
 ghost use Rattle.calls.specs.Answers.{measuredNumber, measureAnswer, heuristicAnswer, heuristicWrites, probedNumber, probeAnswer, probeWrites};
 ghost use Rattle.planfile.specs.Answers.{planWrittenNumber, writePlanAnswer, writePlanBytes};
 ghost use Rattle.planner.specs.Answers.{plannedNumber, PlanAnswer};
 ghost use Rattle.planner.specs.declared.Planned.{Planned};
+ghost use Rattle.exported.specs.Answer.{boundPut, readPut, writtenPut, measuredPut, probedPut, plannedPut, planWrittenPut};
 use bound::Bound;
 use calls::Measured;
 use calls::Probed;
@@ -28,21 +29,26 @@ use planner::Planned;
 use planner::plan;
 
 // Inner. Writes an entry if the list is long enough.
-fn put(answer: &mut [u64], i: usize, value: u64) {
+fn put(answer: &mut [u64], i: usize, value: u64)
+    ensures { λ _. ⌜ now (answer .exit) ≡ set (now (answer .entry)) i value ⌝ }
+{
     if i < answer.len() {
         answer[i] = value;
     }
 }
 
 // Inner. A bound's load at entry i, its speed at entry j.
-fn put_bound(answer: &mut [u64], i: usize, j: usize, bound: Bound) {
+fn put_bound(answer: &mut [u64], i: usize, j: usize, bound: Bound)
+    ensures { λ _. ⌜ now (answer .exit) ≡ boundPut (now (answer .entry)) i j bound ⌝ }
+{
     put(answer, i, bound.load);
     put(answer, j, bound.speed);
 }
 
 // Inner. What reading answers.
 fn put_read(answer: &mut [u64], read: JobRead) -> u32
-    ensures { λ r. ⌜ r ≡ readNumber read ⌝ }
+    ensures number { λ r. ⌜ r ≡ readNumber read ⌝ }
+    ensures answer { λ _. ⌜ now (answer .exit) ≡ readPut read (now (answer .entry)) ⌝ }
 {
     match read {
         JobRead::Refused(number) => number,
@@ -56,7 +62,8 @@ fn put_read(answer: &mut [u64], read: JobRead) -> u32
 
 // Inner. What writing a job answers.
 fn put_written(answer: &mut [u64], written: JobWritten) -> u32
-    ensures { λ r. ⌜ r ≡ writtenNumber written ⌝ }
+    ensures number { λ r. ⌜ r ≡ writtenNumber written ⌝ }
+    ensures answer { λ _. ⌜ now (answer .exit) ≡ writtenPut written (now (answer .entry)) ⌝ }
 {
     match written {
         JobWritten::Refused(number) => number,
@@ -69,7 +76,8 @@ fn put_written(answer: &mut [u64], written: JobWritten) -> u32
 
 // Inner. What a probe answers.
 fn put_probed(answer: &mut [u64], probed: Probed) -> u32
-    ensures { λ r. ⌜ r ≡ probedNumber probed ⌝ }
+    ensures number { λ r. ⌜ r ≡ probedNumber probed ⌝ }
+    ensures answer { λ _. ⌜ now (answer .exit) ≡ probedPut probed (now (answer .entry)) ⌝ }
 {
     match probed {
         Probed::Refused(number) => number,
@@ -87,7 +95,8 @@ fn put_probed(answer: &mut [u64], probed: Probed) -> u32
 
 // Inner. What writing a plan answers.
 fn put_plan_written(answer: &mut [u64], written: PlanWritten) -> u32
-    ensures { λ r. ⌜ r ≡ planWrittenNumber written ⌝ }
+    ensures number { λ r. ⌜ r ≡ planWrittenNumber written ⌝ }
+    ensures answer { λ _. ⌜ now (answer .exit) ≡ planWrittenPut written (now (answer .entry)) ⌝ }
 {
     match written {
         PlanWritten::Refused(number) => number,
@@ -100,7 +109,8 @@ fn put_plan_written(answer: &mut [u64], written: PlanWritten) -> u32
 
 // Inner. What planning answers.
 fn put_planned(answer: &mut [u64], planned: Planned) -> u32
-    ensures { λ r. ⌜ r ≡ plannedNumber planned ⌝ }
+    ensures number { λ r. ⌜ r ≡ plannedNumber planned ⌝ }
+    ensures answer { λ _. ⌜ now (answer .exit) ≡ plannedPut planned (now (answer .entry)) ⌝ }
 {
     match planned {
         Planned::Refused(number) => number,
@@ -116,7 +126,8 @@ fn put_planned(answer: &mut [u64], planned: Planned) -> u32
 
 // Inner. What measuring and the heuristic answer.
 fn put_measured(answer: &mut [u64], measured: Measured) -> u32
-    ensures { λ r. ⌜ r ≡ measuredNumber measured ⌝ }
+    ensures number { λ r. ⌜ r ≡ measuredNumber measured ⌝ }
+    ensures answer { λ _. ⌜ now (answer .exit) ≡ measuredPut measured (now (answer .entry)) ⌝ }
 {
     match measured {
         Measured::Refused(number) => number,
@@ -145,6 +156,7 @@ pub extern "C" fn exported_read_job(
     ensures number { λ r. ⌜ r ≡ readNumber (readAnswer (now (file .entry)) (length (now (speeds .entry))) (length (now (weights .entry)))) ⌝ }
     ensures speeds { λ _. ⌜ now (speeds .exit) ≡ readSpeeds (now (file .entry)) (now (speeds .entry)) (now (weights .entry)) ⌝ }
     ensures weights { λ _. ⌜ now (weights .exit) ≡ readWeights (now (file .entry)) (now (speeds .entry)) (now (weights .entry)) ⌝ }
+    ensures answer { λ _. ⌜ now (answer .exit) ≡ readPut (readAnswer (now (file .entry)) (length (now (speeds .entry))) (length (now (weights .entry)))) (now (answer .entry)) ⌝ }
 {
     let read = read_job(file, speeds, weights);
     put_read(answer, read)
@@ -160,6 +172,7 @@ pub extern "C" fn exported_write_job(
 ) -> u32
     ensures number { λ r. ⌜ r ≡ writtenNumber (writeAnswer (jobOf (now (weights .entry)) (now (speeds .entry))) (length (now (file .entry)))) ⌝ }
     ensures bytes { λ _. ⌜ now (file .exit) ≡ writeBytes (jobOf (now (weights .entry)) (now (speeds .entry))) (now (file .entry)) ⌝ }
+    ensures answer { λ _. ⌜ now (answer .exit) ≡ writtenPut (writeAnswer (jobOf (now (weights .entry)) (now (speeds .entry))) (length (now (file .entry)))) (now (answer .entry)) ⌝ }
 {
     let written = write_job(speeds, weights, file);
     put_written(answer, written)
@@ -173,7 +186,8 @@ pub extern "C" fn exported_measure(
     separators: &[u32],
     answer: &mut [u64],
 ) -> u32
-    ensures { λ r. ⌜ r ≡ measuredNumber (measureAnswer (jobOf (now (weights .entry)) (now (speeds .entry))) (now (separators .entry))) ⌝ }
+    ensures number { λ r. ⌜ r ≡ measuredNumber (measureAnswer (jobOf (now (weights .entry)) (now (speeds .entry))) (now (separators .entry))) ⌝ }
+    ensures answer { λ _. ⌜ now (answer .exit) ≡ measuredPut (measureAnswer (jobOf (now (weights .entry)) (now (speeds .entry))) (now (separators .entry))) (now (answer .entry)) ⌝ }
 {
     let measured = measure(speeds, weights, separators);
     put_measured(answer, measured)
@@ -191,6 +205,7 @@ pub extern "C" fn exported_probe(
 ) -> u32
     ensures number { λ r. ⌜ r ≡ probedNumber (probeAnswer (jobOf (now (weights .entry)) (now (speeds .entry))) (record { load = load; speed = speed }) (now (separators .entry))) ⌝ }
     ensures separators { λ _. ⌜ now (separators .exit) ≡ probeWrites (jobOf (now (weights .entry)) (now (speeds .entry))) (record { load = load; speed = speed }) (now (separators .entry)) ⌝ }
+    ensures answer { λ _. ⌜ now (answer .exit) ≡ probedPut (probeAnswer (jobOf (now (weights .entry)) (now (speeds .entry))) (record { load = load; speed = speed }) (now (separators .entry))) (now (answer .entry)) ⌝ }
 {
     let probed = probe(speeds, weights, Bound { load, speed }, separators);
     put_probed(answer, probed)
@@ -206,6 +221,7 @@ pub extern "C" fn exported_heuristic(
 ) -> u32
     ensures number { λ r. ⌜ r ≡ measuredNumber (heuristicAnswer (jobOf (now (weights .entry)) (now (speeds .entry))) (now (separators .entry))) ⌝ }
     ensures separators { λ _. ⌜ now (separators .exit) ≡ heuristicWrites (jobOf (now (weights .entry)) (now (speeds .entry))) (now (separators .entry)) ⌝ }
+    ensures answer { λ _. ⌜ now (answer .exit) ≡ measuredPut (heuristicAnswer (jobOf (now (weights .entry)) (now (speeds .entry))) (now (separators .entry))) (now (answer .entry)) ⌝ }
 {
     let measured = heuristic(speeds, weights, separators);
     put_measured(answer, measured)
@@ -221,7 +237,7 @@ pub extern "C" fn exported_plan(
     scratch: &mut [u32],
     answer: &mut [u64],
 ) -> u32
-    ensures { λ r. ⌜ ((a : Planned) × ((r ≡ plannedNumber a) × PlanAnswer (jobOf (now (weights .entry)) (now (speeds .entry))) method (now (separators .entry)) (now (scratch .entry)) (now (separators .exit)) (now (scratch .exit)) a)) ⌝ }
+    ensures { λ r. ⌜ ((a : Planned) × ((r ≡ plannedNumber a) × (now (answer .exit) ≡ plannedPut a (now (answer .entry))) × PlanAnswer (jobOf (now (weights .entry)) (now (speeds .entry))) method (now (separators .entry)) (now (scratch .entry)) (now (separators .exit)) (now (scratch .exit)) a)) ⌝ }
 {
     let planned = plan(method, speeds, weights, separators, scratch);
     put_planned(answer, planned)
@@ -238,6 +254,7 @@ pub extern "C" fn exported_write_plan(
 ) -> u32
     ensures number { λ r. ⌜ r ≡ planWrittenNumber (writePlanAnswer (jobOf (now (weights .entry)) (now (speeds .entry))) (now (separators .entry)) (length (now (plan .entry)))) ⌝ }
     ensures bytes { λ _. ⌜ now (plan .exit) ≡ writePlanBytes (jobOf (now (weights .entry)) (now (speeds .entry))) (now (separators .entry)) (now (plan .entry)) ⌝ }
+    ensures answer { λ _. ⌜ now (answer .exit) ≡ planWrittenPut (writePlanAnswer (jobOf (now (weights .entry)) (now (speeds .entry))) (now (separators .entry)) (length (now (plan .entry)))) (now (answer .entry)) ⌝ }
 {
     let written = write_plan(speeds, weights, separators, plan);
     put_plan_written(answer, written)

@@ -1,30 +1,28 @@
--- `exported_measure` meets its contract: the number is `measure`'s.
+-- `exported_measure` meets its contract: number and figures are those of `measure`.
 -- Assumes nothing.
-use mathlib.Core.Path.{_∙_, ap}
+use mathlib.Core.Path.{ap, _∙_}
+use Rattle.calls.specs.declared.Measured.{Measured}
 use Rattle.calls.specs.Answers.{measuredNumber}
+use Rattle.exported.specs.Answer.{measuredPut}
 use borrow.Author.Needs.{needs}
 use Rattle.exported.proofs.exported_measure.Statement.{statement}
 use Rattle.exported.proofs.exported_measure.Tie as tie
-use Rattle.exported.proofs.exported_measure.Reads as reads
-use Rattle.exported.proofs.exported_measure.Lts as lts
-use Rattle.calls.proofs.measure.Reads as measure-reads
-use Rattle.exported.proofs.put_measured.Reads as put-measured-reads
 
--- src/lib.rt:178:9
 measure-requires : tie.Need-measure-requires
 measure-requires c κs = search needs
 
--- src/lib.rt:179:5
 put-measured-requires : tie.Need-put-measured-requires
 put-measured-requires c κs = search needs
 
--- src/lib.rt:169:1
 same-length : tie.Need-same-length
 same-length c = search needs
 
--- src/lib.rt:169:1
 returns : tie.Need-returns
-returns c = c .before .before .put-measured .ensures ∙ ap measuredNumber (c .before .before .before .before .measure .ensures)
+returns c =
+    let a = c .before .before .before .before .before .before .before .before .before .args in
+    let r = c .before .before .before .before .measure .ensures in
+    let p = c .before .before .put-measured .ensures in
+    (p .0 ∙ ap measuredNumber r, p .1 ∙ ap (λ (w : Measured). measuredPut w (a .answer .now)) r)
 
 pub exported-measure-spec : {M : Type 1} → statement M
 exported-measure-spec =

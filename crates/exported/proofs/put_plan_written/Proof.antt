@@ -1,39 +1,38 @@
--- `put_plan_written` meets its contract: the number of what the call answered.
+-- `put_plan_written` meets its contract: the number and the figures of the answer.
 -- Assumes nothing.
-use mathlib.Core.Path.{sym, ap}
+use mathlib.Core.Path.{sym, ap, _∙_}
+use Rattle.planfile.specs.declared.PlanWritten.{PlanWritten}
 use Rattle.planfile.specs.Answers.{planWrittenNumber}
+use Rattle.exported.specs.Answer.{planWrittenPut}
 use borrow.Author.Needs.{needs}
 use Rattle.exported.proofs.put_plan_written.Statement.{statement}
 use Rattle.exported.proofs.put_plan_written.Tie as tie
-use Rattle.exported.proofs.put_plan_written.Reads as reads
-use Rattle.exported.proofs.put_plan_written.Lts as lts
-use Rattle.exported.proofs.put.Reads as put-reads
 
--- src/lib.rt:93:30
 enum-known-written : tie.Need-enum-known-written
 enum-known-written c = search needs
 
--- src/lib.rt:94:30
 enum-known-written-2 : tie.Need-enum-known-written-2
 enum-known-written-2 c = search needs
 
--- src/lib.rt:95:13
 put-requires : tie.Need-put-requires
 put-requires c κs = search needs
 
--- src/lib.rt:89:1
 returns : tie.Need-returns
 unfolding planWrittenNumber
-returns c = sym (ap planWrittenNumber (c .before .written .given .1))
+returns c =
+    let a = c .before .before .before .before .args in
+    let g = c .before .written .given .1 in
+    (sym (ap planWrittenNumber g), sym (ap (λ (w : PlanWritten). planWrittenPut w (a .answer .now)) g))
 
--- src/lib.rt:89:1
 same-length : tie.Need-same-length
 same-length c = search needs
 
--- src/lib.rt:89:1
 returns-2 : tie.Need-returns-2
 unfolding planWrittenNumber
-returns-2 c = sym (ap planWrittenNumber (c .before .before .before .before .before .written2 .given .1))
+returns-2 c =
+    let a = c .before .before .before .before .before .before .before .before .args in
+    let g = c .before .before .before .before .before .written2 .given .1 in
+    (sym (ap planWrittenNumber g), c .before .before .put .ensures ∙ sym (ap (λ (w : PlanWritten). planWrittenPut w (a .answer .now)) g))
 
 pub put-plan-written-spec : {M : Type 1} → statement M
 put-plan-written-spec =

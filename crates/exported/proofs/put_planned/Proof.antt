@@ -1,59 +1,57 @@
--- `put_planned` meets its contract: the number of what the call answered.
+-- `put_planned` meets its contract: the number and the figures of the answer.
 -- Assumes nothing.
-use mathlib.Core.Path.{sym, ap}
+use Prim.Native.Nat.{ℕ}
+use mathlib.Core.Path.{sym, ap, ap₂, _∙_}
+use mathlib.Core.List.{List}
+use lib.ListN.{set}
+use Rattle.planner.specs.declared.Planned.{Planned}
 use Rattle.planner.specs.Answers.{plannedNumber}
+use Rattle.exported.specs.Answer.{boundPut, plannedPut}
 use borrow.Author.Needs.{needs}
 use Rattle.exported.proofs.put_planned.Statement.{statement}
 use Rattle.exported.proofs.put_planned.Tie as tie
-use Rattle.exported.proofs.put_planned.Reads as reads
-use Rattle.exported.proofs.put_planned.Lts as lts
-use Rattle.exported.proofs.put.Reads as put-reads
-use Rattle.exported.proofs.put_bound.Reads as put-bound-reads
-use Rattle.parts.proofs.wide.Reads as wide-reads
 
--- src/lib.rt:106:26
 enum-known-planned : tie.Need-enum-known-planned
 enum-known-planned c = search needs
 
--- src/lib.rt:107:27
 enum-known-planned-2 : tie.Need-enum-known-planned-2
 enum-known-planned-2 c = search needs
 
--- src/lib.rt:108:28
 wide-requires : tie.Need-wide-requires
 wide-requires c κs = search needs
 
--- src/lib.rt:108:13
 put-requires : tie.Need-put-requires
 put-requires c κs = search needs
 
--- src/lib.rt:109:28
 wide-requires-2 : tie.Need-wide-requires-2
 wide-requires-2 c κs = search needs
 
--- src/lib.rt:109:13
 put-requires-2 : tie.Need-put-requires-2
 put-requires-2 c κs = search needs
 
--- src/lib.rt:110:13
 put-bound-requires : tie.Need-put-bound-requires
 put-bound-requires c κs = search needs
 
--- src/lib.rt:111:13
 put-requires-3 : tie.Need-put-requires-3
 put-requires-3 c κs = search needs
 
--- src/lib.rt:102:1
 returns : tie.Need-returns
 returns c = search needs
 
--- src/lib.rt:102:1
 same-length : tie.Need-same-length
 same-length c = search needs
 
--- src/lib.rt:102:1
 returns-2 : tie.Need-returns-2
-returns-2 c = sym (ap plannedNumber (c .before .before .before .before .before .before .before .before .before .before .before .before .before .before .before .before .before .before .before .planned2 .given .1))
+returns-2 c =
+    let a = c .before .before .before .before .before .before .before .before .before .before .before .before .before .before .before .before .before .before .before .before .before .before .args in
+    let k = c .before .before .before .before .before .before .before .before .before .before .before .before .before .before .before .before .before .before .before .planned2 .given in
+    let f = k .0 .0 in
+    let first = c .before .before .before .before .before .before .before .before .before .before .before .before .before .before .before .put .ensures ∙ ap (set (a .answer .now) 0) (c .before .before .before .before .before .before .before .before .before .before .before .before .before .before .before .before .wide .ensures) in
+    let second = c .before .before .before .before .before .before .before .before .before .before .put2 .ensures ∙ ap₂ (λ (xs : List ℕ) (n : ℕ). set xs 1 n) first (c .before .before .before .before .before .before .before .before .before .before .before .wide2 .ensures) in
+    let third = c .before .before .before .before .before .before .put-bound .ensures ∙ ap (λ (xs : List ℕ). boundPut xs 2 3 (f .bottleneck)) second in (
+      sym (ap plannedNumber (k .1)),
+      c .before .before .put3 .ensures ∙ ap (λ (xs : List ℕ). set xs 4 (f .imbalance)) third ∙ sym (ap (λ (w : Planned). plannedPut w (a .answer .now)) (k .1)),
+    )
 
 pub put-planned-spec : {M : Type 1} → statement M
 put-planned-spec =

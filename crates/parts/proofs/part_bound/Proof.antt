@@ -9,45 +9,35 @@ use Rattle.parts.proofs.part_bound.Reads as reads
 use Rattle.parts.proofs.part_bound.Lts as lts
 use Rattle.parts.proofs.wide.Reads as wide-reads
 
--- src/lib.rt:41:20
 mul-wide : tie.Need-mul-wide
 mul-wide c = search needs
 
--- src/lib.rt:41:20
 shared-slice-read-wide : tie.Need-shared-slice-read-wide
 shared-slice-read-wide c = search needs
 
--- src/lib.rt:41:30
 mul-wide-2 : tie.Need-mul-wide-2
 mul-wide-2 c = search needs
 
--- src/lib.rt:41:30
 shared-slice-read-wide-2 : tie.Need-shared-slice-read-wide-2
 shared-slice-read-wide-2 c = search needs
 
--- src/lib.rt:41:20
 sub-wide : tie.Need-sub-wide
 sub-wide c =
     let s = c .before .before .before .before .before in
     prefix-grows (s .pre .0 .prefix) (s .args .a) (s .args .b) (s .pre .1 .1) (s .pre .1 .2)
 
--- src/lib.rt:41:15
 wide-requires : tie.Need-wide-requires
 wide-requires c κs = search needs
 
--- src/lib.rt:42:21
 mul-wide-3 : tie.Need-mul-wide-3
 mul-wide-3 c = search needs
 
--- src/lib.rt:42:21
 shared-slice-read-wide-3 : tie.Need-shared-slice-read-wide-3
 shared-slice-read-wide-3 c = search needs
 
--- src/lib.rt:42:16
 wide-requires-2 : tie.Need-wide-requires-2
 wide-requires-2 c κs = search needs
 
--- src/lib.rt:35:1
 returns : tie.Need-returns
 unfolding partBound
 returns c =
