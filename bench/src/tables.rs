@@ -128,19 +128,21 @@ fn summary(records: &Records) {
 /// Each ratio in other ways than the median of the passes: by place, by pass, and of the least times of all passes.
 fn passes(records: &Records) {
     println!("## Every pass, and every place of the code\n");
-    println!("The same ratios of times over the 27 shapes, taken in other ways: the mean in each of the four places of the code; the");
-    println!("greatest of all single passes, and how many are above 1.2; and the ratio of the least times that each side had anywhere.\n");
+    println!("The same ratios of times over the 27 shapes, taken in other ways: mean and greatest shape in each of the four places of the");
+    println!("code (a shape's mean of two passes); the greatest of all single passes, and how many are above 1.2; and the ratio of the least");
+    println!("times that each side had anywhere.\n");
     let mut columns = vec![String::new()];
     columns.extend(PLACEMENTS.map(|place| format!("place {place}")));
     columns.extend(texts(&["passes", "greatest pass", "above 1.2", "least times: mean", "greatest"]));
     head(&columns);
     for (title, planner, plain) in RATIOS {
         let mut cells = vec![title.to_string()];
-        let gather = |kind: &str| -> Vec<f64> {
-            all_shapes().flat_map(|shape| records.values(kind, plain, shape).to_vec()).collect()
-        };
-        cells.extend(PLACEMENTS.map(|place| format!("{:.2}", geometric_mean(&gather(&records::placed(place))))));
-        let all = gather("ratio");
+        cells.extend(PLACEMENTS.map(|place| {
+            let kind = records::placed(place);
+            let shapes: Vec<f64> = all_shapes().map(|shape| records.get(&kind, plain, shape)).collect();
+            format!("{:.2}, {:.2}", geometric_mean(&shapes), greatest(&shapes))
+        }));
+        let all: Vec<f64> = all_shapes().flat_map(|shape| records.values("ratio", plain, shape).to_vec()).collect();
         cells.push(all.len().to_string());
         cells.push(format!("{:.2}", greatest(&all)));
         cells.push(all.iter().filter(|&&value| value > 1.2).count().to_string());

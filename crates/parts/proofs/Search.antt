@@ -25,10 +25,11 @@ pub rising-above : {xs : List ℕ} {n cap : ℕ} → Rising xs n → (i j : ℕ)
 rising-above w i j h k e = omega (arith, w .up i j h k)
 
 -- A halved step: the index stays, or it goes on by what the step has become.
-module _ {xs : List ℕ} {n cap : ℕ} (w : Rising xs n) {a low step : ℕ} (b : Within xs a n cap low step) where
-  pub half-stays : (half : ℕ) → (low + half ≤ n → cap < getD xs (low + half) 0) → Within xs a n cap low half
-  half-stays half h = record { from = b .from; to = b .to; below = b .below; above = h }
+pub half-stays : {xs : List ℕ} {a n cap low step : ℕ} (half : ℕ) → Within xs a n cap low step → (low + half ≤ n → cap < getD xs (low + half) 0)
+    → Within xs a n cap low half
+half-stays half b h = record { from = b .from; to = b .to; below = b .below; above = h }
 
+module _ {xs : List ℕ} {n cap : ℕ} (w : Rising xs n) {a low step : ℕ} (b : Within xs a n cap low step) where
   pub half-goes : (half : ℕ) → step ≤ half + half → low + half ≤ n → getD xs (low + half) 0 ≤ cap → Within xs a n cap (low + half) half
   half-goes half h k e =
       record {

@@ -48,7 +48,7 @@ loop-less-2 c = omega arith
 loop-again-2 : tie.Need-loop-again-2 Inv-loop μ-loop
 loop-again-2 c =
     let l = c .before .before .before .before .loop in
-    (l .inv .0, half-stays (l .inv .0) (l .inv .1) (l .step - l .step / 2) (λ h. omega arith))
+    (l .inv .0, half-stays (l .step - l .step / 2) (l .inv .1) (λ h. omega arith))
 
 loop-less-3 : tie.Need-loop-less-3 Inv-loop μ-loop
 loop-less-3 c = omega arith
@@ -56,7 +56,7 @@ loop-less-3 c = omega arith
 loop-again-3 : tie.Need-loop-again-3 Inv-loop μ-loop
 loop-again-3 c =
     let l = c .before .before .loop in
-    (l .inv .0, half-stays (l .inv .0) (l .inv .1) (l .step - l .step / 2) (λ h. absurd (let z : ⊥ = omega arith in z)))
+    (l .inv .0, half-stays (l .step - l .step / 2) (l .inv .1) (λ h. absurd (let z : ⊥ = omega arith in z)))
 
 returns : tie.Need-returns Inv-loop μ-loop
 returns c =
