@@ -5,7 +5,7 @@ if ! command -v cargo >/dev/null 2>&1; then
     echo "tests/held: FAILED, cargo is missing"
     exit 1
 fi
-for name in planner exported; do
+for name in planner test_exports; do
     if [ ! -f "$here/../target/staticlib/lib$name.a" ]; then
         echo "tests/held: FAILED, no archive: run 'rt staticlib $name' first"
         exit 1

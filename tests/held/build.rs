@@ -6,7 +6,7 @@ fn main() {
     let folder = Path::new(&here).join("../../target/staticlib");
     println!("cargo:rerun-if-changed=build.rs");
     println!("cargo:rustc-link-search=native={}", folder.display());
-    for name in ["planner", "exported"] {
+    for name in ["planner", "test_exports"] {
         let archive = folder.join(format!("lib{}.a", name));
         if !archive.is_file() {
             panic!("no archive at {}", archive.display());

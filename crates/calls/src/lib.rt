@@ -5,7 +5,7 @@ ghost use mathlib.Core.Path.{_≡_};
 ghost use mathlib.Core.Bool.{cond};
 ghost use mathlib.Core.List.{_++_};
 ghost use lib.ListN.{length, take, drop};
-ghost use Rattle.chain.specs.Job.{jobOf, Valid, Partition, bottleneck};
+ghost use Rattle.chain.specs.Job.{Job, jobOf, Valid, processors, Partition, bottleneck};
 ghost use Rattle.chain.specs.Probe.{walk, fits};
 ghost use Rattle.chain.specs.Refusal.{isPartition, boundTest};
 ghost use Rattle.chain.specs.Heuristic as quick;
@@ -42,8 +42,10 @@ pub enum Probed {
 
 // Whether the first P + 1 separators are a partition of the job. Inner: there are so many.
 pub fn is_partition(speeds: &[u32], weights: &[u32], separators: &[u32]) -> bool
-    requires { ⌜ length (now speeds) < length (now separators) ⌝ }
-    ensures { λ r. ⌜ r ≡ isPartition (jobOf (now (weights .entry)) (now (speeds .entry))) (take (suc (length (now (speeds .entry)))) (now (separators .entry))) ⌝ }
+    ghost { Job }
+    requires { λ job. ⌜ jobOf (now speeds) (now weights) ≡ job ⌝ }
+    requires { λ job. ⌜ processors job < length (now separators) ⌝ }
+    ensures { λ job r. ⌜ r ≡ isPartition job (take (suc (processors job)) (now (separators .entry))) ⌝ }
 {
     if separators[0] != 0 {
         return false;
@@ -85,9 +87,11 @@ fn can_lend(bound: Bound) -> bool
 
 // Inner. The bottleneck of the partition in front of the list.
 fn measure_tested(speeds: &[u32], weights: &[u32], separators: &[u32]) -> Bound
-    requires { ⌜ Valid (jobOf (now weights) (now speeds)) ⌝ }
-    requires { ⌜ Partition (jobOf (now weights) (now speeds)) (take (suc (length (now speeds))) (now separators)) ⌝ }
-    ensures { λ r. ⌜ r ≡ bottleneck (jobOf (now (weights .entry)) (now (speeds .entry))) (take (suc (length (now (speeds .entry)))) (now (separators .entry))) ⌝ }
+    ghost { Job }
+    requires { λ job. ⌜ jobOf (now speeds) (now weights) ≡ job ⌝ }
+    requires { λ job. ⌜ Valid job ⌝ }
+    requires { λ job. ⌜ Partition job (take (suc (processors job)) (now separators)) ⌝ }
+    ensures { λ job r. ⌜ r ≡ bottleneck job (take (suc (processors job)) (now (separators .entry))) ⌝ }
 {
     let mut sums = [0u32; MAX_TASKS + 1];
     prefix_sums(speeds, weights, &mut sums);
@@ -96,7 +100,9 @@ fn measure_tested(speeds: &[u32], weights: &[u32], separators: &[u32]) -> Bound
 
 // Measures a partition: its bottleneck, or the refusal: 5, 6, 7, 8, 9 or 11, in this order. Entries past P + 1 are ignored.
 pub fn measure(speeds: &[u32], weights: &[u32], separators: &[u32]) -> Measured
-    ensures { λ r. ⌜ r ≡ measureAnswer (jobOf (now (weights .entry)) (now (speeds .entry))) (now (separators .entry)) ⌝ }
+    ensures { λ r.
+        let job = jobOf (now (speeds .entry)) (now (weights .entry)) in
+        ⌜ r ≡ measureAnswer job (now (separators .entry)) ⌝ }
 {
     let found = test_job(speeds, weights);
     if found != 0 {
@@ -120,11 +126,13 @@ fn probe_beside(
     walked: &mut [u32],
     separators: &mut [u32],
 ) -> Probed
-    requires { ⌜ Ready (jobOf (now weights) (now speeds)) (now sums) ⌝ }
-    requires { ⌜ Lendable bound ⌝ }
-    requires { ⌜ (length (now speeds) < length (now walked)) × (length (now speeds) < length (now separators)) ⌝ }
-    ensures { λ r. ⌜ r ≡ probed (jobOf (now (weights .entry)) (now (speeds .entry))) bound ⌝ }
-    ensures { λ r. ⌜ now (separators .exit) ≡ cond (fits (jobOf (now (weights .entry)) (now (speeds .entry))) bound) (walk (jobOf (now (weights .entry)) (now (speeds .entry))) bound ++ drop (suc (length (now (speeds .entry)))) (now (separators .entry))) (now (separators .entry)) ⌝ }
+    ghost { Job }
+    requires { λ job. ⌜ jobOf (now speeds) (now weights) ≡ job ⌝ }
+    requires { λ job. ⌜ Ready job (now sums) ⌝ }
+    requires { λ job. ⌜ Lendable bound ⌝ }
+    requires { λ job. ⌜ (processors job < length (now walked)) × (processors job < length (now separators)) ⌝ }
+    ensures { λ job r. ⌜ r ≡ probed job bound ⌝ }
+    ensures { λ job r. ⌜ now (separators .exit) ≡ cond (fits job bound) (walk job bound ++ drop (suc (processors job)) (now (separators .entry))) (now (separators .entry)) ⌝ }
 {
     let answer = probe_in(speeds, weights, sums, bound, walked);
     match answer {
@@ -138,11 +146,13 @@ fn probe_beside(
 
 // Inner. The probe at the bound: a fit writes the walk's P + 1 separators, a failure writes nothing.
 fn probe_tested(speeds: &[u32], weights: &[u32], bound: Bound, separators: &mut [u32]) -> Probed
-    requires { ⌜ Valid (jobOf (now weights) (now speeds)) ⌝ }
-    requires { ⌜ Lendable bound ⌝ }
-    requires { ⌜ length (now speeds) < length (now separators) ⌝ }
-    ensures { λ r. ⌜ r ≡ probed (jobOf (now (weights .entry)) (now (speeds .entry))) bound ⌝ }
-    ensures { λ r. ⌜ now (separators .exit) ≡ cond (fits (jobOf (now (weights .entry)) (now (speeds .entry))) bound) (walk (jobOf (now (weights .entry)) (now (speeds .entry))) bound ++ drop (suc (length (now (speeds .entry)))) (now (separators .entry))) (now (separators .entry)) ⌝ }
+    ghost { Job }
+    requires { λ job. ⌜ jobOf (now speeds) (now weights) ≡ job ⌝ }
+    requires { λ job. ⌜ Valid job ⌝ }
+    requires { λ job. ⌜ Lendable bound ⌝ }
+    requires { λ job. ⌜ processors job < length (now separators) ⌝ }
+    ensures { λ job r. ⌜ r ≡ probed job bound ⌝ }
+    ensures { λ job r. ⌜ now (separators .exit) ≡ cond (fits job bound) (walk job bound ++ drop (suc (processors job)) (now (separators .entry))) (now (separators .entry)) ⌝ }
 {
     let mut sums = [0u32; MAX_TASKS + 1];
     let mut walked = [0u32; MAX_PROCESSORS + 1];
@@ -153,8 +163,12 @@ fn probe_tested(speeds: &[u32], weights: &[u32], bound: Bound, separators: &mut 
 // The probe at a lent bound: whether it fits, or the refusal: 5, 6, 7, 8, 9 or 10, in this order. A fit writes the P + 1
 // separators, a failure and a refusal write nothing. Later entries stay.
 pub fn probe(speeds: &[u32], weights: &[u32], bound: Bound, separators: &mut [u32]) -> Probed
-    ensures answer { λ r. ⌜ r ≡ probeAnswer (jobOf (now (weights .entry)) (now (speeds .entry))) bound (now (separators .entry)) ⌝ }
-    ensures separators { λ _. ⌜ now (separators .exit) ≡ probeWrites (jobOf (now (weights .entry)) (now (speeds .entry))) bound (now (separators .entry)) ⌝ }
+    ensures answer { λ r.
+        let job = jobOf (now (speeds .entry)) (now (weights .entry)) in
+        ⌜ r ≡ probeAnswer job bound (now (separators .entry)) ⌝ }
+    ensures separators { λ _.
+        let job = jobOf (now (speeds .entry)) (now (weights .entry)) in
+        ⌜ now (separators .exit) ≡ probeWrites job bound (now (separators .entry)) ⌝ }
 {
     let found = test_job(speeds, weights);
     if found != 0 {
@@ -173,10 +187,12 @@ pub fn probe(speeds: &[u32], weights: &[u32], bound: Bound, separators: &mut [u3
 
 // Inner. Writes the heuristic's separators and gives their bottleneck.
 fn heuristic_tested(speeds: &[u32], weights: &[u32], separators: &mut [u32]) -> Bound
-    requires { ⌜ Valid (jobOf (now weights) (now speeds)) ⌝ }
-    requires { ⌜ length (now speeds) < length (now separators) ⌝ }
-    ensures { λ r. ⌜ r ≡ bottleneck (jobOf (now (weights .entry)) (now (speeds .entry))) (quick.heuristic (jobOf (now (weights .entry)) (now (speeds .entry)))) ⌝ }
-    ensures { λ r. ⌜ now (separators .exit) ≡ quick.heuristic (jobOf (now (weights .entry)) (now (speeds .entry))) ++ drop (suc (length (now (speeds .entry)))) (now (separators .entry)) ⌝ }
+    ghost { Job }
+    requires { λ job. ⌜ jobOf (now speeds) (now weights) ≡ job ⌝ }
+    requires { λ job. ⌜ Valid job ⌝ }
+    requires { λ job. ⌜ processors job < length (now separators) ⌝ }
+    ensures { λ job r. ⌜ r ≡ bottleneck job (quick.heuristic job) ⌝ }
+    ensures { λ job r. ⌜ now (separators .exit) ≡ quick.heuristic job ++ drop (suc (processors job)) (now (separators .entry)) ⌝ }
 {
     let mut sums = [0u32; MAX_TASKS + 1];
     prefix_sums(speeds, weights, &mut sums);
@@ -187,8 +203,12 @@ fn heuristic_tested(speeds: &[u32], weights: &[u32], separators: &mut [u32]) -> 
 // The heuristic: its bottleneck, or the refusal: 5, 6, 7, 8 or 9, in this order. It writes the P + 1 separators, a refusal
 // writes nothing. Later entries stay.
 pub fn heuristic(speeds: &[u32], weights: &[u32], separators: &mut [u32]) -> Measured
-    ensures answer { λ r. ⌜ r ≡ heuristicAnswer (jobOf (now (weights .entry)) (now (speeds .entry))) (now (separators .entry)) ⌝ }
-    ensures separators { λ _. ⌜ now (separators .exit) ≡ heuristicWrites (jobOf (now (weights .entry)) (now (speeds .entry))) (now (separators .entry)) ⌝ }
+    ensures answer { λ r.
+        let job = jobOf (now (speeds .entry)) (now (weights .entry)) in
+        ⌜ r ≡ heuristicAnswer job (now (separators .entry)) ⌝ }
+    ensures separators { λ _.
+        let job = jobOf (now (speeds .entry)) (now (weights .entry)) in
+        ⌜ now (separators .exit) ≡ heuristicWrites job (now (separators .entry)) ⌝ }
 {
     let found = test_job(speeds, weights);
     if found != 0 {

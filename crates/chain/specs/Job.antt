@@ -17,7 +17,7 @@ pub record Job : Type 0 where
 
 -- "Where a job comes as lists"
 abbrev pub jobOf : List ℕ → List ℕ → Job
-jobOf ws es = record { weights = ws; speeds = es }
+jobOf es ws = record { weights = ws; speeds = es }
 
 -- "P is the length of the list of speeds and N that of the list of weights."
 abbrev pub tasks : Job → ℕ

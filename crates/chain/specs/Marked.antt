@@ -1,5 +1,5 @@
 -- The marked jobs of document 01, "Jobs to hold it against", as one table, and what it means that a row holds.
-use Prim.Native.Nat.{ℕ, suc, _-_}
+use Prim.Native.Nat.{ℕ, zero, suc}
 use mathlib.Core.Bool.{Bool, true, false, not, _&&_, _||_}
 use mathlib.Core.List.{List, [], _∷_}
 use lib.ListN.{length}
@@ -34,14 +34,24 @@ pub record Three : Type 0 where
 abbrev pub three : ℕ → ℕ → ℕ → Three
 three a b c = record { byTable = a; byBidding = b; byBisection = c }
 
+-- The count is the number of the first trial that fits, counted from 1, and the walk there gives these separators.
+unfoldable pub biddingEndsAt : Job → List ℕ → ℕ → Bool
+biddingEndsAt job s zero = false
+biddingEndsAt job s (suc k) = isFirst (λ j. fits job (bidding job j)) k && sameList (walk job (bidding job k)) s
+
+-- The count is 1 where the trial at the ideal fits; else it is one more than the rounds after which the ends first meet. The walk
+-- there gives these separators.
+unfoldable pub bisectionEndsAt : Job → List ℕ → ℕ → Bool
+bisectionEndsAt job s zero = false
+bisectionEndsAt job s (suc k) =
+    (fits job (ideal job) && eqb k 0 && sameList (walk job (ideal job)) s)
+    || (not (fits job (ideal job)) && isFirst (λ j. meet (ends job j)) k && sameList (walk job ((ends job k) .low)) s)
+
 -- The counts are those at which the methods end, and each method's walk gives these separators.
 unfoldable pub endsAt : Job → List ℕ → Three → Bool
 endsAt job s n =
     eqb (moves job) (n .byTable) && sameList (walk job (tableValue job (last job) (tasks job))) s
-    && isFirst (λ k. fits job (bidding job k)) (n .byBidding - 1) && sameList (walk job (bidding job (n .byBidding - 1))) s
-    && ((fits job (ideal job) && eqb (n .byBisection) 1 && sameList (walk job (ideal job)) s)
-    || (not (fits job (ideal job)) && isFirst (λ k. meet (ends job k)) (n .byBisection - 1)
-    && sameList (walk job ((ends job (n .byBisection - 1)) .low)) s))
+    && biddingEndsAt job s (n .byBidding) && bisectionEndsAt job s (n .byBisection)
 
 -- A row of the table.
 pub data Row : Type 0 where
@@ -87,19 +97,19 @@ everyHolds [] = true
 everyHolds (r ∷ rs) = holds r && everyHolds rs
 
 abbrev pub jobA : Job
-jobA = jobOf (1 ∷ 3 ∷ 8 ∷ []) (1 ∷ 3 ∷ [])
+jobA = jobOf (1 ∷ 3 ∷ []) (1 ∷ 3 ∷ 8 ∷ [])
 
 abbrev pub jobB : Job
-jobB = jobOf (4 ∷ 3 ∷ 2 ∷ 6 ∷ 1 ∷ []) (1 ∷ 2 ∷ [])
+jobB = jobOf (1 ∷ 2 ∷ []) (4 ∷ 3 ∷ 2 ∷ 6 ∷ 1 ∷ [])
 
 abbrev pub jobC : Job
-jobC = jobOf [] (7 ∷ 2 ∷ [])
+jobC = jobOf (7 ∷ 2 ∷ []) []
 
 abbrev pub jobD : Job
-jobD = jobOf (0 ∷ 0 ∷ []) (1 ∷ 1 ∷ [])
+jobD = jobOf (1 ∷ 1 ∷ []) (0 ∷ 0 ∷ [])
 
 abbrev pub jobE : Job
-jobE = jobOf (6 ∷ []) (1 ∷ 1 ∷ [])
+jobE = jobOf (1 ∷ 1 ∷ []) (6 ∷ [])
 
 -- The table. A's counts, allowances and imbalance are those of the listing that `strips` writes; C's, D's and E's allowances
 -- and imbalances, which document 01 leaves out, are worked out by hand.
@@ -121,7 +131,7 @@ marked =
 -- Beside the marked jobs: two bids that tie, 3/1 and 6/2; two indices equally near; a midpoint that fails.
 unfoldable pub worked : List Row
 worked =
-    failsWith (jobOf (3 ∷ 3 ∷ []) (1 ∷ 2 ∷ [])) (over 0 1) (over 3 1)
-    ∷ quick (jobOf (1 ∷ 1 ∷ []) (1 ∷ 3 ∷ [])) (0 ∷ 0 ∷ 2 ∷ []) (over 2 3)
-    ∷ planned (jobOf (6 ∷ 3 ∷ 4 ∷ 1 ∷ []) (2 ∷ 3 ∷ 3 ∷ [])) (0 ∷ 0 ∷ 1 ∷ 4 ∷ []) (over 8 3) 523 (three 3 3 3) (three 8 9 6)
+    failsWith (jobOf (1 ∷ 2 ∷ []) (3 ∷ 3 ∷ [])) (over 0 1) (over 3 1)
+    ∷ quick (jobOf (1 ∷ 3 ∷ []) (1 ∷ 1 ∷ [])) (0 ∷ 0 ∷ 2 ∷ []) (over 2 3)
+    ∷ planned (jobOf (2 ∷ 3 ∷ 3 ∷ []) (6 ∷ 3 ∷ 4 ∷ 1 ∷ [])) (0 ∷ 0 ∷ 1 ∷ 4 ∷ []) (over 8 3) 523 (three 3 3 3) (three 8 9 6)
     ∷ []

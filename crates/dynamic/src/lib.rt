@@ -3,7 +3,7 @@
 ghost use Prim.Native.Nat.{suc, _+_, _*_, _≤_, _<_, _^_};
 ghost use mathlib.Core.Path.{_≡_};
 ghost use lib.ListN.{length};
-ghost use Rattle.chain.specs.Job.{jobOf, speedOf, partBound};
+ghost use Rattle.chain.specs.Job.{Job, jobOf, tasks, speedOf, partBound};
 ghost use Rattle.chain.specs.Dynamic.{tableValue, crossing};
 ghost use Rattle.parts.specs.Prefix.{Ready};
 ghost use Rattle.dynamic.specs.Rows.{entryAt, stored, RowReady, Places, Advanced, Filled, FirstRow, Tabled};
@@ -51,10 +51,12 @@ fn next_part(
     a: usize,
     b: usize,
 ) -> Bound
-    requires { ⌜ Ready (jobOf (now weights) (now speeds)) (now sums) ⌝ }
-    requires { ⌜ speed ≡ speedOf (jobOf (now weights) (now speeds)) (suc p) ⌝ }
-    requires { ⌜ (a ≤ b) × (b ≤ length (now weights)) ⌝ }
-    ensures { λ r. ⌜ r ≡ partBound (jobOf (now (weights .entry)) (now (speeds .entry))) (suc p) a b ⌝ }
+    ghost { Job }
+    requires { λ job. ⌜ jobOf (now speeds) (now weights) ≡ job ⌝ }
+    requires { λ job. ⌜ Ready job (now sums) ⌝ }
+    requires { λ job. ⌜ speed ≡ speedOf job (suc p) ⌝ }
+    requires { λ job. ⌜ (a ≤ b) × (b ≤ tasks job) ⌝ }
+    ensures { λ job r. ⌜ r ≡ partBound job (suc p) a b ⌝ }
 {
     Bound {
         load: wide(sums[b] - sums[a]),
@@ -74,10 +76,12 @@ fn advance(
     i: usize,
     start: Pointer,
 ) -> Pointer
-    requires { ⌜ RowReady (jobOf (now weights) (now speeds)) (now scratch) before p ⌝ }
-    requires { ⌜ speed ≡ speedOf (jobOf (now weights) (now speeds)) (suc p) ⌝ }
-    requires { ⌜ (i ≤ length (now weights)) × (start .at ≤ crossing (jobOf (now weights) (now speeds)) p i) × (start .moves + i < 2 ^ 32 + start .at) ⌝ }
-    ensures { λ r. ⌜ Advanced (jobOf (now (weights .entry)) (now (speeds .entry))) p i (start .at) (start .moves) (r .at) (r .moves) ⌝ }
+    ghost { Job }
+    requires { λ job. ⌜ jobOf (now speeds) (now weights) ≡ job ⌝ }
+    requires { λ job. ⌜ RowReady job (now scratch) before p ⌝ }
+    requires { λ job. ⌜ speed ≡ speedOf job (suc p) ⌝ }
+    requires { λ job. ⌜ (i ≤ tasks job) × (start .at ≤ crossing job p i) × (start .moves + i < 2 ^ 32 + start .at) ⌝ }
+    ensures { λ job r. ⌜ Advanced job p i (start .at) (start .moves) (r .at) (r .moves) ⌝ }
 {
     let mut at = start.at;
     let mut moves = start.moves;
@@ -103,10 +107,12 @@ fn value_at(
     i: usize,
     at: usize,
 ) -> Bound
-    requires { ⌜ RowReady (jobOf (now weights) (now speeds)) (now scratch) before p ⌝ }
-    requires { ⌜ speed ≡ speedOf (jobOf (now weights) (now speeds)) (suc p) ⌝ }
-    requires { ⌜ (i ≤ length (now weights)) × (at ≡ crossing (jobOf (now weights) (now speeds)) p i) ⌝ }
-    ensures { λ r. ⌜ r ≡ tableValue (jobOf (now (weights .entry)) (now (speeds .entry))) (suc p) i ⌝ }
+    ghost { Job }
+    requires { λ job. ⌜ jobOf (now speeds) (now weights) ≡ job ⌝ }
+    requires { λ job. ⌜ RowReady job (now scratch) before p ⌝ }
+    requires { λ job. ⌜ speed ≡ speedOf job (suc p) ⌝ }
+    requires { λ job. ⌜ (i ≤ tasks job) × (at ≡ crossing job p i) ⌝ }
+    ensures { λ job r. ⌜ r ≡ tableValue job (suc p) i ⌝ }
 {
     let here = entry(scratch, before, at);
     if at == 0 {
@@ -130,10 +136,12 @@ fn fill_row(
     p: usize,
     start: Pointer,
 ) -> Pointer
-    requires { ⌜ RowReady (jobOf (now weights) (now speeds)) (now scratch) before p ⌝ }
-    requires { ⌜ Places (suc (length (now weights))) before row (length (now scratch)) ⌝ }
-    requires { ⌜ (start .at ≡ 0) × (start .moves + length (now weights) < 2 ^ 32) ⌝ }
-    ensures { λ r. ⌜ Filled (jobOf (now (weights .entry)) (now (speeds .entry))) (now (scratch .entry)) (now (scratch .exit)) row p (start .moves) (r .moves) ⌝ }
+    ghost { Job }
+    requires { λ job. ⌜ jobOf (now speeds) (now weights) ≡ job ⌝ }
+    requires { λ job. ⌜ RowReady job (now scratch) before p ⌝ }
+    requires { λ job. ⌜ Places (suc (tasks job)) before row (length (now scratch)) ⌝ }
+    requires { λ job. ⌜ (start .at ≡ 0) × (start .moves + tasks job < 2 ^ 32) ⌝ }
+    ensures { λ job r. ⌜ Filled job (now (scratch .entry)) (now (scratch .exit)) row p (start .moves) (r .moves) ⌝ }
 {
     let speed = wide(speeds[p + 1]);
     let mut pointer = start;
@@ -150,9 +158,11 @@ fn fill_row(
 
 // Inner. Fills the row of processor 0.
 fn first_row(speeds: &[u32], weights: &[u32], scratch: &mut [u32], row: usize)
-    requires { ⌜ Ready (jobOf (now weights) (now speeds)) (now scratch) ⌝ }
-    requires { ⌜ (suc (length (now weights)) ≤ row) × (row + 2 * suc (length (now weights)) ≤ length (now scratch)) ⌝ }
-    ensures { λ r. ⌜ FirstRow (jobOf (now (weights .entry)) (now (speeds .entry))) (now (scratch .entry)) (now (scratch .exit)) row ⌝ }
+    ghost { Job }
+    requires { λ job. ⌜ jobOf (now speeds) (now weights) ≡ job ⌝ }
+    requires { λ job. ⌜ Ready job (now scratch) ⌝ }
+    requires { λ job. ⌜ (suc (tasks job) ≤ row) × (row + 2 * suc (tasks job) ≤ length (now scratch)) ⌝ }
+    ensures { λ job r. ⌜ FirstRow job (now (scratch .entry)) (now (scratch .exit)) row ⌝ }
 {
     let mut i = 0;
     while i <= weights.len() {
@@ -165,9 +175,11 @@ fn first_row(speeds: &[u32], weights: &[u32], scratch: &mut [u32], row: usize)
 // Inner. The value of the last processor at the last task, and the moves made. The scratch list begins with the prefix sums;
 // the two rows behind them are free for use.
 pub fn table_in(speeds: &[u32], weights: &[u32], scratch: &mut [u32]) -> Found
-    requires { ⌜ Ready (jobOf (now weights) (now speeds)) (now scratch) ⌝ }
-    requires { ⌜ 5 * suc (length (now weights)) ≤ length (now scratch) ⌝ }
-    ensures { λ r. ⌜ Tabled (jobOf (now (weights .entry)) (now (speeds .entry))) (now (scratch .entry)) (now (scratch .exit)) (r .bound) (r .count) ⌝ }
+    ghost { Job }
+    requires { λ job. ⌜ jobOf (now speeds) (now weights) ≡ job ⌝ }
+    requires { λ job. ⌜ Ready job (now scratch) ⌝ }
+    requires { λ job. ⌜ 5 * suc (tasks job) ≤ length (now scratch) ⌝ }
+    ensures { λ job r. ⌜ Tabled job (now (scratch .entry)) (now (scratch .exit)) (r .bound) (r .count) ⌝ }
 {
     let n = weights.len() + 1;
     let mut row = n;

@@ -4,7 +4,7 @@ ghost use mathlib.Core.Path.{_≡_};
 ghost use lib.ListN.{length};
 ghost use Rattle.bound.specs.Order.{_≼_};
 ghost use Rattle.chain.specs.Lists.{sum, greatestOf};
-ghost use Rattle.chain.specs.Job.{jobOf, Valid, slowestOf, ideal};
+ghost use Rattle.chain.specs.Job.{Job, jobOf, Valid, slowestOf, ideal};
 ghost use Rattle.chain.specs.Plan.{difference, allowance, imbalance};
 ghost use Rattle.chain.proofs.Ranges.{Small};
 ghost use Rattle.figures.specs.Methods.{methodOf};
@@ -46,8 +46,10 @@ fn least_of(values: &[u32]) -> u32
 
 // The sum of the speeds. Inner: the job is within the limits.
 pub fn total_speed(speeds: &[u32], weights: &[u32]) -> u64
-    requires { ⌜ Valid (jobOf (now weights) (now speeds)) ⌝ }
-    ensures { λ r. ⌜ r ≡ sum (now (speeds .entry)) ⌝ }
+    ghost { Job }
+    requires { λ job. ⌜ jobOf (now speeds) (now weights) ≡ job ⌝ }
+    requires { λ job. ⌜ Valid job ⌝ }
+    ensures { λ job r. ⌜ r ≡ sum (now (speeds .entry)) ⌝ }
 {
     let mut total = 0u64;
     let mut p = 0;
@@ -60,8 +62,10 @@ pub fn total_speed(speeds: &[u32], weights: &[u32]) -> u64
 
 // D, the heaviest weight times the fastest speed squared over the slowest speed. Inner.
 fn difference_of(speeds: &[u32], weights: &[u32]) -> u64
-    requires { ⌜ Valid (jobOf (now weights) (now speeds)) ⌝ }
-    ensures { λ r. ⌜ r ≡ difference (jobOf (now (weights .entry)) (now (speeds .entry))) ⌝ }
+    ghost { Job }
+    requires { λ job. ⌜ jobOf (now speeds) (now weights) ≡ job ⌝ }
+    requires { λ job. ⌜ Valid job ⌝ }
+    ensures { λ job r. ⌜ r ≡ difference job ⌝ }
 {
     let heaviest = wide(greatest_of(weights));
     let fastest = wide(greatest_of(speeds));
@@ -71,8 +75,10 @@ fn difference_of(speeds: &[u32], weights: &[u32]) -> u64
 
 // The allowance of a method. Inner: the job is within the limits.
 pub fn allowance_of(method: u32, speeds: &[u32], weights: &[u32]) -> u32
-    requires { ⌜ Valid (jobOf (now weights) (now speeds)) ⌝ }
-    ensures { λ r. ⌜ r ≡ allowance (methodOf method) (jobOf (now (weights .entry)) (now (speeds .entry))) ⌝ }
+    ghost { Job }
+    requires { λ job. ⌜ jobOf (now speeds) (now weights) ≡ job ⌝ }
+    requires { λ job. ⌜ Valid job ⌝ }
+    ensures { λ job r. ⌜ r ≡ allowance (methodOf method) job ⌝ }
 {
     if method == 1 {
         return ((speeds.len() - 1) * weights.len()) as u32;
@@ -85,9 +91,11 @@ pub fn allowance_of(method: u32, speeds: &[u32], weights: &[u32]) -> u32
 
 // The imbalance of a bottleneck in thousandths of the ideal. Inner: the bottleneck is no less than the ideal.
 pub fn imbalance_of(speeds: &[u32], weights: &[u32], total: u64, bottleneck: Bound) -> u64
-    requires { ⌜ Valid (jobOf (now weights) (now speeds)) ⌝ }
-    requires { ⌜ (total ≡ sum (now weights)) × Small bottleneck × (ideal (jobOf (now weights) (now speeds)) ≼ bottleneck) ⌝ }
-    ensures { λ r. ⌜ r ≡ imbalance (jobOf (now (weights .entry)) (now (speeds .entry))) bottleneck ⌝ }
+    ghost { Job }
+    requires { λ job. ⌜ jobOf (now speeds) (now weights) ≡ job ⌝ }
+    requires { λ job. ⌜ Valid job ⌝ }
+    requires { λ job. ⌜ (total ≡ sum (now weights)) × Small bottleneck × (ideal job ≼ bottleneck) ⌝ }
+    ensures { λ job r. ⌜ r ≡ imbalance job bottleneck ⌝ }
 {
     if total == 0 {
         return 0;

@@ -7,7 +7,7 @@ ghost use lib.Dec.{ltb};
 ghost use lib.ListN.{length, take, drop};
 ghost use Rattle.bound.specs.Order.{greater};
 ghost use Rattle.chain.specs.Lists.{distance};
-ghost use Rattle.chain.specs.Job.{jobOf, Partition, boundAt, bottleneck};
+ghost use Rattle.chain.specs.Job.{Job, jobOf, tasks, processors, Partition, boundAt, bottleneck};
 ghost use Rattle.chain.specs.Heuristic.{heuristic};
 ghost use Rattle.parts.specs.Prefix.{Ready};
 ghost use Rattle.heuristic.specs.Target.{firstAtLeast, nearestTo, Target, Behind, FirstPast};
@@ -30,10 +30,12 @@ fn first_past(
     total: u64,
     target: u64,
 ) -> usize
-    requires { ⌜ Ready (jobOf (now weights) (now speeds)) (now sums) ⌝ }
-    requires { ⌜ Target (jobOf (now weights) (now speeds)) total target ⌝ }
-    requires { ⌜ Behind (jobOf (now weights) (now speeds)) target i ⌝ }
-    ensures { λ r. ⌜ FirstPast (jobOf (now (weights .entry)) (now (speeds .entry))) target r ⌝ }
+    ghost { Job }
+    requires { λ job. ⌜ jobOf (now speeds) (now weights) ≡ job ⌝ }
+    requires { λ job. ⌜ Ready job (now sums) ⌝ }
+    requires { λ job. ⌜ Target job total target ⌝ }
+    requires { λ job. ⌜ Behind job target i ⌝ }
+    ensures { λ job r. ⌜ FirstPast job target r ⌝ }
 {
     last_at_most(sums, i - 1, weights.len(), narrow_load(target / total)) + 1
 }
@@ -56,9 +58,11 @@ fn first_level(
     b: usize,
     limit: u32,
 ) -> usize
-    requires { ⌜ Ready (jobOf (now weights) (now speeds)) (now sums) ⌝ }
-    requires { ⌜ (a ≤ b) × (b ≤ length (now weights)) ⌝ }
-    ensures { λ r. ⌜ r ≡ firstAtLeast (now (sums .entry)) a b limit ⌝ }
+    ghost { Job }
+    requires { λ job. ⌜ jobOf (now speeds) (now weights) ≡ job ⌝ }
+    requires { λ job. ⌜ Ready job (now sums) ⌝ }
+    requires { λ job. ⌜ (a ≤ b) × (b ≤ tasks job) ⌝ }
+    ensures { λ job r. ⌜ r ≡ firstAtLeast (now (sums .entry)) a b limit ⌝ }
 {
     if a < b {
         if sums[b - 1] < limit {
@@ -81,11 +85,13 @@ fn nearest_from(
     total: u64,
     target: u64,
 ) -> usize
-    requires { ⌜ Ready (jobOf (now weights) (now speeds)) (now sums) ⌝ }
-    requires { ⌜ Target (jobOf (now weights) (now speeds)) total target ⌝ }
-    requires { ⌜ FirstPast (jobOf (now weights) (now speeds)) target past ⌝ }
-    requires { ⌜ s ≤ nearestTo (jobOf (now weights) (now speeds)) target ⌝ }
-    ensures { λ r. ⌜ r ≡ nearestTo (jobOf (now (weights .entry)) (now (speeds .entry))) target ⌝ }
+    ghost { Job }
+    requires { λ job. ⌜ jobOf (now speeds) (now weights) ≡ job ⌝ }
+    requires { λ job. ⌜ Ready job (now sums) ⌝ }
+    requires { λ job. ⌜ Target job total target ⌝ }
+    requires { λ job. ⌜ FirstPast job target past ⌝ }
+    requires { λ job. ⌜ s ≤ nearestTo job target ⌝ }
+    ensures { λ job r. ⌜ r ≡ nearestTo job target ⌝ }
 {
     let before = past - 1;
     let low = sums[before];
@@ -99,9 +105,11 @@ fn nearest_from(
 
 // Inner. Writes the heuristic's separators to the front of the list.
 pub fn heuristic_in(speeds: &[u32], weights: &[u32], sums: &[u32], separators: &mut [u32])
-    requires { ⌜ Ready (jobOf (now weights) (now speeds)) (now sums) ⌝ }
-    requires { ⌜ length (now speeds) < length (now separators) ⌝ }
-    ensures { λ r. ⌜ now (separators .exit) ≡ heuristic (jobOf (now (weights .entry)) (now (speeds .entry))) ++ drop (suc (length (now (speeds .entry)))) (now (separators .entry)) ⌝ }
+    ghost { Job }
+    requires { λ job. ⌜ jobOf (now speeds) (now weights) ≡ job ⌝ }
+    requires { λ job. ⌜ Ready job (now sums) ⌝ }
+    requires { λ job. ⌜ processors job < length (now separators) ⌝ }
+    ensures { λ job r. ⌜ now (separators .exit) ≡ heuristic job ++ drop (suc (processors job)) (now (separators .entry)) ⌝ }
 {
     let total = total_speed(speeds, weights);
     let weight = wide(sums[weights.len()]);
@@ -132,10 +140,12 @@ pub fn greater_of(a: Bound, b: Bound) -> Bound
 
 // Inner. The bound of processor p's part.
 fn bound_at(speeds: &[u32], weights: &[u32], sums: &[u32], separators: &[u32], p: usize) -> Bound
-    requires { ⌜ Ready (jobOf (now weights) (now speeds)) (now sums) ⌝ }
-    requires { ⌜ Partition (jobOf (now weights) (now speeds)) (take (suc (length (now speeds))) (now separators)) ⌝ }
-    requires { ⌜ p < length (now speeds) ⌝ }
-    ensures { λ r. ⌜ r ≡ boundAt (jobOf (now (weights .entry)) (now (speeds .entry))) (now (separators .entry)) p ⌝ }
+    ghost { Job }
+    requires { λ job. ⌜ jobOf (now speeds) (now weights) ≡ job ⌝ }
+    requires { λ job. ⌜ Ready job (now sums) ⌝ }
+    requires { λ job. ⌜ Partition job (take (suc (processors job)) (now separators)) ⌝ }
+    requires { λ job. ⌜ p < processors job ⌝ }
+    ensures { λ job r. ⌜ r ≡ boundAt job (now (separators .entry)) p ⌝ }
 {
     part_bound(
         speeds,
@@ -149,10 +159,12 @@ fn bound_at(speeds: &[u32], weights: &[u32], sums: &[u32], separators: &[u32], p
 
 // Inner. The bottleneck of the partition in front of the list.
 pub fn measure_in(speeds: &[u32], weights: &[u32], sums: &[u32], separators: &[u32]) -> Bound
-    requires { ⌜ Ready (jobOf (now weights) (now speeds)) (now sums) ⌝ }
-    requires { ⌜ Partition (jobOf (now weights) (now speeds)) (take (suc (length (now speeds))) (now separators)) ⌝ }
-    ensures { λ r. ⌜ r ≡ bottleneck (jobOf (now (weights .entry)) (now (speeds .entry))) (now (separators .entry)) ⌝ }
-    ensures { λ r. ⌜ r ≡ bottleneck (jobOf (now (weights .entry)) (now (speeds .entry))) (take (suc (length (now (speeds .entry)))) (now (separators .entry))) ⌝ }
+    ghost { Job }
+    requires { λ job. ⌜ jobOf (now speeds) (now weights) ≡ job ⌝ }
+    requires { λ job. ⌜ Ready job (now sums) ⌝ }
+    requires { λ job. ⌜ Partition job (take (suc (processors job)) (now separators)) ⌝ }
+    ensures { λ job r. ⌜ r ≡ bottleneck job (now (separators .entry)) ⌝ }
+    ensures { λ job r. ⌜ r ≡ bottleneck job (take (suc (processors job)) (now (separators .entry))) ⌝ }
 {
     let last = speeds.len() - 1;
     let mut greatest = bound_at(speeds, weights, sums, separators, 0);

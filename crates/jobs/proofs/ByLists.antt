@@ -18,7 +18,7 @@ module _ (ws es : List ℕ) {m : ℕ} (speed : maxSpeed ≡ m) {b : Bool} (speed
   each-speed : {c : Bool} → b ≡ c → eachBetween 1 maxSpeed es ≡ c
   each-speed e = ap (λ (k : ℕ). eachBetween 1 k es) speed ∙ sym speeds ∙ e
 
-  pub speeds-fail : not b ≡ true → 5 ≡ firstRefusal (jobTests (jobOf ws es))
+  pub speeds-fail : not b ≡ true → 5 ≡ firstRefusal (jobTests (jobOf es ws))
   unfolding jobTests speedsTest
   speeds-fail h = sym (fails 5 (weightsTest ws ∷ processorsTest es ∷ tasksTest ws ∷ []) (each-speed (not-true b h)))
 
@@ -26,16 +26,16 @@ module _ (ws es : List ℕ) {m : ℕ} (speed : maxSpeed ≡ m) {b : Bool} (speed
     each-weight : {d : Bool} → c ≡ d → eachBetween 0 maxWeight ws ≡ d
     each-weight e = ap (λ (k : ℕ). eachBetween 0 k ws) weight ∙ sym weights ∙ e
 
-    past-speeds : firstRefusal (jobTests (jobOf ws es)) ≡ firstRefusal (weightsTest ws ∷ processorsTest es ∷ tasksTest ws ∷ [])
+    past-speeds : firstRefusal (jobTests (jobOf es ws)) ≡ firstRefusal (weightsTest ws ∷ processorsTest es ∷ tasksTest ws ∷ [])
     unfolding jobTests speedsTest
     past-speeds = passes 5 (weightsTest ws ∷ processorsTest es ∷ tasksTest ws ∷ []) (each-speed (not-false b h))
 
-    pub weights-fail : not c ≡ true → 6 ≡ firstRefusal (jobTests (jobOf ws es))
+    pub weights-fail : not c ≡ true → 6 ≡ firstRefusal (jobTests (jobOf es ws))
     unfolding weightsTest
     weights-fail k = sym (past-speeds ∙ fails 6 (processorsTest es ∷ tasksTest ws ∷ []) (each-weight (not-true c k)))
 
     pub counts-decide : not c ≡ false → {r : ℕ} → r ≡ firstRefusal (test 7 (between 1 maxProcessors (length es)) ∷ test 8 (leb (length ws) maxTasks) ∷ [])
-        → r ≡ firstRefusal (jobTests (jobOf ws es))
+        → r ≡ firstRefusal (jobTests (jobOf es ws))
     unfolding weightsTest processorsTest tasksTest
     counts-decide k e =
         e ∙ sym (past-speeds ∙ passes 6 (processorsTest es ∷ tasksTest ws ∷ []) (each-weight (not-false c k)))

@@ -62,9 +62,9 @@ files-give = refl
 
 -- By lists: all speeds, all weights, then the counts.
 pub lists-give :
-    (firstRefusal (jobTests (jobOf (1000001 ∷ []) (0 ∷ []))) ≡ 5) × (firstRefusal (jobTests (jobOf (1000001 ∷ []) [])) ≡ 6)
-    × (firstRefusal (jobTests (jobOf (replicate 2049 0) [])) ≡ 7) × (firstRefusal (jobTests (jobOf (replicate 2049 0) (1 ∷ []))) ≡ 8)
-    × (firstRefusal (jobTests (jobOf [] (replicate 257 1))) ≡ 7)
+    (firstRefusal (jobTests (jobOf (0 ∷ []) (1000001 ∷ []))) ≡ 5) × (firstRefusal (jobTests (jobOf [] (1000001 ∷ []))) ≡ 6)
+    × (firstRefusal (jobTests (jobOf [] (replicate 2049 0))) ≡ 7) × (firstRefusal (jobTests (jobOf (1 ∷ []) (replicate 2049 0))) ≡ 8)
+    × (firstRefusal (jobTests (jobOf (replicate 257 1) [])) ≡ 7)
 unfolding firstRefusal jobTests speedsTest weightsTest processorsTest tasksTest eachBetween maxTasks maxWeight maxProcessors maxSpeed
 lists-give = (refl, refl, refl, refl, refl)
 

@@ -213,4 +213,4 @@ accepted-exactly file b = (
 -- A job file holds one job.
 pub one-job : (file : List ℕ) (f : JobFile file) → f .job ≡ jobIn file
 one-job file f =
-    sym (ap₂ jobOf (ap weightsOf (f .bytes) ∙ weights-back (f .job) (f .valid)) (ap speedsOf (f .bytes) ∙ speeds-back (f .job) (f .valid)))
+    sym (ap₂ jobOf (ap speedsOf (f .bytes) ∙ speeds-back (f .job) (f .valid)) (ap weightsOf (f .bytes) ∙ weights-back (f .job) (f .valid)))

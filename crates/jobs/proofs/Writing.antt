@@ -32,7 +32,7 @@ length-bytes job =
 bytes-put : (ws es file : List ℕ)
     → (let one : List ℕ = take (8 * 0) file ++ recordsBytes 1 es ++ drop (8 * (0 + length es)) file in
     take (8 * length es) one ++ recordsBytes 2 ws ++ drop (8 * (length es + length ws)) one)
-    ≡ jobBytes (jobOf ws es) ++ drop (length (jobBytes (jobOf ws es))) file
+    ≡ jobBytes (jobOf es ws) ++ drop (length (jobBytes (jobOf es ws))) file
 unfolding jobBytes
 bytes-put ws es file =
     ap (λ (l : List ℕ). l ++ R₂ ++ drop (8 * (length es + length ws)) (R₁ ++ rest)) (take-at R₁ rest (8 * length es) (length-records 1 es))
@@ -72,7 +72,7 @@ module _ (job : Job) (lent : ℕ) where
 -- What a call answers and leaves, by its refusal.
 module _ (ws es file : List ℕ) where
   abbrev job : Job
-  job = jobOf ws es
+  job = jobOf es ws
 
   answer : ℕ → JobWritten
   answer n = cond (eqb n 0) (JobWritten.Written (bytesNeeded job)) (JobWritten.Refused n)

@@ -28,5 +28,5 @@ pub record Reads (file speeds weights : List ℕ) (answer : JobRead) (speeds' we
   pub into-weights : weights' ≡ readWeights file speeds weights
 
 pub record Writes (weights speeds file : List ℕ) (answer : JobWritten) (file' : List ℕ) : Type 0 where
-  pub answers : answer ≡ writeAnswer (jobOf weights speeds) (length file)
-  pub into-file : file' ≡ writeBytes (jobOf weights speeds) file
+  pub answers : answer ≡ writeAnswer (jobOf speeds weights) (length file)
+  pub into-file : file' ≡ writeBytes (jobOf speeds weights) file

@@ -81,7 +81,7 @@ unfoldable pub weightsOf : List ℕ → List ℕ
 weightsOf file = valuesOf taskKind file (recordCount file)
 
 abbrev pub jobIn : List ℕ → Job
-jobIn file = jobOf (weightsOf file) (speedsOf file)
+jobIn file = jobOf (speedsOf file) (weightsOf file)
 
 -- The tests of a file, in order: 2; 3 to 6, record by record; 7; 8.
 unfoldable pub fileTests : List ℕ → List Test

@@ -6,7 +6,7 @@ ghost use mathlib.Core.List.{[], _∷_, _++_};
 ghost use lib.ListN.{length, take, drop};
 ghost use lib.Dec.{leb};
 ghost use Rattle.chain.specs.Limits.{maxProcessors, maxTasks};
-ghost use Rattle.chain.specs.Job.{jobOf};
+ghost use Rattle.chain.specs.Job.{Job, jobOf};
 ghost use Rattle.chain.specs.Refusal.{test, between, eachBetween, firstRefusal, jobTests};
 ghost use Rattle.chain.specs.Lists.{tabulate};
 ghost use Rattle.jobs.specs.JobFile.{taskKind, recordBytes, recordsBytes};
@@ -80,7 +80,9 @@ fn test_counts(processors: usize, tasks: usize) -> u32
 
 // The test of a job by lists: 0, or the number of the refusal: 5, 6, 7 or 8, in this order.
 pub fn test_job(speeds: &[u32], weights: &[u32]) -> u32
-    ensures { λ r. ⌜ r ≡ firstRefusal (jobTests (jobOf (now (weights .entry)) (now (speeds .entry)))) ⌝ }
+    ensures { λ r.
+        let job = jobOf (now (speeds .entry)) (now (weights .entry)) in
+        ⌜ r ≡ firstRefusal (jobTests job) ⌝ }
 {
     if !each_between(1, MAX_SPEED, speeds) {
         return 5;
@@ -121,8 +123,10 @@ fn put_records(kind: u8, values: &[u32], from: usize, file: &mut [u8])
 
 // The rest of writing, where the job is accepted: the records, or 9. Inner: the job's tests pass.
 fn write_tested(speeds: &[u32], weights: &[u32], file: &mut [u8]) -> JobWritten
-    requires { ⌜ firstRefusal (jobTests (jobOf (now weights) (now speeds))) ≡ 0 ⌝ }
-    ensures { λ r. ⌜ Writes (now (weights .entry)) (now (speeds .entry)) (now (file .entry)) r (now (file .exit)) ⌝ }
+    ghost { Job }
+    requires { λ job. ⌜ jobOf (now speeds) (now weights) ≡ job ⌝ }
+    requires { λ job. ⌜ firstRefusal (jobTests job) ≡ 0 ⌝ }
+    ensures { λ job r. ⌜ Writes (now (weights .entry)) (now (speeds .entry)) (now (file .entry)) r (now (file .exit)) ⌝ }
 {
     let needed = 8 * (weights.len() + speeds.len());
     if file.len() < needed {
@@ -135,8 +139,12 @@ fn write_tested(speeds: &[u32], weights: &[u32], file: &mut [u8]) -> JobWritten
 
 // Writes a job file: the count of its bytes, or the refusal: 5, 6, 7, 8 or 9, in this order. Later bytes stay.
 pub fn write_job(speeds: &[u32], weights: &[u32], file: &mut [u8]) -> JobWritten
-    ensures answer { λ r. ⌜ r ≡ writeAnswer (jobOf (now (weights .entry)) (now (speeds .entry))) (length (now (file .entry))) ⌝ }
-    ensures bytes { λ _. ⌜ now (file .exit) ≡ writeBytes (jobOf (now (weights .entry)) (now (speeds .entry))) (now (file .entry)) ⌝ }
+    ensures answer { λ r.
+        let job = jobOf (now (speeds .entry)) (now (weights .entry)) in
+        ⌜ r ≡ writeAnswer job (length (now (file .entry))) ⌝ }
+    ensures bytes { λ _.
+        let job = jobOf (now (speeds .entry)) (now (weights .entry)) in
+        ⌜ now (file .exit) ≡ writeBytes job (now (file .entry)) ⌝ }
 {
     let found = test_job(speeds, weights);
     if found != 0 {

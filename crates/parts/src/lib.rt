@@ -4,7 +4,7 @@ ghost use Prim.Native.Nat.{suc, _+_, _≤_, _<_, _^_};
 ghost use mathlib.Core.Path.{_≡_};
 ghost use mathlib.Core.List.{_++_};
 ghost use lib.ListN.{length, getD, drop};
-ghost use Rattle.chain.specs.Job.{jobOf, Valid, partBound};
+ghost use Rattle.chain.specs.Job.{Job, jobOf, tasks, processors, Valid, partBound};
 ghost use Rattle.parts.specs.Prefix.{prefixes, Ready};
 ghost use Rattle.parts.specs.Search.{Rising, Within, LastAtMost};
 use bound::Bound;
@@ -47,9 +47,11 @@ pub fn narrow_load(load: u64) -> u32
 
 // Inner. Writes W(1,0) to W(1,N) to the front of the list.
 pub fn prefix_sums(speeds: &[u32], weights: &[u32], sums: &mut [u32])
-    requires { ⌜ Valid (jobOf (now weights) (now speeds)) ⌝ }
-    requires { ⌜ length (now weights) < length (now sums) ⌝ }
-    ensures { λ r. ⌜ now (sums .exit) ≡ prefixes (jobOf (now (weights .entry)) (now (speeds .entry))) ++ drop (suc (length (now (weights .entry)))) (now (sums .entry)) ⌝ }
+    ghost { Job }
+    requires { λ job. ⌜ jobOf (now speeds) (now weights) ≡ job ⌝ }
+    requires { λ job. ⌜ Valid job ⌝ }
+    requires { λ job. ⌜ tasks job < length (now sums) ⌝ }
+    ensures { λ job r. ⌜ now (sums .exit) ≡ prefixes job ++ drop (suc (tasks job)) (now (sums .entry)) ⌝ }
 {
     let mut sum = 0u32;
     let mut i = 0;
@@ -70,9 +72,11 @@ pub fn part_bound(
     a: usize,
     b: usize,
 ) -> Bound
-    requires { ⌜ Ready (jobOf (now weights) (now speeds)) (now sums) ⌝ }
-    requires { ⌜ (p < length (now speeds)) × (a ≤ b) × (b ≤ length (now weights)) ⌝ }
-    ensures { λ r. ⌜ r ≡ partBound (jobOf (now (weights .entry)) (now (speeds .entry))) p a b ⌝ }
+    ghost { Job }
+    requires { λ job. ⌜ jobOf (now speeds) (now weights) ≡ job ⌝ }
+    requires { λ job. ⌜ Ready job (now sums) ⌝ }
+    requires { λ job. ⌜ (p < processors job) × (a ≤ b) × (b ≤ tasks job) ⌝ }
+    ensures { λ job r. ⌜ r ≡ partBound job p a b ⌝ }
 {
     Bound {
         load: wide(sums[b] - sums[a]),

@@ -11,7 +11,7 @@ use Rattle.planfile.specs.PlanFile.{planRecord, planBytesTo, planBytes}
 use Rattle.planfile.specs.Answers.{writePlanInputs, writePlanRefusal}
 
 abbrev A : Job
-A = jobOf (1 ∷ 3 ∷ 8 ∷ []) (1 ∷ 3 ∷ [])
+A = jobOf (1 ∷ 3 ∷ []) (1 ∷ 3 ∷ 8 ∷ [])
 
 -- Records 0, 1, 1, 1 and 1, 3, 11, 3.
 pub plan-of-A : planBytes A (0 ∷ 1 ∷ 3 ∷ [])

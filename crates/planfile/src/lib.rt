@@ -3,7 +3,7 @@ ghost use Prim.Native.Nat.{suc, _+_, _*_, _≤_, _<_};
 ghost use mathlib.Core.Path.{_≡_};
 ghost use mathlib.Core.List.{_++_};
 ghost use lib.ListN.{length, take, drop};
-ghost use Rattle.chain.specs.Job.{jobOf, Partition, partLoad};
+ghost use Rattle.chain.specs.Job.{Job, jobOf, tasks, processors, Partition, partLoad};
 ghost use Rattle.jobs.specs.JobFile.{fieldBytes};
 ghost use Rattle.parts.specs.Prefix.{Ready};
 ghost use Rattle.planfile.specs.PlanFile.{planRecord, planBytes};
@@ -21,9 +21,11 @@ pub enum PlanWritten {
 
 // Inner. The load of the part from a to b.
 fn part_load(speeds: &[u32], weights: &[u32], sums: &[u32], a: u32, b: u32) -> u32
-    requires { ⌜ Ready (jobOf (now weights) (now speeds)) (now sums) ⌝ }
-    requires { ⌜ (a ≤ b) × (b ≤ length (now weights)) ⌝ }
-    ensures { λ r. ⌜ r ≡ partLoad (jobOf (now (weights .entry)) (now (speeds .entry))) a b ⌝ }
+    ghost { Job }
+    requires { λ job. ⌜ jobOf (now speeds) (now weights) ≡ job ⌝ }
+    requires { λ job. ⌜ Ready job (now sums) ⌝ }
+    requires { λ job. ⌜ (a ≤ b) × (b ≤ tasks job) ⌝ }
+    ensures { λ job r. ⌜ r ≡ partLoad job a b ⌝ }
 {
     sums[b as usize] - sums[a as usize]
 }
@@ -48,10 +50,12 @@ fn put_plan_record(
     p: usize,
     plan: &mut [u8],
 )
-    requires { ⌜ Ready (jobOf (now weights) (now speeds)) (now sums) ⌝ }
-    requires { ⌜ Partition (jobOf (now weights) (now speeds)) (take (suc (length (now speeds))) (now separators)) ⌝ }
-    requires { ⌜ (p < length (now speeds)) × (16 * p + 16 ≤ length (now plan)) ⌝ }
-    ensures { λ _. ⌜ now (plan .exit) ≡ take (16 * p) (now (plan .entry)) ++ planRecord (jobOf (now (weights .entry)) (now (speeds .entry))) (now (separators .entry)) p ++ drop (16 * p + 16) (now (plan .entry)) ⌝ }
+    ghost { Job }
+    requires { λ job. ⌜ jobOf (now speeds) (now weights) ≡ job ⌝ }
+    requires { λ job. ⌜ Ready job (now sums) ⌝ }
+    requires { λ job. ⌜ Partition job (take (suc (processors job)) (now separators)) ⌝ }
+    requires { λ job. ⌜ (p < processors job) × (16 * p + 16 ≤ length (now plan)) ⌝ }
+    ensures { λ job _. ⌜ now (plan .exit) ≡ take (16 * p) (now (plan .entry)) ++ planRecord job (now (separators .entry)) p ++ drop (16 * p + 16) (now (plan .entry)) ⌝ }
 {
     let place = 16 * p;
     let a = separators[p];
@@ -64,10 +68,12 @@ fn put_plan_record(
 
 // Inner. The records of all processors to the front of the buffer. Later bytes stay.
 pub fn put_plan(speeds: &[u32], weights: &[u32], sums: &[u32], separators: &[u32], plan: &mut [u8])
-    requires { ⌜ Ready (jobOf (now weights) (now speeds)) (now sums) ⌝ }
-    requires { ⌜ Partition (jobOf (now weights) (now speeds)) (take (suc (length (now speeds))) (now separators)) ⌝ }
-    requires { ⌜ 16 * length (now speeds) ≤ length (now plan) ⌝ }
-    ensures { λ _. ⌜ now (plan .exit) ≡ planBytes (jobOf (now (weights .entry)) (now (speeds .entry))) (now (separators .entry)) ++ drop (16 * length (now (speeds .entry))) (now (plan .entry)) ⌝ }
+    ghost { Job }
+    requires { λ job. ⌜ jobOf (now speeds) (now weights) ≡ job ⌝ }
+    requires { λ job. ⌜ Ready job (now sums) ⌝ }
+    requires { λ job. ⌜ Partition job (take (suc (processors job)) (now separators)) ⌝ }
+    requires { λ job. ⌜ 16 * processors job ≤ length (now plan) ⌝ }
+    ensures { λ job _. ⌜ now (plan .exit) ≡ planBytes job (now (separators .entry)) ++ drop (16 * processors job) (now (plan .entry)) ⌝ }
 {
     let mut p = 0;
     while p < speeds.len() {
@@ -78,7 +84,9 @@ pub fn put_plan(speeds: &[u32], weights: &[u32], sums: &[u32], separators: &[u32
 
 // Inner. The tests of writing a plan file: 0, or the refusal: 5, 6, 7, 8, 9 or 11, in this order.
 fn test_plan(speeds: &[u32], weights: &[u32], separators: &[u32], lent: usize) -> u32
-    ensures { λ r. ⌜ r ≡ writePlanRefusal (jobOf (now (weights .entry)) (now (speeds .entry))) (now (separators .entry)) lent ⌝ }
+    ensures { λ r.
+        let job = jobOf (now (speeds .entry)) (now (weights .entry)) in
+        ⌜ r ≡ writePlanRefusal job (now (separators .entry)) lent ⌝ }
 {
     let found = test_job(speeds, weights);
     if found != 0 {
@@ -105,8 +113,12 @@ pub fn write_plan(
     separators: &[u32],
     plan: &mut [u8],
 ) -> PlanWritten
-    ensures answer { λ r. ⌜ r ≡ writePlanAnswer (jobOf (now (weights .entry)) (now (speeds .entry))) (now (separators .entry)) (length (now (plan .entry))) ⌝ }
-    ensures bytes { λ _. ⌜ now (plan .exit) ≡ writePlanBytes (jobOf (now (weights .entry)) (now (speeds .entry))) (now (separators .entry)) (now (plan .entry)) ⌝ }
+    ensures answer { λ r.
+        let job = jobOf (now (speeds .entry)) (now (weights .entry)) in
+        ⌜ r ≡ writePlanAnswer job (now (separators .entry)) (length (now (plan .entry))) ⌝ }
+    ensures bytes { λ _.
+        let job = jobOf (now (speeds .entry)) (now (weights .entry)) in
+        ⌜ now (plan .exit) ≡ writePlanBytes job (now (separators .entry)) (now (plan .entry)) ⌝ }
 {
     let found = test_plan(speeds, weights, separators, plan.len());
     if found != 0 {

@@ -184,13 +184,13 @@ module _ (file es ws : List ℕ) where
 
 -- The job that was read is the file's, and what the call answers and writes is by its definition.
 module _ {file es ws : List ℕ} {p n : ℕ} (w : Taken file es ws p n) where
-  pub taken-job : jobOf (take n ws) (take p es) ≡ jobIn file
-  taken-job = ap₂ jobOf (w .weights) (w .speeds)
+  pub taken-job : jobOf (take p es) (take n ws) ≡ jobIn file
+  taken-job = ap₂ jobOf (w .speeds) (w .weights)
 
-  pub taken-valid : Valid (jobOf (take n ws) (take p es))
+  pub taken-valid : Valid (jobOf (take p es) (take n ws))
   taken-valid = subst Valid (sym taken-job) (accepted-valid file (w .accepted))
 
-  pub host-done : {plan later : List ℕ} {k : ℕ} (m : ℕ) → 1 ≤ m → m ≤ 3 → Host (jobOf (take n ws) (take p es)) plan later k
+  pub host-done : {plan later : List ℕ} {k : ℕ} (m : ℕ) → 1 ≤ m → m ≤ 3 → Host (jobOf (take p es) (take n ws)) plan later k
       → (k ≡ hostAnswer file m (length plan)) × (later ≡ hostBytes file m plan)
   unfolding hostBytes
   host-done {plan} {later} {k} m low high h = (is-k, g .filled ∙ ap (λ (j : ℕ). lentAfter j (planBytes (jobIn file) (planOf (jobIn file))) plan) is-k)

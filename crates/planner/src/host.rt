@@ -3,7 +3,7 @@ ghost use Prim.Native.Nat.{_+_, _*_, _≤_, _<_};
 ghost use mathlib.Core.Path.{_≡_};
 ghost use mathlib.Core.List.{_++_};
 ghost use lib.ListN.{length, drop};
-ghost use Rattle.chain.specs.Job.{jobOf, Valid};
+ghost use Rattle.chain.specs.Job.{Job, jobOf, tasks, processors, Valid};
 ghost use Rattle.chain.specs.Plan.{planOf};
 ghost use Rattle.planfile.specs.PlanFile.{planBytes};
 ghost use Rattle.planner.specs.HostCall.{Host, hostAnswer, hostBytes};
@@ -13,9 +13,11 @@ use planfile::put_plan;
 
 // Inner. Plans a tested job and writes its plan file to the front of the buffer.
 fn write_best(method: u32, speeds: &[u32], weights: &[u32], plan: &mut [u8])
-    requires { ⌜ Valid (jobOf (now weights) (now speeds)) ⌝ }
-    requires { ⌜ 16 * length (now speeds) ≤ length (now plan) ⌝ }
-    ensures { λ _. ⌜ now (plan .exit) ≡ planBytes (jobOf (now (weights .entry)) (now (speeds .entry))) (planOf (jobOf (now (weights .entry)) (now (speeds .entry)))) ++ drop (16 * length (now (speeds .entry))) (now (plan .entry)) ⌝ }
+    ghost { Job }
+    requires { λ job. ⌜ jobOf (now speeds) (now weights) ≡ job ⌝ }
+    requires { λ job. ⌜ Valid job ⌝ }
+    requires { λ job. ⌜ 16 * processors job ≤ length (now plan) ⌝ }
+    ensures { λ job _. ⌜ now (plan .exit) ≡ planBytes job (planOf job) ++ drop (16 * processors job) (now (plan .entry)) ⌝ }
 {
     let mut separators = [0u32; 257];
     let mut scratch = [0u32; 10245];
@@ -25,8 +27,10 @@ fn write_best(method: u32, speeds: &[u32], weights: &[u32], plan: &mut [u8])
 
 // Inner. The test of the buffer, and the plan.
 fn plan_read(method: u32, speeds: &[u32], weights: &[u32], plan: &mut [u8]) -> u32
-    requires { ⌜ Valid (jobOf (now weights) (now speeds)) ⌝ }
-    ensures { λ r. ⌜ Host (jobOf (now (weights .entry)) (now (speeds .entry))) (now (plan .entry)) (now (plan .exit)) r ⌝ }
+    ghost { Job }
+    requires { λ job. ⌜ jobOf (now speeds) (now weights) ≡ job ⌝ }
+    requires { λ job. ⌜ Valid job ⌝ }
+    ensures { λ job r. ⌜ Host job (now (plan .entry)) (now (plan .exit)) r ⌝ }
 {
     if plan.len() < 16 * speeds.len() {
         return 9;

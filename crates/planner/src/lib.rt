@@ -3,7 +3,7 @@ ghost use Prim.Native.Nat.{suc, _+_, _*_, _≤_, _<_};
 ghost use mathlib.Core.Path.{_≡_};
 ghost use mathlib.Core.List.{_++_};
 ghost use lib.ListN.{length, drop};
-ghost use Rattle.chain.specs.Job.{jobOf, Valid};
+ghost use Rattle.chain.specs.Job.{Job, jobOf, tasks, processors, Valid};
 ghost use Rattle.chain.specs.Plan.{MethodEnds, PlanBy, planOf};
 ghost use Rattle.chain.proofs.Ranges.{Lendable};
 ghost use Rattle.parts.specs.Prefix.{Ready};
@@ -48,13 +48,15 @@ fn run_method(
     separators: &mut [u32],
     scratch: &mut [u32],
 ) -> Found
-    requires { ⌜ Ready (jobOf (now weights) (now speeds)) (now scratch) ⌝ }
-    requires { ⌜ (length (now speeds) < length (now separators)) × (5 * suc (length (now weights)) ≤ length (now scratch)) ⌝ }
-    ensures { λ r. ⌜ MethodEnds (methodOf method) (jobOf (now (weights .entry)) (now (speeds .entry))) (r .count) (r .bound) ⌝ }
-    ensures { λ r. ⌜ Lendable (r .bound) ⌝ }
-    ensures { λ r. ⌜ Behind (suc (length (now (speeds .entry)))) (now (separators .entry)) (now (separators .exit)) ⌝ }
-    ensures { λ r. ⌜ Ready (jobOf (now (weights .entry)) (now (speeds .entry))) (now (scratch .exit)) ⌝ }
-    ensures { λ r. ⌜ Behind (5 * suc (length (now (weights .entry)))) (now (scratch .entry)) (now (scratch .exit)) ⌝ }
+    ghost { Job }
+    requires { λ job. ⌜ jobOf (now speeds) (now weights) ≡ job ⌝ }
+    requires { λ job. ⌜ Ready job (now scratch) ⌝ }
+    requires { λ job. ⌜ (processors job < length (now separators)) × (5 * suc (tasks job) ≤ length (now scratch)) ⌝ }
+    ensures { λ job r. ⌜ MethodEnds (methodOf method) job (r .count) (r .bound) ⌝ }
+    ensures { λ job r. ⌜ Lendable (r .bound) ⌝ }
+    ensures { λ job r. ⌜ Behind (suc (processors job)) (now (separators .entry)) (now (separators .exit)) ⌝ }
+    ensures { λ job r. ⌜ Ready job (now (scratch .exit)) ⌝ }
+    ensures { λ job r. ⌜ Behind (5 * suc (tasks job)) (now (scratch .entry)) (now (scratch .exit)) ⌝ }
 {
     if method == 1 {
         return table_in(speeds, weights, scratch);
@@ -74,12 +76,14 @@ fn close_plan(
     found: Found,
     separators: &mut [u32],
 ) -> Figures
-    requires { ⌜ Ready (jobOf (now weights) (now speeds)) (now sums) ⌝ }
-    requires { ⌜ length (now speeds) < length (now separators) ⌝ }
-    requires { ⌜ MethodEnds (methodOf method) (jobOf (now weights) (now speeds)) (found .count) (found .bound) ⌝ }
-    requires { ⌜ Lendable (found .bound) ⌝ }
-    ensures { λ r. ⌜ PlanBy (methodOf method) (jobOf (now (weights .entry)) (now (speeds .entry))) (planWith (jobOf (now (weights .entry)) (now (speeds .entry))) r) ⌝ }
-    ensures { λ r. ⌜ now (separators .exit) ≡ planOf (jobOf (now (weights .entry)) (now (speeds .entry))) ++ drop (suc (length (now (speeds .entry)))) (now (separators .entry)) ⌝ }
+    ghost { Job }
+    requires { λ job. ⌜ jobOf (now speeds) (now weights) ≡ job ⌝ }
+    requires { λ job. ⌜ Ready job (now sums) ⌝ }
+    requires { λ job. ⌜ processors job < length (now separators) ⌝ }
+    requires { λ job. ⌜ MethodEnds (methodOf method) job (found .count) (found .bound) ⌝ }
+    requires { λ job. ⌜ Lendable (found .bound) ⌝ }
+    ensures { λ job r. ⌜ PlanBy (methodOf method) job (planWith job r) ⌝ }
+    ensures { λ job r. ⌜ now (separators .exit) ≡ planOf job ++ drop (suc (processors job)) (now (separators .entry)) ⌝ }
 {
     let bound = found.bound;
     let count = found.count;
@@ -104,10 +108,12 @@ pub fn plan_in(
     separators: &mut [u32],
     scratch: &mut [u32],
 ) -> Figures
-    requires { ⌜ Valid (jobOf (now weights) (now speeds)) ⌝ }
-    requires { ⌜ (length (now speeds) < length (now separators)) × (5 * suc (length (now weights)) ≤ length (now scratch)) ⌝ }
-    ensures { λ r. ⌜ PlanGiven (jobOf (now (weights .entry)) (now (speeds .entry))) method (now (separators .entry)) (now (scratch .entry)) (now (separators .exit)) (now (scratch .exit)) r ⌝ }
-    ensures { λ r. ⌜ Ready (jobOf (now (weights .entry)) (now (speeds .entry))) (now (scratch .exit)) ⌝ }
+    ghost { Job }
+    requires { λ job. ⌜ jobOf (now speeds) (now weights) ≡ job ⌝ }
+    requires { λ job. ⌜ Valid job ⌝ }
+    requires { λ job. ⌜ (processors job < length (now separators)) × (5 * suc (tasks job) ≤ length (now scratch)) ⌝ }
+    ensures { λ job r. ⌜ PlanGiven job method (now (separators .entry)) (now (scratch .entry)) (now (separators .exit)) (now (scratch .exit)) r ⌝ }
+    ensures { λ job r. ⌜ Ready job (now (scratch .exit)) ⌝ }
 {
     prefix_sums(speeds, weights, scratch);
     let found = run_method(method, speeds, weights, separators, scratch);
@@ -122,7 +128,9 @@ pub fn plan(
     separators: &mut [u32],
     scratch: &mut [u32],
 ) -> Planned
-    ensures { λ r. ⌜ PlanAnswer (jobOf (now (weights .entry)) (now (speeds .entry))) method (now (separators .entry)) (now (scratch .entry)) (now (separators .exit)) (now (scratch .exit)) r ⌝ }
+    ensures { λ r.
+        let job = jobOf (now (speeds .entry)) (now (weights .entry)) in
+        ⌜ PlanAnswer job method (now (separators .entry)) (now (scratch .entry)) (now (separators .exit)) (now (scratch .exit)) r ⌝ }
 {
     if method < 1 {
         return Planned::Refused(1);

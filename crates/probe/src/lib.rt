@@ -5,7 +5,7 @@ ghost use mathlib.Core.Path.{_≡_};
 ghost use mathlib.Core.List.{_++_};
 ghost use lib.ListN.{length, getD, drop};
 ghost use Rattle.bound.specs.Order.{lesser};
-ghost use Rattle.chain.specs.Job.{jobOf, partBound};
+ghost use Rattle.chain.specs.Job.{Job, jobOf, tasks, processors, partBound};
 ghost use Rattle.chain.specs.Probe.{reach, walk};
 ghost use Rattle.chain.proofs.Ranges.{Lendable};
 ghost use Rattle.parts.specs.Prefix.{Ready};
@@ -64,10 +64,12 @@ pub fn part_end(
     bound: Bound,
     hint: usize,
 ) -> usize
-    requires { ⌜ Ready (jobOf (now weights) (now speeds)) (now sums) ⌝ }
-    requires { ⌜ Lendable bound ⌝ }
-    requires { ⌜ (p < length (now speeds)) × (a ≤ length (now weights)) ⌝ }
-    ensures { λ r. ⌜ r ≡ reach (jobOf (now (weights .entry)) (now (speeds .entry))) p a bound ⌝ }
+    ghost { Job }
+    requires { λ job. ⌜ jobOf (now speeds) (now weights) ≡ job ⌝ }
+    requires { λ job. ⌜ Ready job (now sums) ⌝ }
+    requires { λ job. ⌜ Lendable bound ⌝ }
+    requires { λ job. ⌜ (p < processors job) × (a ≤ tasks job) ⌝ }
+    ensures { λ job r. ⌜ r ≡ reach job p a bound ⌝ }
 {
     let n = weights.len();
     let limit = most_load(bound, speeds[p]);
@@ -103,10 +105,12 @@ pub fn bid_of(
     a: usize,
     end: usize,
 ) -> Bound
-    requires { ⌜ Ready (jobOf (now weights) (now speeds)) (now sums) ⌝ }
-    requires { ⌜ (p < length (now speeds)) × (a ≤ end) × (end ≤ length (now weights)) ⌝ }
-    ensures { λ r. ⌜ r ≡ partBound (jobOf (now (weights .entry)) (now (speeds .entry))) p a (suc end) ⌝ }
-    ensures { λ r. ⌜ Narrow r ⌝ }
+    ghost { Job }
+    requires { λ job. ⌜ jobOf (now speeds) (now weights) ≡ job ⌝ }
+    requires { λ job. ⌜ Ready job (now sums) ⌝ }
+    requires { λ job. ⌜ (p < processors job) × (a ≤ end) × (end ≤ tasks job) ⌝ }
+    ensures { λ job r. ⌜ r ≡ partBound job p a (suc end) ⌝ }
+    ensures { λ job r. ⌜ Narrow r ⌝ }
 {
     let next = one_more(end, weights.len());
     part_bound(speeds, weights, sums, p, a, next)
@@ -135,12 +139,14 @@ pub fn walk_from(
     point: Point,
     separators: &mut [u32],
 ) -> Outcome
-    requires { ⌜ Ready (jobOf (now weights) (now speeds)) (now sums) ⌝ }
-    requires { ⌜ Lendable bound ⌝ }
-    requires { ⌜ length (now speeds) < length (now separators) ⌝ }
-    requires { ⌜ Reached (jobOf (now weights) (now speeds)) bound (now separators) point ⌝ }
-    ensures { λ r. ⌜ r ≡ outcomeOf (jobOf (now (weights .entry)) (now (speeds .entry))) bound ⌝ }
-    ensures { λ r. ⌜ now (separators .exit) ≡ walk (jobOf (now (weights .entry)) (now (speeds .entry))) bound ++ drop (suc (length (now (speeds .entry)))) (now (separators .entry)) ⌝ }
+    ghost { Job }
+    requires { λ job. ⌜ jobOf (now speeds) (now weights) ≡ job ⌝ }
+    requires { λ job. ⌜ Ready job (now sums) ⌝ }
+    requires { λ job. ⌜ Lendable bound ⌝ }
+    requires { λ job. ⌜ processors job < length (now separators) ⌝ }
+    requires { λ job. ⌜ Reached job bound (now separators) point ⌝ }
+    ensures { λ job r. ⌜ r ≡ outcomeOf job bound ⌝ }
+    ensures { λ job r. ⌜ now (separators .exit) ≡ walk job bound ++ drop (suc (processors job)) (now (separators .entry)) ⌝ }
 {
     let last = speeds.len() - 1;
     let n = weights.len();
@@ -172,11 +178,13 @@ pub fn probe_in(
     bound: Bound,
     separators: &mut [u32],
 ) -> Outcome
-    requires { ⌜ Ready (jobOf (now weights) (now speeds)) (now sums) ⌝ }
-    requires { ⌜ Lendable bound ⌝ }
-    requires { ⌜ length (now speeds) < length (now separators) ⌝ }
-    ensures { λ r. ⌜ r ≡ outcomeOf (jobOf (now (weights .entry)) (now (speeds .entry))) bound ⌝ }
-    ensures { λ r. ⌜ now (separators .exit) ≡ walk (jobOf (now (weights .entry)) (now (speeds .entry))) bound ++ drop (suc (length (now (speeds .entry)))) (now (separators .entry)) ⌝ }
+    ghost { Job }
+    requires { λ job. ⌜ jobOf (now speeds) (now weights) ≡ job ⌝ }
+    requires { λ job. ⌜ Ready job (now sums) ⌝ }
+    requires { λ job. ⌜ Lendable bound ⌝ }
+    requires { λ job. ⌜ processors job < length (now separators) ⌝ }
+    ensures { λ job r. ⌜ r ≡ outcomeOf job bound ⌝ }
+    ensures { λ job r. ⌜ now (separators .exit) ≡ walk job bound ++ drop (suc (processors job)) (now (separators .entry)) ⌝ }
 {
     let first = Point {
         processor: 0,

@@ -3,7 +3,7 @@ ghost use Prim.Native.Nat.{suc, _+_, _<_};
 ghost use mathlib.Core.Path.{_≡_};
 ghost use mathlib.Core.List.{_++_};
 ghost use lib.ListN.{length, drop};
-ghost use Rattle.chain.specs.Job.{jobOf, ideal};
+ghost use Rattle.chain.specs.Job.{Job, jobOf, ideal, processors};
 ghost use Rattle.chain.specs.Probe.{walk};
 ghost use Rattle.chain.specs.Plan.{BiddingEnds, BisectionEnds};
 ghost use Rattle.chain.specs.Search.{narrow};
@@ -28,8 +28,10 @@ use probe::walk_from;
 
 // Inner. The ideal, all weight over all speed.
 fn ideal_of(speeds: &[u32], weights: &[u32], sums: &[u32]) -> Bound
-    requires { ⌜ Ready (jobOf (now weights) (now speeds)) (now sums) ⌝ }
-    ensures { λ r. ⌜ r ≡ ideal (jobOf (now (weights .entry)) (now (speeds .entry))) ⌝ }
+    ghost { Job }
+    requires { λ job. ⌜ jobOf (now speeds) (now weights) ≡ job ⌝ }
+    requires { λ job. ⌜ Ready job (now sums) ⌝ }
+    ensures { λ job r. ⌜ r ≡ ideal job ⌝ }
 {
     Bound {
         load: wide(sums[weights.len()]),
@@ -40,9 +42,11 @@ fn ideal_of(speeds: &[u32], weights: &[u32], sums: &[u32]) -> Bound
 // Inner. Where the walk at the next bid parts from the failed walk in front of the list: before the first processor whose bid is
 // within it. Up to there the separators and the bids stay.
 fn parting(speeds: &[u32], weights: &[u32], sums: &[u32], next: Bound, separators: &[u32]) -> Point
-    requires { ⌜ Ready (jobOf (now weights) (now speeds)) (now sums) ⌝ }
-    requires { ⌜ FailedWalk (jobOf (now weights) (now speeds)) next (now separators) ⌝ }
-    ensures { λ r. ⌜ Reached (jobOf (now (weights .entry)) (now (speeds .entry))) next (now (separators .entry)) r ⌝ }
+    ghost { Job }
+    requires { λ job. ⌜ jobOf (now speeds) (now weights) ≡ job ⌝ }
+    requires { λ job. ⌜ Ready job (now sums) ⌝ }
+    requires { λ job. ⌜ FailedWalk job next (now separators) ⌝ }
+    ensures { λ job r. ⌜ Reached job next (now (separators .entry)) r ⌝ }
 {
     let last = speeds.len() - 1;
     let mut least = Bound { load: 1, speed: 0 };
@@ -72,10 +76,12 @@ fn parting(speeds: &[u32], weights: &[u32], sums: &[u32], next: Bound, separator
 // Inner. Bidding: a trial at the ideal, then at each least next bid until one fits. Each walk goes on from where it parts from the
 // one before. It leaves the walk at the bound found.
 pub fn bidding_in(speeds: &[u32], weights: &[u32], sums: &[u32], separators: &mut [u32]) -> Found
-    requires { ⌜ Ready (jobOf (now weights) (now speeds)) (now sums) ⌝ }
-    requires { ⌜ length (now speeds) < length (now separators) ⌝ }
-    ensures { λ r. ⌜ BiddingEnds (jobOf (now (weights .entry)) (now (speeds .entry))) (r .count) (r .bound) ⌝ }
-    ensures { λ r. ⌜ now (separators .exit) ≡ walk (jobOf (now (weights .entry)) (now (speeds .entry))) (r .bound) ++ drop (suc (length (now (speeds .entry)))) (now (separators .entry)) ⌝ }
+    ghost { Job }
+    requires { λ job. ⌜ jobOf (now speeds) (now weights) ≡ job ⌝ }
+    requires { λ job. ⌜ Ready job (now sums) ⌝ }
+    requires { λ job. ⌜ processors job < length (now separators) ⌝ }
+    ensures { λ job r. ⌜ BiddingEnds job (r .count) (r .bound) ⌝ }
+    ensures { λ job r. ⌜ now (separators .exit) ≡ walk job (r .bound) ++ drop (suc (processors job)) (now (separators .entry)) ⌝ }
 {
     let mut bound = ideal_of(speeds, weights, sums);
     let mut point = Point {
@@ -118,11 +124,13 @@ fn narrow_ends(
     high: Bound,
     separators: &mut [u32],
 ) -> Pair
-    requires { ⌜ Ready (jobOf (now weights) (now speeds)) (now sums) ⌝ }
-    requires { ⌜ length (now speeds) < length (now separators) ⌝ }
-    requires { ⌜ Small low × Small high ⌝ }
-    ensures { λ r. ⌜ endsOf r ≡ narrow (jobOf (now (weights .entry)) (now (speeds .entry))) (record { low = low; high = high }) ⌝ }
-    ensures { λ r. ⌜ Behind (suc (length (now (speeds .entry)))) (now (separators .entry)) (now (separators .exit)) ⌝ }
+    ghost { Job }
+    requires { λ job. ⌜ jobOf (now speeds) (now weights) ≡ job ⌝ }
+    requires { λ job. ⌜ Ready job (now sums) ⌝ }
+    requires { λ job. ⌜ processors job < length (now separators) ⌝ }
+    requires { λ job. ⌜ Small low × Small high ⌝ }
+    ensures { λ job r. ⌜ endsOf r ≡ narrow job (record { low = low; high = high }) ⌝ }
+    ensures { λ job r. ⌜ Behind (suc (processors job)) (now (separators .entry)) (now (separators .exit)) ⌝ }
 {
     let middle = Bound::midpoint(low, high);
     let answer = probe_in(speeds, weights, sums, middle, separators);
@@ -143,12 +151,14 @@ fn bisect(
     next: Bound,
     separators: &mut [u32],
 ) -> Found
-    requires { ⌜ Ready (jobOf (now weights) (now speeds)) (now sums) ⌝ }
-    requires { ⌜ length (now speeds) < length (now separators) ⌝ }
-    requires { ⌜ Rejected (jobOf (now weights) (now speeds)) (ideal (jobOf (now weights) (now speeds))) next ⌝ }
-    ensures { λ r. ⌜ BisectionEnds (jobOf (now (weights .entry)) (now (speeds .entry))) (r .count) (r .bound) ⌝ }
-    ensures { λ r. ⌜ Lendable (r .bound) ⌝ }
-    ensures { λ r. ⌜ Behind (suc (length (now (speeds .entry)))) (now (separators .entry)) (now (separators .exit)) ⌝ }
+    ghost { Job }
+    requires { λ job. ⌜ jobOf (now speeds) (now weights) ≡ job ⌝ }
+    requires { λ job. ⌜ Ready job (now sums) ⌝ }
+    requires { λ job. ⌜ processors job < length (now separators) ⌝ }
+    requires { λ job. ⌜ Rejected job (ideal job) next ⌝ }
+    ensures { λ job r. ⌜ BisectionEnds job (r .count) (r .bound) ⌝ }
+    ensures { λ job r. ⌜ Lendable (r .bound) ⌝ }
+    ensures { λ job r. ⌜ Behind (suc (processors job)) (now (separators .entry)) (now (separators .exit)) ⌝ }
 {
     heuristic_in(speeds, weights, sums, separators);
     let mut low = next;
@@ -171,11 +181,13 @@ fn bisect(
 
 // Inner. Bisection: a trial at the ideal; if it fails, rounds between its next bid and the heuristic's bottleneck.
 pub fn bisection_in(speeds: &[u32], weights: &[u32], sums: &[u32], separators: &mut [u32]) -> Found
-    requires { ⌜ Ready (jobOf (now weights) (now speeds)) (now sums) ⌝ }
-    requires { ⌜ length (now speeds) < length (now separators) ⌝ }
-    ensures { λ r. ⌜ BisectionEnds (jobOf (now (weights .entry)) (now (speeds .entry))) (r .count) (r .bound) ⌝ }
-    ensures { λ r. ⌜ Lendable (r .bound) ⌝ }
-    ensures { λ r. ⌜ Behind (suc (length (now (speeds .entry)))) (now (separators .entry)) (now (separators .exit)) ⌝ }
+    ghost { Job }
+    requires { λ job. ⌜ jobOf (now speeds) (now weights) ≡ job ⌝ }
+    requires { λ job. ⌜ Ready job (now sums) ⌝ }
+    requires { λ job. ⌜ processors job < length (now separators) ⌝ }
+    ensures { λ job r. ⌜ BisectionEnds job (r .count) (r .bound) ⌝ }
+    ensures { λ job r. ⌜ Lendable (r .bound) ⌝ }
+    ensures { λ job r. ⌜ Behind (suc (processors job)) (now (separators .entry)) (now (separators .exit)) ⌝ }
 {
     let bound = ideal_of(speeds, weights, sums);
     let answer = probe_in(speeds, weights, sums, bound, separators);

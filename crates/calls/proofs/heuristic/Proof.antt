@@ -17,7 +17,7 @@ use Rattle.jobs.proofs.test_job.Reads as test-job-reads
 
 -- Past the job's tests they are all passed.
 accepted : (c : tie.Else1)
-    → firstRefusal (jobTests (jobOf (c .before .before .before .before .before .args .weights .now) (c .before .before .before .before .before .args .speeds .now))) ≡ 0
+    → firstRefusal (jobTests (jobOf (c .before .before .before .before .before .args .speeds .now) (c .before .before .before .before .before .args .weights .now))) ≡ 0
 accepted c = sym (c .before .test-job .ensures) ∙ c .if1 .left
 
 test-job-requires : tie.Need-test-job-requires
@@ -26,14 +26,14 @@ test-job-requires c κs = search needs
 returns : tie.Need-returns
 returns c =
     let a = c .before .before .before .before .before .args in
-    let job : Job = jobOf (a .weights .now) (a .speeds .now) in
+    let job : Job = jobOf (a .speeds .now) (a .weights .now) in
     let e = c .before .test-job .ensures in
     heuristic-refused job (a .separators .now) (heuristic-job job (a .separators .now) (λ z. c .if1 .taken (e ∙ z)) ∙ sym e) (c .if1 .taken)
 
 returns-2 : tie.Need-returns-2
 returns-2 c =
     let a = c .before .before .before .before .before .before .args in
-    let job : Job = jobOf (a .weights .now) (a .speeds .now) in
+    let job : Job = jobOf (a .speeds .now) (a .weights .now) in
     heuristic-refused job (a .separators .now) (heuristic-short job (a .separators .now) (accepted (c .before)) (c .if2 .taken)) (omega arith)
 
 heuristic-tested-requires : tie.Need-heuristic-tested-requires
@@ -46,7 +46,7 @@ same-length c = search needs
 returns-3 : tie.Need-returns-3
 returns-3 c =
     let a = c .before .before .before .before .before .before .before .before .before .before .args in
-    let job : Job = jobOf (a .weights .now) (a .speeds .now) in
+    let job : Job = jobOf (a .speeds .now) (a .weights .now) in
     let e = accepted (c .before .before .before .before .before) in
     let found = c .before .before .heuristic-tested .ensures in
     heuristic-accepted job (a .separators .now) (job-accepted .0 e) (heuristic-all job (a .separators .now) e (c .before .before .before .before .if2 .left)) (found .0) (found .1)

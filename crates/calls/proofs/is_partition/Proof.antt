@@ -23,7 +23,7 @@ shared-slice-read-if1 c = omega arith
 returns : tie.Need-returns Inv-loop μ-loop
 returns c =
     let s = c .before .before in
-    not-first (jobOf (s .args .weights .now) (s .args .speeds .now)) (s .args .separators .now) (s .pre) (c .if1 .taken)
+    not-first (jobOf (s .args .speeds .now) (s .args .weights .now)) (s .args .separators .now) (s .pre) (c .if1 .taken)
 
 loop-holds : tie.Need-loop-holds Inv-loop μ-loop
 loop-holds c = (omega arith, omega arith, λ k h. absurd (let z : ⊥ = omega arith in z))
@@ -47,7 +47,7 @@ returns-2 : tie.Need-returns-2 Inv-loop μ-loop
 returns-2 c =
     let s = c .before .before .before .before .before .before .before in
     let p : ℕ = c .before .before .before .before .loop .p in
-    not-grown (jobOf (s .args .weights .now) (s .args .speeds .now)) (s .args .separators .now) (s .pre) p (omega arith)
+    not-grown (jobOf (s .args .speeds .now) (s .args .weights .now)) (s .args .separators .now) (s .pre) p (omega arith)
     (subst (λ (i : ℕ). getD (s .args .separators .now) i 0 < getD (s .args .separators .now) p 0) (add-one p) (c .if2 .taken))
 
 add-p : tie.Need-add-p Inv-loop μ-loop
@@ -74,7 +74,7 @@ cast-result c = omega (arith, c .shared-slice-known4 .given (c .before .before .
 returns-3 : tie.Need-returns-3 Inv-loop μ-loop
 returns-3 c =
     let s = c .before .before .before .before .before in
-    let job : Job = jobOf (s .args .weights .now) (s .args .speeds .now) in
+    let job : Job = jobOf (s .args .speeds .now) (s .args .weights .now) in
     ap (λ (i : ℕ). eqb (getD (s .args .separators .now) i 0) (length (s .args .weights .now)))
     (let e : c .before .before .loop .p ≡ length (s .args .speeds .now) = omega arith in e)
     ∙ end-decides job (s .args .separators .now) (s .pre) (c .before .before .loop .inv .1)

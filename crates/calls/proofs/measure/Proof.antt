@@ -23,12 +23,12 @@ use Rattle.jobs.proofs.test_job.Reads as test-job-reads
 
 -- Past the job's tests they are all passed.
 accepted : (c : tie.Else1)
-    → firstRefusal (jobTests (jobOf (c .before .before .before .before .before .args .weights .now) (c .before .before .before .before .before .args .speeds .now))) ≡ 0
+    → firstRefusal (jobTests (jobOf (c .before .before .before .before .before .args .speeds .now) (c .before .before .before .before .before .args .weights .now))) ≡ 0
 accepted c = sym (c .before .test-job .ensures) ∙ c .if1 .left
 
 -- Past the test of the separators it is passed.
 passed : (c : tie.Else3)
-    → isPartition (jobOf (c .before .before .before .before .before .before .before .before .args .weights .now) (c .before .before .before .before .before .before .before .before .args .speeds .now)) (take (suc (length (c .before .before .before .before .before .before .before .before .args .speeds .now))) (c .before .before .before .before .before .before .before .before .args .separators .now)) ≡ true
+    → isPartition (jobOf (c .before .before .before .before .before .before .before .before .args .speeds .now) (c .before .before .before .before .before .before .before .before .args .weights .now)) (take (suc (length (c .before .before .before .before .before .before .before .before .args .speeds .now))) (c .before .before .before .before .before .before .before .before .args .separators .now)) ≡ true
 passed c = sym (c .before .is-partition .ensures) ∙ not-false (c .before .is-partition .result) (c .if3 .left)
 
 test-job-requires : tie.Need-test-job-requires
@@ -37,14 +37,14 @@ test-job-requires c κs = search needs
 returns : tie.Need-returns
 returns c =
     let a = c .before .before .before .before .before .args in
-    let job : Job = jobOf (a .weights .now) (a .speeds .now) in
+    let job : Job = jobOf (a .speeds .now) (a .weights .now) in
     let e = c .before .test-job .ensures in
     measure-refused job (a .separators .now) (measure-job job (a .separators .now) (λ z. c .if1 .taken (e ∙ z)) ∙ sym e) (c .if1 .taken)
 
 returns-2 : tie.Need-returns-2
 returns-2 c =
     let a = c .before .before .before .before .before .before .args in
-    let job : Job = jobOf (a .weights .now) (a .speeds .now) in
+    let job : Job = jobOf (a .speeds .now) (a .weights .now) in
     measure-refused job (a .separators .now) (measure-short job (a .separators .now) (accepted (c .before)) (c .if2 .taken)) (omega arith)
 
 is-partition-requires : tie.Need-is-partition-requires
@@ -53,7 +53,7 @@ is-partition-requires c κs = search needs
 returns-3 : tie.Need-returns-3
 returns-3 c =
     let a = c .before .before .before .before .before .before .before .before .args in
-    let job : Job = jobOf (a .weights .now) (a .speeds .now) in
+    let job : Job = jobOf (a .speeds .now) (a .weights .now) in
     measure-refused job (a .separators .now)
     (measure-none job (a .separators .now) (accepted (c .before .before .before)) (c .before .before .if2 .left)
     (sym (c .before .is-partition .ensures) ∙ not-true (c .before .is-partition .result) (c .if3 .taken))) (omega arith)
@@ -61,7 +61,7 @@ returns-3 c =
 measure-tested-requires : tie.Need-measure-tested-requires
 measure-tested-requires c κs =
     let a = c .before .before .before .before .before .before .before .before .args in
-    let job : Job = jobOf (a .weights .now) (a .speeds .now) in (
+    let job : Job = jobOf (a .speeds .now) (a .weights .now) in (
       job-accepted .0 (accepted (c .before .before .before)),
       partition-test job (take (suc (length (a .speeds .now))) (a .separators .now)) .0 (subst T (sym (passed c)) tt),
     )
@@ -69,7 +69,7 @@ measure-tested-requires c κs =
 returns-4 : tie.Need-returns-4
 returns-4 c =
     let a = c .before .before .before .before .before .before .before .before .before .args in
-    let job : Job = jobOf (a .weights .now) (a .speeds .now) in
+    let job : Job = jobOf (a .speeds .now) (a .weights .now) in
     measure-accepted job (a .separators .now)
     (measure-all job (a .separators .now) (accepted (c .before .before .before .before)) (c .before .before .before .if2 .left) (passed (c .before)))
     (c .measure-tested .ensures)

@@ -22,7 +22,7 @@ use Rattle.jobs.proofs.test_job.Reads as test-job-reads
 
 -- Past the job's tests they are all passed.
 accepted : (c : tie.Else1)
-    → firstRefusal (jobTests (jobOf (c .before .before .before .before .before .args .weights .now) (c .before .before .before .before .before .args .speeds .now))) ≡ 0
+    → firstRefusal (jobTests (jobOf (c .before .before .before .before .before .args .speeds .now) (c .before .before .before .before .before .args .weights .now))) ≡ 0
 accepted c = sym (c .before .test-job .ensures) ∙ c .if1 .left
 
 -- Past the test of the bound it is passed.
@@ -35,7 +35,7 @@ test-job-requires c κs = search needs
 returns : tie.Need-returns
 returns c =
     let a = c .before .before .before .before .before .args in
-    let job : Job = jobOf (a .weights .now) (a .speeds .now) in
+    let job : Job = jobOf (a .speeds .now) (a .weights .now) in
     let e = c .before .test-job .ensures in
     probe-refused job (a .separators .now) (a .bound) (probe-job job (a .separators .now) (a .bound) (λ z. c .if1 .taken (e ∙ z)) ∙ sym e) (c .if1 .taken)
 
@@ -45,13 +45,13 @@ can-lend-requires c κs = search needs
 returns-2 : tie.Need-returns-2
 returns-2 c =
     let a = c .before .before .before .before .before .before .before .args in
-    let job : Job = jobOf (a .weights .now) (a .speeds .now) in
+    let job : Job = jobOf (a .speeds .now) (a .weights .now) in
     probe-refused job (a .separators .now) (a .bound) (probe-short job (a .separators .now) (a .bound) (accepted (c .before .before)) (leb-true _ _ (c .if2 .taken))) (omega arith)
 
 returns-3 : tie.Need-returns-3
 returns-3 c =
     let a = c .before .before .before .before .before .before .before .before .args in
-    let job : Job = jobOf (a .weights .now) (a .speeds .now) in
+    let job : Job = jobOf (a .speeds .now) (a .weights .now) in
     probe-refused job (a .separators .now) (a .bound)
     (probe-far job (a .separators .now) (a .bound) (accepted (c .before .before .before)) (leb-false _ _ (c .before .if2 .left))
     (sym (c .before .before .can-lend .ensures) ∙ not-true (c .before .before .can-lend .result) (c .if3 .taken))) (omega arith)
@@ -67,7 +67,7 @@ same-length c = search needs
 returns-4 : tie.Need-returns-4
 returns-4 c =
     let a = c .before .before .before .before .before .before .before .before .before .before .before .before .args in
-    let job : Job = jobOf (a .weights .now) (a .speeds .now) in
+    let job : Job = jobOf (a .speeds .now) (a .weights .now) in
     let e = accepted (c .before .before .before .before .before .before .before) in
     let found = c .before .before .probe-tested .ensures in
     probe-accepted job (a .separators .now) (a .bound) (job-accepted .0 e)

@@ -15,7 +15,7 @@ use Rattle.dynamic.proofs.fill_row.Tie as tie
 
 abbrev Inv-loop : tie.InvT-loop
 Inv-loop speeds weights scratch₀ before row p speed pointer₀ i₀ scratch pointer i =
-    Filling (jobOf weights speeds) scratch₀ scratch row p (pointer₀ .moves) i (pointer .at) (pointer .moves)
+    Filling (jobOf speeds weights) scratch₀ scratch row p (pointer₀ .moves) i (pointer .at) (pointer .moves)
 
 abbrev μ-loop : tie.MeasureT-loop
 μ-loop speeds weights scratch₀ before row p speed pointer₀ i₀ scratch pointer i = suc (length weights) - i
@@ -43,7 +43,7 @@ module _ (c : tie.At-loop Inv-loop μ-loop) where
   start = c .before .before .before .before .before .before
 
   abbrev job : Job
-  job = jobOf (start .args .weights .now) (start .args .speeds .now)
+  job = jobOf (start .args .speeds .now) (start .args .weights .now)
 
   still-ready : RowReady job (c .loop .scratch) (start .args .before) (start .args .p)
   still-ready = writing-ready (start .pre .0) (start .pre .1 .0) (c .loop .inv .writing)

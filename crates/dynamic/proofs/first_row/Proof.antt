@@ -13,7 +13,7 @@ use Rattle.dynamic.proofs.first_row.Statement.{statement}
 use Rattle.dynamic.proofs.first_row.Tie as tie
 
 abbrev Inv-loop : tie.InvT-loop
-Inv-loop speeds weights scratch₀ row i₀ scratch i = Writing (jobOf weights speeds) scratch₀ scratch row 0 i
+Inv-loop speeds weights scratch₀ row i₀ scratch i = Writing (jobOf speeds weights) scratch₀ scratch row 0 i
 
 abbrev μ-loop : tie.MeasureT-loop
 μ-loop speeds weights scratch₀ row i₀ scratch i = suc (length weights) - i
@@ -21,7 +21,7 @@ abbrev μ-loop : tie.MeasureT-loop
 loop-holds : tie.Need-loop-holds Inv-loop μ-loop
 loop-holds c =
     let a = c .before .before .before .args in
-    writing-start (jobOf (a .weights .now) (a .speeds .now)) (a .scratch .now) (a .row) 0
+    writing-start (jobOf (a .speeds .now) (a .weights .now)) (a .scratch .now) (a .row) 0
 
 part-bound-requires : tie.Need-part-bound-requires Inv-loop μ-loop
 part-bound-requires c κs =

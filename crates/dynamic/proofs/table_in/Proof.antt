@@ -12,7 +12,7 @@ use Rattle.dynamic.proofs.table_in.Statement.{statement}
 use Rattle.dynamic.proofs.table_in.Tie as tie
 
 abbrev Inv-loop : tie.InvT-loop
-Inv-loop speeds weights scratch₀ n row₀ other₀ pointer₀ p₀ scratch row other pointer p = Tabling (jobOf weights speeds) scratch₀ scratch row other p (pointer .moves)
+Inv-loop speeds weights scratch₀ n row₀ other₀ pointer₀ p₀ scratch row other pointer p = Tabling (jobOf speeds weights) scratch₀ scratch row other p (pointer .moves)
 
 abbrev μ-loop : tie.MeasureT-loop
 μ-loop speeds weights scratch₀ n row₀ other₀ pointer₀ p₀ scratch row other pointer p = length speeds - p

@@ -23,7 +23,7 @@ entry-requires c κs = omega (arith, c .before .before .before .pre .0 .inside, 
 
 -- The value of the row before.
 here-is : (c : tie.After-entry)
-    → c .entry .result ≡ tableValue (jobOf (c .before .before .before .before .args .weights .now) (c .before .before .before .before .args .speeds .now)) (c .before .before .before .before .args .p) (c .before .before .before .before .args .at)
+    → c .entry .result ≡ tableValue (jobOf (c .before .before .before .before .args .speeds .now) (c .before .before .before .before .args .weights .now)) (c .before .before .before .before .args .p) (c .before .before .before .before .args .at)
 here-is c =
     let s = c .before .before .before .before in
     c .entry .ensures ∙ s .pre .0 .row .entries (s .args .at) (omega (arith, at-le s))
@@ -31,7 +31,7 @@ here-is c =
 returns : tie.Need-returns
 returns c =
     let s = c .before .before .before .before .before in
-    let job = jobOf (s .args .weights .now) (s .args .speeds .now) in
+    let job = jobOf (s .args .speeds .now) (s .args .weights .now) in
     here-is (c .before) ∙ ap (tableValue job (s .args .p)) (c .if1 .taken) ∙ value-first job (s .args .p) (s .args .i) (sym (s .pre .1 .1 .1) ∙ c .if1 .taken)
 
 sub-next-part : tie.Need-sub-next-part
@@ -48,7 +48,7 @@ module _ (c : tie.After-next-part) where
   start = c .before .before .before .before .before .before
 
   abbrev job : Job
-  job = jobOf (start .args .weights .now) (start .args .speeds .now)
+  job = jobOf (start .args .speeds .now) (start .args .weights .now)
 
   part-is : c .next-part .result ≡ partBound job (suc (start .args .p)) (start .args .at - 1) (start .args .i)
   part-is = c .next-part .ensures

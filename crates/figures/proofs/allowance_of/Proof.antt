@@ -20,7 +20,7 @@ cast-result : tie.Need-cast-result
 cast-result c = omega (arith, count-fits (c .before .before .before .pre))
 
 returns : tie.Need-returns
-returns c = allowance-table (jobOf (c .before .before .before .args .weights .now) (c .before .before .before .args .speeds .now)) (c .before .before .before .args .method) (c .if1 .taken)
+returns c = allowance-table (jobOf (c .before .before .before .args .speeds .now) (c .before .before .before .args .weights .now)) (c .before .before .before .args .method) (c .if1 .taken)
 
 sub-result-2 : tie.Need-sub-result-2
 sub-result-2 c = search needs
@@ -35,7 +35,7 @@ cast-result-2 : tie.Need-cast-result-2
 cast-result-2 c = omega (arith, count-fits (c .before .before .before .before .pre))
 
 returns-2 : tie.Need-returns-2
-returns-2 c = allowance-bidding (jobOf (c .before .before .before .before .args .weights .now) (c .before .before .before .before .args .speeds .now)) (c .before .before .before .before .args .method) (c .if2 .taken)
+returns-2 c = allowance-bidding (jobOf (c .before .before .before .before .args .speeds .now) (c .before .before .before .before .args .weights .now)) (c .before .before .before .before .args .method) (c .if2 .taken)
 
 difference-of-requires : tie.Need-difference-of-requires
 difference-of-requires c κs = search needs
@@ -49,7 +49,7 @@ add-result-2 c = search needs
 returns-3 : tie.Need-returns-3
 returns-3 c =
     let s = c .before .before .before .before .before in
-    let job : Job = jobOf (s .args .weights .now) (s .args .speeds .now) in
+    let job : Job = jobOf (s .args .speeds .now) (s .args .weights .now) in
     allowance-bisection job (s .args .method) (c .difference-of .result) (omega arith) (omega arith) (c .difference-of .ensures)
     (subst (λ (d : ℕ). d < 2 ^ 64) (sym (c .difference-of .ensures)) (difference-fits {job = job} (s .pre)))
 

@@ -33,7 +33,7 @@ wide-requires-3 c κs = search needs
 mul-result : tie.Need-mul-result
 mul-result c =
     let s = c .before .before .before .before .before .before .before .before in
-    let job : Job = jobOf (s .args .weights .now) (s .args .speeds .now) in
+    let job : Job = jobOf (s .args .speeds .now) (s .args .weights .now) in
     let h : c .before .before .before .before .wide .result ≡ heaviest job = c .before .before .before .before .wide .ensures ∙ c .before .before .before .before .before .greatest-of .ensures in
     let f : c .before .before .wide2 .result ≡ fastest job = c .before .before .wide2 .ensures ∙ c .before .before .before .greatest-of2 .ensures in
     let l : c .wide3 .result ≡ slowest job = c .wide3 .ensures ∙ c .before .least-of .ensures in
@@ -42,7 +42,7 @@ mul-result c =
 mul-result-2 : tie.Need-mul-result-2
 mul-result-2 c =
     let s = c .before .before .before .before .before .before .before .before in
-    let job : Job = jobOf (s .args .weights .now) (s .args .speeds .now) in
+    let job : Job = jobOf (s .args .speeds .now) (s .args .weights .now) in
     let h : c .before .before .before .before .wide .result ≡ heaviest job = c .before .before .before .before .wide .ensures ∙ c .before .before .before .before .before .greatest-of .ensures in
     let f : c .before .before .wide2 .result ≡ fastest job = c .before .before .wide2 .ensures ∙ c .before .before .before .greatest-of2 .ensures in
     let l : c .wide3 .result ≡ slowest job = c .wide3 .ensures ∙ c .before .least-of .ensures in
@@ -51,7 +51,7 @@ mul-result-2 c =
 div-result : tie.Need-div-result
 div-result c =
     let s = c .before .before .before .before .before .before .before .before in
-    let job : Job = jobOf (s .args .weights .now) (s .args .speeds .now) in
+    let job : Job = jobOf (s .args .speeds .now) (s .args .weights .now) in
     let h : c .before .before .before .before .wide .result ≡ heaviest job = c .before .before .before .before .wide .ensures ∙ c .before .before .before .before .before .greatest-of .ensures in
     let f : c .before .before .wide2 .result ≡ fastest job = c .before .before .wide2 .ensures ∙ c .before .before .before .greatest-of2 .ensures in
     let l : c .wide3 .result ≡ slowest job = c .wide3 .ensures ∙ c .before .least-of .ensures in
@@ -61,7 +61,7 @@ returns : tie.Need-returns
 unfolding difference
 returns c =
     let s = c .before .before .before .before .before .before .before .before in
-    let job : Job = jobOf (s .args .weights .now) (s .args .speeds .now) in
+    let job : Job = jobOf (s .args .speeds .now) (s .args .weights .now) in
     let h : c .before .before .before .before .wide .result ≡ heaviest job = c .before .before .before .before .wide .ensures ∙ c .before .before .before .before .before .greatest-of .ensures in
     let f : c .before .before .wide2 .result ≡ fastest job = c .before .before .wide2 .ensures ∙ c .before .before .before .greatest-of2 .ensures in
     let l : c .wide3 .result ≡ slowest job = c .wide3 .ensures ∙ c .before .least-of .ensures in

@@ -9,7 +9,7 @@ use Rattle.figures.proofs.imbalance_of.Statement.{statement}
 use Rattle.figures.proofs.imbalance_of.Tie as tie
 
 returns : tie.Need-returns
-returns c = imbalance-none (jobOf (c .before .before .before .args .weights .now) (c .before .before .before .args .speeds .now)) (c .before .before .before .args .bottleneck) (sym (c .before .before .before .pre .1 .0) ∙ c .if1 .taken)
+returns c = imbalance-none (jobOf (c .before .before .before .args .speeds .now) (c .before .before .before .args .weights .now)) (c .before .before .before .args .bottleneck) (sym (c .before .before .before .pre .1 .0) ∙ c .if1 .taken)
 
 mul-ideal : tie.Need-mul-ideal
 mul-ideal c = record { fits = divisor-fits (c .before .before .before .before .pre .0) (c .before .before .before .before .pre .1 .1) (c .before .before .before .before .pre .1 .2) (c .before .before .before .before .pre .1 .0) refl }

@@ -33,7 +33,7 @@ add-total c =
     omega (
       arith,
       c .wide .ensures,
-      total-fits {job = jobOf (s .args .weights .now) (s .args .speeds .now)} (s .pre) (c .before .before .before .loop .inv) (omega arith),
+      total-fits {job = jobOf (s .args .speeds .now) (s .args .weights .now)} (s .pre) (c .before .before .before .loop .inv) (omega arith),
     )
 
 add-p : tie.Need-add-p Inv-loop μ-loop

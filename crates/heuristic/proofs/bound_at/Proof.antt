@@ -41,7 +41,7 @@ part-bound-requires c κs =
 returns : tie.Need-returns
 returns c =
     let s = c .before .before .before .before .before .before .before .before .before in
-    bound-read (jobOf (s .args .weights .now) (s .args .speeds .now)) (s .args .separators .now) (s .args .p) (c .before .before .before .index .ensures) (c .before .index2 .ensures) (c .part-bound .ensures)
+    bound-read (jobOf (s .args .speeds .now) (s .args .weights .now)) (s .args .separators .now) (s .args .p) (c .before .before .before .index .ensures) (c .before .index2 .ensures) (c .part-bound .ensures)
 
 pub bound-at-spec : {M : Type 1} → statement M
 bound-at-spec =

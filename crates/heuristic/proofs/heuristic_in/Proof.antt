@@ -12,7 +12,7 @@ use Rattle.heuristic.proofs.heuristic_in.Statement.{statement}
 use Rattle.heuristic.proofs.heuristic_in.Tie as tie
 
 abbrev Inv-loop : tie.InvT-loop
-Inv-loop speeds weights sums separators₀ total weight last speed₀ past₀ s₀ p₀ separators speed past s p = Placed (jobOf weights speeds) separators₀ separators total weight p speed past s
+Inv-loop speeds weights sums separators₀ total weight last speed₀ past₀ s₀ p₀ separators speed past s p = Placed (jobOf speeds weights) separators₀ separators total weight p speed past s
 
 abbrev μ-loop : tie.MeasureT-loop
 μ-loop speeds weights sums separators₀ total weight last speed₀ past₀ s₀ p₀ separators speed past s p = length speeds - p

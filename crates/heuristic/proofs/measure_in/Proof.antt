@@ -11,7 +11,7 @@ use Rattle.heuristic.proofs.measure_in.Statement.{statement}
 use Rattle.heuristic.proofs.measure_in.Tie as tie
 
 abbrev Inv-loop : tie.InvT-loop
-Inv-loop speeds weights sums separators last greatest₀ p₀ greatest p = Measured (jobOf weights speeds) separators p greatest
+Inv-loop speeds weights sums separators last greatest₀ p₀ greatest p = Measured (jobOf speeds weights) separators p greatest
 
 abbrev μ-loop : tie.MeasureT-loop
 μ-loop speeds weights sums separators last greatest₀ p₀ greatest p = length speeds - p
@@ -55,7 +55,7 @@ returns : tie.Need-returns Inv-loop μ-loop
 returns c =
     let s = c .before .before .before .before .before .before .before in
     let e = measured-end (c .before .loop .inv) (omega arith) in
-    (e, e ∙ bottleneck-take (jobOf (s .args .weights .now) (s .args .speeds .now)) (s .args .separators .now) (s .pre .0 .valid .some-processor))
+    (e, e ∙ bottleneck-take (jobOf (s .args .speeds .now) (s .args .weights .now)) (s .args .separators .now) (s .pre .0 .valid .some-processor))
 
 pub measure-in-spec : {M : Type 1} → statement M
 measure-in-spec =

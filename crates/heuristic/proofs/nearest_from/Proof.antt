@@ -46,9 +46,9 @@ returns c =
 -- Where the search for the smaller index begins, the index before is as near.
 near : (c : tie.Joined1)
     → let s = c .before .before .before .before .before in
-    s .args .past ≤ tasks (jobOf (s .args .weights .now) (s .args .speeds .now))
-    → off (jobOf (s .args .weights .now) (s .args .speeds .now)) (s .args .target) (s .args .past - 1)
-    ≤ off (jobOf (s .args .weights .now) (s .args .speeds .now)) (s .args .target) (s .args .past)
+    s .args .past ≤ tasks (jobOf (s .args .speeds .now) (s .args .weights .now))
+    → off (jobOf (s .args .speeds .now) (s .args .weights .now)) (s .args .target) (s .args .past - 1)
+    ≤ off (jobOf (s .args .speeds .now) (s .args .weights .now)) (s .args .target) (s .args .past)
 near c h =
     let s = c .before .before .before .before .before in
     ⊎-elim

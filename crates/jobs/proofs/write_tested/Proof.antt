@@ -18,7 +18,7 @@ add-needed c = search needs
 mul-needed : tie.Need-mul-needed
 mul-needed c =
     let s = c .before .before .before in
-    let v : Valid (jobOf (s .args .weights .now) (s .args .speeds .now)) = job-accepted .0 (s .pre) in
+    let v : Valid (jobOf (s .args .speeds .now) (s .args .weights .now)) = job-accepted .0 (s .pre) in
     omega (arith, v .tasks-limit, v .processors-limit, tasks-limit, processors-limit)
 
 returns : tie.Need-returns

@@ -42,7 +42,7 @@ returns : tie.Need-returns
 unfolding partBound
 returns c =
     let s = c .before .before .before .before .before .before .before .before in
-    ap₂ over (c .before .before .wide .ensures ∙ prefix-load (s .pre .0 .prefix) (s .args .a) (s .args .b) (s .pre .1 .1) (s .pre .1 .2)) (c .wide2 .ensures ∙ speed-read (jobOf (s .args .weights .now) (s .args .speeds .now)) (s .args .p) (s .pre .1 .0))
+    ap₂ over (c .before .before .wide .ensures ∙ prefix-load (s .pre .0 .prefix) (s .args .a) (s .args .b) (s .pre .1 .1) (s .pre .1 .2)) (c .wide2 .ensures ∙ speed-read (jobOf (s .args .speeds .now) (s .args .weights .now)) (s .args .p) (s .pre .1 .0))
 
 pub part-bound-spec : {M : Type 1} → statement M
 part-bound-spec =

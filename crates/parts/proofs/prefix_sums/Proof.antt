@@ -9,7 +9,7 @@ use Rattle.parts.proofs.prefix_sums.Statement.{statement}
 use Rattle.parts.proofs.prefix_sums.Tie as tie
 
 abbrev Inv-loop : tie.InvT-loop
-Inv-loop speeds weights sums₀ sum₀ i₀ sums sum i = (length weights < length sums₀) × Summed (jobOf weights speeds) sums₀ sums i sum
+Inv-loop speeds weights sums₀ sum₀ i₀ sums sum i = (length weights < length sums₀) × Summed (jobOf speeds weights) sums₀ sums i sum
 
 abbrev μ-loop : tie.MeasureT-loop
 μ-loop speeds weights sums₀ sum₀ i₀ sums sum i = length weights - i

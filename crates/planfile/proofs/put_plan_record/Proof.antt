@@ -14,9 +14,9 @@ use Rattle.planfile.proofs.put_plan_record.Statement.{statement}
 use Rattle.planfile.proofs.put_plan_record.Tie as tie
 
 -- Where the part begins and ends.
-ends : (s : tie.Start) → Ends (jobOf (s .args .weights .now) (s .args .speeds .now)) (s .args .separators .now) (s .args .p)
+ends : (s : tie.Start) → Ends (jobOf (s .args .speeds .now) (s .args .weights .now)) (s .args .separators .now) (s .args .p)
 ends s =
-    part-ends {job = jobOf (s .args .weights .now) (s .args .speeds .now)} (s .args .separators .now) (s .pre .1 .0) (s .args .p) (s .pre .1 .1 .0)
+    part-ends {job = jobOf (s .args .speeds .now) (s .args .weights .now)} (s .args .separators .now) (s .pre .1 .0) (s .args .p) (s .pre .1 .1 .0)
 
 mul-place : tie.Need-mul-place
 mul-place c = search needs
@@ -81,9 +81,9 @@ returns c =
     let two = load .before .before .before in
     let one = two .before .before .before .before in
     let s = one .before .before .before .before .before .before .before .before .before in
-    record-put (jobOf (s .args .weights .now) (s .args .speeds .now)) (s .args .separators .now) (s .args .p) (load .part-load .result)
+    record-put (jobOf (s .args .speeds .now) (s .args .weights .now)) (s .args .separators .now) (s .args .p) (load .part-load .result)
     (getD (s .args .speeds .now) (s .args .p) 0) (s .args .plan .now) (s .pre .1 .1 .1) (load .part-load .ensures)
-    (speed-read (jobOf (s .args .weights .now) (s .args .speeds .now)) (s .args .p) (s .pre .1 .1 .0)) (one .put-field .ensures) (two .put-field2 .ensures)
+    (speed-read (jobOf (s .args .speeds .now) (s .args .weights .now)) (s .args .p) (s .pre .1 .1 .0)) (one .put-field .ensures) (two .put-field2 .ensures)
     (three .put-field3 .ensures) (four .put-field4 .ensures)
 
 pub put-plan-record-spec : {M : Type 1} → statement M

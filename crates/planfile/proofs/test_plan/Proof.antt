@@ -14,7 +14,7 @@ use Rattle.planfile.proofs.test_plan.Tie as tie
 
 -- Past the job's tests they are all passed.
 abbrev Passed : tie.Start → Type 0
-Passed s = firstRefusal (jobTests (jobOf (s .args .weights .now) (s .args .speeds .now))) ≡ 0
+Passed s = firstRefusal (jobTests (jobOf (s .args .speeds .now) (s .args .weights .now))) ≡ 0
 
 passed : (c : tie.Else1) → Passed (c .before .before .before .before .before)
 passed c = sym (c .before .test-job .ensures) ∙ c .if1 .left
@@ -25,17 +25,17 @@ test-job-requires c κs = search needs
 returns : tie.Need-returns
 returns c =
     let a = c .before .before .before .before .before .args in
-    refused-job (jobOf (a .weights .now) (a .speeds .now)) (a .separators .now) (a .lent) (c .before .test-job .ensures) (c .if1 .taken)
+    refused-job (jobOf (a .speeds .now) (a .weights .now)) (a .separators .now) (a .lent) (c .before .test-job .ensures) (c .if1 .taken)
 
 returns-2 : tie.Need-returns-2
 returns-2 c =
     let a = c .before .before .before .before .before .before .args in
-    sym (few-separators (jobOf (a .weights .now) (a .speeds .now)) (a .separators .now) (a .lent) (passed (c .before)) (c .if2 .taken))
+    sym (few-separators (jobOf (a .speeds .now) (a .weights .now)) (a .separators .now) (a .lent) (passed (c .before)) (c .if2 .taken))
 
 mul-needed : tie.Need-mul-needed
 mul-needed c =
     let a = c .before .before .before .before .before .before .args in
-    let v : Valid (jobOf (a .weights .now) (a .speeds .now)) = job-accepted .0 (passed (c .before)) in
+    let v : Valid (jobOf (a .speeds .now) (a .weights .now)) = job-accepted .0 (passed (c .before)) in
     omega (arith, v .processors-limit, processors-limit)
 
 is-partition-requires : tie.Need-is-partition-requires
@@ -45,14 +45,14 @@ returns-3 : tie.Need-returns-3
 returns-3 c =
     let two = c .before .before in
     let a = two .before .before .before .before .before .before .args in
-    sym (few-bytes (jobOf (a .weights .now) (a .speeds .now)) (a .separators .now) (a .lent) (passed (two .before)) (two .if2 .left) (c .if3 .taken))
+    sym (few-bytes (jobOf (a .speeds .now) (a .weights .now)) (a .separators .now) (a .lent) (passed (two .before)) (two .if2 .left) (c .if3 .taken))
 
 returns-4 : tie.Need-returns-4
 returns-4 c =
     let test = c .before .before in
     let two = test .before in
     let a = two .before .before .before .before .before .before .args in
-    sym (no-division (jobOf (a .weights .now) (a .speeds .now)) (a .separators .now) (a .lent) (passed (two .before)) (two .if2 .left) (c .before .if3 .left)
+    sym (no-division (jobOf (a .speeds .now) (a .weights .now)) (a .separators .now) (a .lent) (passed (two .before)) (two .if2 .left) (c .before .if3 .left)
     (sym (test .is-partition .ensures) ∙ not-true (test .is-partition .result) (c .if4 .taken)))
 
 returns-5 : tie.Need-returns-5
@@ -60,7 +60,7 @@ returns-5 c =
     let test = c .before .before in
     let two = test .before in
     let a = two .before .before .before .before .before .before .args in
-    sym (division (jobOf (a .weights .now) (a .speeds .now)) (a .separators .now) (a .lent) (passed (two .before)) (two .if2 .left) (c .before .if3 .left)
+    sym (division (jobOf (a .speeds .now) (a .weights .now)) (a .separators .now) (a .lent) (passed (two .before)) (two .if2 .left) (c .before .if3 .left)
     (sym (test .is-partition .ensures) ∙ not-false (test .is-partition .result) (c .if4 .left)))
 
 pub test-plan-spec : {M : Type 1} → statement M

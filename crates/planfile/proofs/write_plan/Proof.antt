@@ -16,13 +16,13 @@ use Rattle.planfile.proofs.write_plan.Tie as tie
 
 -- Past the tests nothing is refused.
 abbrev Refusal : tie.Start → ℕ
-Refusal s = writePlanRefusal (jobOf (s .args .weights .now) (s .args .speeds .now)) (s .args .separators .now) (length (s .args .plan .now))
+Refusal s = writePlanRefusal (jobOf (s .args .speeds .now) (s .args .weights .now)) (s .args .separators .now) (length (s .args .plan .now))
 
 zero : (c : tie.Else1) → Refusal (c .before .before .before .before .before .before) ≡ 0
 zero c = sym (c .before .test-plan .ensures) ∙ c .if1 .left
 
 abbrev AcceptedAt : tie.Start → Type 0
-AcceptedAt s = Accepted (jobOf (s .args .weights .now) (s .args .speeds .now)) (s .args .separators .now) (length (s .args .plan .now))
+AcceptedAt s = Accepted (jobOf (s .args .speeds .now) (s .args .weights .now)) (s .args .separators .now) (length (s .args .plan .now))
 
 passed : (c : tie.Else1) → AcceptedAt (c .before .before .before .before .before .before)
 passed c = accepted (zero c)
@@ -33,7 +33,7 @@ test-plan-requires c κs = search needs
 returns : tie.Need-returns
 returns c =
     let a = c .before .before .before .before .before .before .args in
-    wrote-refused (jobOf (a .weights .now) (a .speeds .now)) (a .separators .now) (a .plan .now) (c .before .test-plan .ensures) (c .if1 .taken)
+    wrote-refused (jobOf (a .speeds .now) (a .weights .now)) (a .separators .now) (a .plan .now) (c .before .test-plan .ensures) (c .if1 .taken)
 
 slice-aggregate-prefix-sums : tie.Need-slice-aggregate-prefix-sums
 slice-aggregate-prefix-sums c = search needs
@@ -51,7 +51,7 @@ put-plan-requires c κs =
     let sums = c .before .before .before in
     let e = sums .before .before in
     let a = e .before .before .before .before .before .before .args in
-    let job : Job = jobOf (a .weights .now) (a .speeds .now) in
+    let job : Job = jobOf (a .speeds .now) (a .weights .now) in
     (record { valid = passed e .valid; prefix = subst (Prefix job) (sym (sums .prefix-sums .ensures)) (prefixes-are job _) }, (passed e .partition, passed e .room))
 
 mul-t16 : tie.Need-mul-t16
@@ -66,7 +66,7 @@ returns-2 : tie.Need-returns-2
 returns-2 c =
     let e = c .before .before .before .before .before .before .before .before in
     let a = e .before .before .before .before .before .before .args in
-    wrote-all (jobOf (a .weights .now) (a .speeds .now)) (a .separators .now) (a .plan .now) (zero e) (c .before .before .put-plan .ensures)
+    wrote-all (jobOf (a .speeds .now) (a .weights .now)) (a .separators .now) (a .plan .now) (zero e) (c .before .before .put-plan .ensures)
 
 pub write-plan-spec : {M : Type 1} → statement M
 write-plan-spec =

@@ -23,7 +23,7 @@ probe-in-requires c κs = search needs
 measure-in-requires : tie.Need-measure-in-requires
 measure-in-requires c κs =
     let s = c .before .before .before .before .before .before .before .before .before .before in
-    let job : Job = jobOf (s .args .weights .now) (s .args .speeds .now) in
+    let job : Job = jobOf (s .args .speeds .now) (s .args .weights .now) in
     let v = s .pre .0 .valid in
     let W : Bound = s .args .found .bound in
     let l : List ℕ = drop (suc (length (s .args .speeds .now))) (s .args .separators .now) in
@@ -44,7 +44,7 @@ allowance-of-requires c κs = search needs
 imbalance-of-requires : tie.Need-imbalance-of-requires
 imbalance-of-requires c κs =
     let s = c .before .before .before .before .before .before .before .before .before .before .before .before .before .before in
-    let job : Job = jobOf (s .args .weights .now) (s .args .speeds .now) in
+    let job : Job = jobOf (s .args .speeds .now) (s .args .weights .now) in
     let v = s .pre .0 .valid in
     let W : Bound = s .args .found .bound in
     let l : List ℕ = drop (suc (length (s .args .speeds .now))) (s .args .separators .now) in
@@ -59,7 +59,7 @@ same-length c = search needs
 returns : tie.Need-returns
 returns c =
     let s = c .before .before .before .before .before .before .before .before .before .before .before .before .before .before .before in
-    let job : Job = jobOf (s .args .weights .now) (s .args .speeds .now) in
+    let job : Job = jobOf (s .args .speeds .now) (s .args .weights .now) in
     let v = s .pre .0 .valid in
     let W : Bound = s .args .found .bound in
     let l : List ℕ = drop (suc (length (s .args .speeds .now))) (s .args .separators .now) in

@@ -13,7 +13,7 @@ use Rattle.planner.proofs.plan.Tie as tie
 returns : tie.Need-returns
 returns c =
     let s = c .before .before .before .before .before in
-    let job : Job = jobOf (s .args .weights .now) (s .args .speeds .now) in
+    let job : Job = jobOf (s .args .speeds .now) (s .args .weights .now) in
     let m : ℕ = s .args .method in
     let a : ℕ = length (s .args .separators .now) in
     let b : ℕ = length (s .args .scratch .now) in
@@ -22,7 +22,7 @@ returns c =
 returns-2 : tie.Need-returns-2
 returns-2 c =
     let s = c .before .before .before .before .before .before in
-    let job : Job = jobOf (s .args .weights .now) (s .args .speeds .now) in
+    let job : Job = jobOf (s .args .speeds .now) (s .args .weights .now) in
     let m : ℕ = s .args .method in
     let a : ℕ = length (s .args .separators .now) in
     let b : ℕ = length (s .args .scratch .now) in
@@ -34,7 +34,7 @@ test-job-requires c κs = search needs
 returns-3 : tie.Need-returns-3
 returns-3 c =
     let s = c .before .before .before .before .before .before .before .before in
-    let job : Job = jobOf (s .args .weights .now) (s .args .speeds .now) in
+    let job : Job = jobOf (s .args .speeds .now) (s .args .weights .now) in
     let m : ℕ = s .args .method in
     let a : ℕ = length (s .args .separators .now) in
     let b : ℕ = length (s .args .scratch .now) in
@@ -43,7 +43,7 @@ returns-3 c =
 returns-4 : tie.Need-returns-4
 returns-4 c =
     let s = c .before .before .before .before .before .before .before .before .before in
-    let job : Job = jobOf (s .args .weights .now) (s .args .speeds .now) in
+    let job : Job = jobOf (s .args .speeds .now) (s .args .weights .now) in
     let m : ℕ = s .args .method in
     let a : ℕ = length (s .args .separators .now) in
     let b : ℕ = length (s .args .scratch .now) in
@@ -58,7 +58,7 @@ mul-if5 c = search needs
 returns-5 : tie.Need-returns-5
 returns-5 c =
     let s = c .before .before .before .before .before .before .before .before .before .before in
-    let job : Job = jobOf (s .args .weights .now) (s .args .speeds .now) in
+    let job : Job = jobOf (s .args .speeds .now) (s .args .weights .now) in
     let m : ℕ = s .args .method in
     let a : ℕ = length (s .args .separators .now) in
     let b : ℕ = length (s .args .scratch .now) in
@@ -67,7 +67,7 @@ returns-5 c =
 plan-in-requires : tie.Need-plan-in-requires
 plan-in-requires c κs =
     let s = c .before .before .before .before .before .before .before .before .before .before .before .before in
-    let job : Job = jobOf (s .args .weights .now) (s .args .speeds .now) in
+    let job : Job = jobOf (s .args .speeds .now) (s .args .weights .now) in
     let m : ℕ = s .args .method in
     let a : ℕ = length (s .args .separators .now) in
     let b : ℕ = length (s .args .scratch .now) in
@@ -82,7 +82,7 @@ same-length-2 c = search needs
 returns-6 : tie.Need-returns-6
 returns-6 c =
     let s = c .before .before .before .before .before .before .before .before .before .before .before .before .before .before .before .before .before in
-    let job : Job = jobOf (s .args .weights .now) (s .args .speeds .now) in
+    let job : Job = jobOf (s .args .speeds .now) (s .args .weights .now) in
     let m : ℕ = s .args .method in
     let a : ℕ = length (s .args .separators .now) in
     let b : ℕ = length (s .args .scratch .now) in

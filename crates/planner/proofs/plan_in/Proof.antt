@@ -16,7 +16,7 @@ prefix-sums-requires c κs = search needs
 run-method-requires : tie.Need-run-method-requires
 run-method-requires c κs =
     let s = c .before .before .before .before .before .before .before .before .before .before in
-    let job : Job = jobOf (s .args .weights .now) (s .args .speeds .now) in
+    let job : Job = jobOf (s .args .speeds .now) (s .args .weights .now) in
     let v = s .pre .0 in
     let e = c .before .before .before .before .prefix-sums .ensures in
     (summed-ready (s .args .scratch .now) v e, (s .pre .1 .0, omega (arith, s .pre .1 .1, summed-behind job (s .args .scratch .now) e (s .pre .1 .1) .same)))
@@ -24,7 +24,7 @@ run-method-requires c κs =
 close-plan-requires : tie.Need-close-plan-requires
 close-plan-requires c κs =
     let s = c .before .before .before .before .before .before .before .before .before .before .before .before .before .before .before .before .before in
-    let job : Job = jobOf (s .args .weights .now) (s .args .speeds .now) in
+    let job : Job = jobOf (s .args .speeds .now) (s .args .weights .now) in
     let v = s .pre .0 in
     let r = c .before .before .before .before .before .before .run-method .ensures in
     (r .1 .1 .1 .0, (omega (arith, s .pre .1 .0, r .1 .1 .0 .same), (r .0, r .1 .0)))
@@ -38,7 +38,7 @@ same-length-2 c = search needs
 returns : tie.Need-returns
 returns c =
     let s = c .before .before .before .before .before .before .before .before .before .before .before .before .before .before .before .before .before .before .before .before in
-    let job : Job = jobOf (s .args .weights .now) (s .args .speeds .now) in
+    let job : Job = jobOf (s .args .speeds .now) (s .args .weights .now) in
     let v = s .pre .0 in
     let r = c .before .before .before .before .before .before .before .before .before .run-method .ensures in
     let p = c .before .before .close-plan .ensures in (

@@ -44,7 +44,7 @@ same-length-3 c = search needs
 returns-2 : tie.Need-returns-2
 returns-2 c =
     let s = c .before .before .before .before .before .before .before .before .before .before .before in
-    let job : Job = jobOf (s .args .weights .now) (s .args .speeds .now) in
+    let job : Job = jobOf (s .args .speeds .now) (s .args .weights .now) in
     let r = c .before .before .bidding-in in
     let b = behind-start (suc (length (s .args .speeds .now))) (s .args .separators .now) in (
       ends-bidding (s .args .method) (omega arith) (r .ensures .0),
@@ -69,7 +69,7 @@ same-length-5 c = search needs
 returns-3 : tie.Need-returns-3
 returns-3 c =
     let s = c .before .before .before .before .before .before .before .before .before .before .before in
-    let job : Job = jobOf (s .args .weights .now) (s .args .speeds .now) in
+    let job : Job = jobOf (s .args .speeds .now) (s .args .weights .now) in
     let r = c .before .before .bisection-in .ensures in (
       ends-bisection (s .args .method) (omega arith) (omega arith) (r .0),
       (r .1 .0, (r .1 .1, (s .pre .0, behind-start (scratchNeeded job) (s .args .scratch .now)))),

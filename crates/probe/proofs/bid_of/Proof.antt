@@ -15,7 +15,7 @@ part-bound-requires c κs = search needs
 returns : tie.Need-returns
 returns c =
     let s = c .before .before .before .before .before in (
-      bid-stops (jobOf (s .args .weights .now) (s .args .speeds .now)) (s .args .p) (s .pre .1 .1) (s .pre .1 .2) (c .before .one-more .ensures)
+      bid-stops (jobOf (s .args .speeds .now) (s .args .weights .now)) (s .args .p) (s .pre .1 .1) (s .pre .1 .2) (c .before .one-more .ensures)
           (c .part-bound .ensures),
       part-narrow _ _ _ (s .pre .0 .valid) (c .part-bound .ensures),
     )

@@ -14,7 +14,7 @@ use Rattle.probe.proofs.walk_from.Tie as tie
 
 abbrev Inv-loop : tie.InvT-loop
 Inv-loop speeds weights sums bound separators₀ last n best₀ a₀ p₀ separators best a p =
-    Walked (jobOf weights speeds) bound separators₀ separators p a best
+    Walked (jobOf speeds weights) bound separators₀ separators p a best
 
 abbrev μ-loop : tie.MeasureT-loop
 μ-loop speeds weights sums bound separators₀ last n best₀ a₀ p₀ separators best a p = length speeds - p

@@ -18,10 +18,10 @@ use Rattle.search.proofs.bidding_in.Tie as tie
 
 abbrev Inv-loop : tie.InvT-loop
 Inv-loop speeds weights sums separators₀ bound₀ point₀ failures₀ separators bound point failures =
-    Bidden (jobOf weights speeds) bound failures × (Behind (suc (length speeds)) separators₀ separators × Reached (jobOf weights speeds) bound separators point)
+    Bidden (jobOf speeds weights) bound failures × (Behind (suc (length speeds)) separators₀ separators × Reached (jobOf speeds weights) bound separators point)
 
 abbrev μ-loop : tie.MeasureT-loop
-μ-loop speeds weights sums separators₀ bound₀ point₀ failures₀ separators bound point failures = last (jobOf weights speeds) * length weights - failures
+μ-loop speeds weights sums separators₀ bound₀ point₀ failures₀ separators bound point failures = last (jobOf speeds weights) * length weights - failures
 
 ideal-of-requires : tie.Need-ideal-of-requires Inv-loop μ-loop
 ideal-of-requires c κs = search needs
@@ -32,12 +32,15 @@ loop-holds c =
       bidden-start (s .pre .0 .valid) (c .ideal-of .ensures),
       (
         behind-start (suc (length (s .args .speeds .now))) (s .args .separators .now),
-        reached-first (jobOf (s .args .weights .now) (s .args .speeds .now)) (c .ideal-of .result) (s .args .separators .now),
+        reached-first (jobOf (s .args .speeds .now) (s .args .weights .now)) (c .ideal-of .result) (s .args .separators .now),
       ),
     )
 
 walk-from-requires : tie.Need-walk-from-requires Inv-loop μ-loop
-walk-from-requires c κs = search needs
+walk-from-requires c κs =
+    let l = c .before in
+    let s = c .before .before .before .before .before .before .before in
+    (s .pre .0, (l .loop .inv .0 .lendable, (omega (arith, l .loop .inv .1 .0 .same, s .pre .1), l .loop .inv .1 .1)))
 
 enum-told : tie.Need-enum-told Inv-loop μ-loop
 enum-told c = search needs
@@ -52,7 +55,7 @@ returns : tie.Need-returns Inv-loop μ-loop
 returns c =
     let l = c .before .before .before .before .before .before in
     let s = c .before .before .before .before .before .before .before .before .before .before .before .before in
-    let job : Job = jobOf (s .args .weights .now) (s .args .speeds .now) in
+    let job : Job = jobOf (s .args .speeds .now) (s .args .weights .now) in
     let y = c .before .before .before .before .walk-from .ensures in (
       bidden-end (l .loop .inv .0) (fits-outcome job (l .loop .bound) (sym (y .0) ∙ c .enum-told .given .1)),
       behind-is (walk job (l .loop .bound)) (l .loop .inv .1 .0) (y .1),
@@ -65,7 +68,7 @@ parting-requires : tie.Need-parting-requires Inv-loop μ-loop
 parting-requires c κs =
     let l = c .before .before .before .before .before .before .before .before in
     let s = c .before .before .before .before .before .before .before .before .before .before .before .before .before .before in
-    let job : Job = jobOf (s .args .weights .now) (s .args .speeds .now) in
+    let job : Job = jobOf (s .args .speeds .now) (s .args .weights .now) in
     let y = c .before .before .before .before .before .before .walk-from .ensures in
     let f = fails-outcome job (l .loop .bound) (sym (y .0) ∙ c .before .before .answer .given .1) in
     (s .pre .0, failed-written (l .loop .separators) (s .pre .0 .valid) (l .loop .inv .0 .lendable) (f .0) (f .1) (omega (arith, l .loop .inv .1 .0 .same, s .pre .1)) (y .1))
@@ -77,7 +80,7 @@ loop-less : tie.Need-loop-less Inv-loop μ-loop
 loop-less c =
     let l = c .before .before .before .before .before .before .before .before .before in
     let s = c .before .before .before .before .before .before .before .before .before .before .before .before .before .before .before in
-    let job : Job = jobOf (s .args .weights .now) (s .args .speeds .now) in
+    let job : Job = jobOf (s .args .speeds .now) (s .args .weights .now) in
     let f = fails-outcome job (l .loop .bound) (sym (c .before .before .before .before .before .before .before .walk-from .ensures .0) ∙ c .before .before .before .answer .given .1) in
     omega (arith, bidden-room (s .pre .0 .valid) (l .loop .inv .0) (f .0))
 
@@ -85,7 +88,7 @@ loop-again : tie.Need-loop-again Inv-loop μ-loop
 loop-again c =
     let l = c .before .before .before .before .before .before .before .before .before in
     let s = c .before .before .before .before .before .before .before .before .before .before .before .before .before .before .before in
-    let job : Job = jobOf (s .args .weights .now) (s .args .speeds .now) in
+    let job : Job = jobOf (s .args .speeds .now) (s .args .weights .now) in
     let y = c .before .before .before .before .before .before .before .walk-from .ensures in
     let f = fails-outcome job (l .loop .bound) (sym (y .0) ∙ c .before .before .before .answer .given .1) in (
       bidden-next (c .before .before .before .answer .given .0 .0) (s .pre .0 .valid) (l .loop .inv .0) (f .0) (f .1),

@@ -34,7 +34,7 @@ enum-known-answer c = search needs
 bisect-requires : tie.Need-bisect-requires
 bisect-requires c κs =
     let s = c .before .before .before .before .before .before .before .before .before .before .before .before .before in
-    let job : Job = jobOf (s .args .weights .now) (s .args .speeds .now) in
+    let job : Job = jobOf (s .args .speeds .now) (s .args .weights .now) in
     let v = s .pre .0 .valid in
     let b = behind-start (suc (length (s .args .speeds .now))) (s .args .separators .now) in
     let I : Bound = c .before .before .before .before .before .before .before .before .ideal-of .result in
@@ -56,7 +56,7 @@ same-length c = search needs
 returns : tie.Need-returns
 returns c =
     let s = c .before .before .before .before .before .before .before .before .before .before .before in
-    let job : Job = jobOf (s .args .weights .now) (s .args .speeds .now) in
+    let job : Job = jobOf (s .args .speeds .now) (s .args .weights .now) in
     let v = s .pre .0 .valid in
     let b = behind-start (suc (length (s .args .speeds .now))) (s .args .separators .now) in
     let I : Bound = c .before .before .before .before .before .before .ideal-of .result in
@@ -71,7 +71,7 @@ same-length-2 c = search needs
 returns-2 : tie.Need-returns-2
 returns-2 c =
     let s = c .before .before .before .before .before .before .before .before .before .before .before .before .before .before .before .before in
-    let job : Job = jobOf (s .args .weights .now) (s .args .speeds .now) in
+    let job : Job = jobOf (s .args .speeds .now) (s .args .weights .now) in
     let v = s .pre .0 .valid in
     let b = behind-start (suc (length (s .args .speeds .now))) (s .args .separators .now) in
     let I : Bound = c .before .before .before .before .before .before .before .before .before .before .before .ideal-of .result in

@@ -26,8 +26,8 @@ unfolding ideal
 returns c =
     let s = c .before .before .before .before .before .before in
     ap₂ over
-    (c .before .wide .ensures ∙ s .pre .prefix .sums (tasks (jobOf (s .args .weights .now) (s .args .speeds .now))) (omega arith)
-    ∙ weight-all (jobOf (s .args .weights .now) (s .args .speeds .now))) (c .total-speed .ensures)
+    (c .before .wide .ensures ∙ s .pre .prefix .sums (tasks (jobOf (s .args .speeds .now) (s .args .weights .now))) (omega arith)
+    ∙ weight-all (jobOf (s .args .speeds .now) (s .args .weights .now))) (c .total-speed .ensures)
 
 pub ideal-of-spec : {M : Type 1} → statement M
 ideal-of-spec =

@@ -31,7 +31,7 @@ enum-told c = search needs
 measure-in-requires : tie.Need-measure-in-requires
 measure-in-requires c κs =
     let s = c .before .before .before .before .before .before .before .before .before .before .before .before in
-    let job : Job = jobOf (s .args .weights .now) (s .args .speeds .now) in
+    let job : Job = jobOf (s .args .speeds .now) (s .args .weights .now) in
     let M : Bound = c .before .before .before .before .before .before .before .midpoint .result in (
       s .pre .0,
       front-partition (walk job M) (drop (suc (length (s .args .speeds .now))) (s .args .separators .now)) (walk-partition (valid-proper (s .pre .0 .valid)) M)
@@ -47,7 +47,7 @@ same-length c = search needs
 returns : tie.Need-returns
 returns c =
     let s = c .before .before .before .before .before .before .before .before .before .before .before .before .before in
-    let job : Job = jobOf (s .args .weights .now) (s .args .speeds .now) in
+    let job : Job = jobOf (s .args .speeds .now) (s .args .weights .now) in
     let M : Bound = c .before .before .before .before .before .before .before .before .midpoint .result in
     let l : List ℕ = drop (suc (length (s .args .speeds .now))) (s .args .separators .now) in
     let y = c .before .before .before .before .before .before .probe-in .ensures in (
@@ -63,7 +63,7 @@ same-length-2 c = search needs
 returns-2 : tie.Need-returns-2
 returns-2 c =
     let s = c .before .before .before .before .before .before .before .before .before .before .before .before in
-    let job : Job = jobOf (s .args .weights .now) (s .args .speeds .now) in
+    let job : Job = jobOf (s .args .speeds .now) (s .args .weights .now) in
     let M : Bound = c .before .before .before .before .before .before .before .midpoint .result in
     let y = c .before .before .before .before .before .probe-in .ensures in
     let f = fails-outcome job M (sym (y .0) ∙ c .before .answer .given .1) in (

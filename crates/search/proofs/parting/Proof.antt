@@ -10,7 +10,7 @@ use Rattle.search.proofs.parting.Statement.{statement}
 use Rattle.search.proofs.parting.Tie as tie
 
 abbrev Inv-loop : tie.InvT-loop
-Inv-loop speeds weights sums next separators last least₀ a₀ p₀ least a p = Scanned (jobOf weights speeds) next separators p a least
+Inv-loop speeds weights sums next separators last least₀ a₀ p₀ least a p = Scanned (jobOf speeds weights) next separators p a least
 
 abbrev μ-loop : tie.MeasureT-loop
 μ-loop speeds weights sums next separators last least₀ a₀ p₀ least a p = last - p

@@ -14,7 +14,7 @@ mul-if1 c = omega (arith, c .before .before .before .pre .processors-limit, proc
 returns : tie.Need-returns
 returns c =
     let s = c .before .before .before .before in
-    let job : Job = jobOf (s .args .weights .now) (s .args .speeds .now) in
+    let job : Job = jobOf (s .args .speeds .now) (s .args .weights .now) in
     host-short job (s .args .plan .now) (omega arith)
 
 write-best-requires : tie.Need-write-best-requires
@@ -26,7 +26,7 @@ same-length c = search needs
 returns-2 : tie.Need-returns-2
 returns-2 c =
     let s = c .before .before .before .before .before .before .before .before in
-    let job : Job = jobOf (s .args .weights .now) (s .args .speeds .now) in
+    let job : Job = jobOf (s .args .speeds .now) (s .args .weights .now) in
     host-full job (s .args .plan .now) _ (omega arith) (c .before .before .write-best .ensures)
 
 pub plan-read-spec : {M : Type 1} → statement M

@@ -26,7 +26,7 @@ slice-aggregate-put-plan-2 c = search needs
 put-plan-requires : tie.Need-put-plan-requires
 put-plan-requires c κs =
     let s = c .before .before .before .before .before .before .before .before .before .before .before in
-    let job : Job = jobOf (s .args .weights .now) (s .args .speeds .now) in
+    let job : Job = jobOf (s .args .speeds .now) (s .args .weights .now) in
     let g = c .before .before .before .before .before .plan-in .ensures in
     (g .1, (front-partition (planOf job) _ (g .0 .best .partition) (g .0 .separators), s .pre .1))
 
@@ -36,7 +36,7 @@ same-length c = search needs
 returns : tie.Need-returns
 returns c =
     let s = c .before .before .before .before .before .before .before .before .before .before .before .before .before .before in
-    let job : Job = jobOf (s .args .weights .now) (s .args .speeds .now) in
+    let job : Job = jobOf (s .args .speeds .now) (s .args .weights .now) in
     let g = c .before .before .before .before .before .before .before .before .plan-in .ensures .0 in
     best-bytes job _ _ _ (g .best .partition .count) (g .separators) (c .before .before .put-plan .ensures)
 

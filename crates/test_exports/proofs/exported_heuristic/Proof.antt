@@ -1,0 +1,32 @@
+-- `exported_heuristic` meets its contract: number, lists and figures are those of `heuristic`.
+-- Assumes nothing.
+use mathlib.Core.Path.{ap, _∙_}
+use Rattle.calls.specs.declared.Measured.{Measured}
+use Rattle.calls.specs.Answers.{measuredNumber}
+use Rattle.test_exports.specs.Answer.{measuredPut}
+use borrow.Author.Needs.{needs}
+use Rattle.test_exports.proofs.exported_heuristic.Statement.{statement}
+use Rattle.test_exports.proofs.exported_heuristic.Tie as tie
+
+heuristic-requires : tie.Need-heuristic-requires
+heuristic-requires c κs = search needs
+
+put-measured-requires : tie.Need-put-measured-requires
+put-measured-requires c κs = search needs
+
+same-length : tie.Need-same-length
+same-length c = search needs
+
+same-length-2 : tie.Need-same-length-2
+same-length-2 c = search needs
+
+returns : tie.Need-returns
+returns c =
+    let a = c .before .before .before .before .before .before .before .before .before .before .before .before .args in
+    let r = c .before .before .before .before .before .before .heuristic .ensures in
+    let p = c .before .before .put-measured .ensures in
+    (p .0 ∙ ap measuredNumber (r .0), (r .1, p .1 ∙ ap (λ (w : Measured). measuredPut w (a .answer .now)) (r .0)))
+
+pub exported-heuristic-spec : {M : Type 1} → statement M
+exported-heuristic-spec =
+    tie.close (tie.spec heuristic-requires put-measured-requires same-length same-length-2 returns)

@@ -1,0 +1,33 @@
+-- `exported_write_plan` meets its contract: number, lists and figures are those of `write_plan`.
+-- Assumes nothing.
+use mathlib.Core.Path.{ap, _∙_}
+use Rattle.planfile.specs.declared.PlanWritten.{PlanWritten}
+use Rattle.planfile.specs.Answers.{planWrittenNumber}
+use Rattle.test_exports.specs.Answer.{planWrittenPut}
+use borrow.Author.Needs.{needs}
+use Rattle.test_exports.proofs.exported_write_plan.Statement.{statement}
+use Rattle.test_exports.proofs.exported_write_plan.Tie as tie
+
+write-plan-requires : tie.Need-write-plan-requires
+write-plan-requires c κs = search needs
+
+put-plan-written-requires : tie.Need-put-plan-written-requires
+put-plan-written-requires c κs = search needs
+
+same-length : tie.Need-same-length
+same-length c = search needs
+
+same-length-2 : tie.Need-same-length-2
+same-length-2 c = search needs
+
+returns : tie.Need-returns
+returns c =
+    let a = c .before .before .before .before .before .before .before .before .before .before .before .before .before .args in
+    let r = c .before .before .before .before .before .before .write-plan .ensures in
+    let p = c .before .before .put-plan-written .ensures in
+    (p .0 ∙ ap planWrittenNumber (r .0), (r .1, p .1 ∙ ap (λ (w : PlanWritten). planWrittenPut w (a .answer .now)) (r .0)))
+
+pub exported-write-plan-spec : {M : Type 1} → statement M
+exported-write-plan-spec =
+    tie.close
+    (tie.spec write-plan-requires put-plan-written-requires same-length same-length-2 returns)

@@ -1,0 +1,293 @@
+// Every callable function for tests in other languages. None of it is in the planner's archive.
+// Each wrapper returns 0 or the refusal's number. What the function answers goes into the lent `answer`, one number an entry;
+// entries past its end are dropped, and a refusal leaves `answer` as it was.
+ghost use mathlib.Core.Path.{_≡_};
+ghost use Rattle.chain.specs.Job.{jobOf};
+ghost use Rattle.chain.specs.Refusal.{firstRefusal, jobTests};
+ghost use lib.ListN.{length, set};
+ghost use Rattle.jobs.specs.Answers.{readNumber, readAnswer, readSpeeds, readWeights, writtenNumber, writeAnswer, writeBytes};
+ghost use Rattle.calls.specs.Answers.{measuredNumber, measureAnswer, heuristicAnswer, heuristicWrites, probedNumber, probeAnswer, probeWrites};
+ghost use Rattle.planfile.specs.Answers.{planWrittenNumber, writePlanAnswer, writePlanBytes};
+ghost use Rattle.planner.specs.Answers.{plannedNumber, PlanAnswer};
+ghost use Rattle.planner.specs.declared.Planned.{Planned};
+ghost use Rattle.test_exports.specs.Answer.{boundPut, readPut, writtenPut, measuredPut, probedPut, plannedPut, planWrittenPut};
+use bound::Bound;
+use calls::Measured;
+use calls::Probed;
+use calls::heuristic;
+use calls::measure;
+use calls::probe;
+use jobs::JobRead;
+use jobs::JobWritten;
+use jobs::read_job;
+use jobs::test_job;
+use jobs::write_job;
+use parts::wide;
+use planfile::PlanWritten;
+use planfile::write_plan;
+use planner::Planned;
+use planner::plan;
+
+// Inner. Writes an entry if the list is long enough.
+fn put(answer: &mut [u64], i: usize, value: u64)
+    ensures { λ _. ⌜ now (answer .exit) ≡ set (now (answer .entry)) i value ⌝ }
+{
+    if i < answer.len() {
+        answer[i] = value;
+    }
+}
+
+// Inner. A bound's load at entry i, its speed at entry j.
+fn put_bound(answer: &mut [u64], i: usize, j: usize, bound: Bound)
+    ensures { λ _. ⌜ now (answer .exit) ≡ boundPut (now (answer .entry)) i j bound ⌝ }
+{
+    put(answer, i, bound.load);
+    put(answer, j, bound.speed);
+}
+
+// Inner. What reading answers.
+fn put_read(answer: &mut [u64], read: JobRead) -> u32
+    ensures number { λ r. ⌜ r ≡ readNumber read ⌝ }
+    ensures answer { λ _. ⌜ now (answer .exit) ≡ readPut read (now (answer .entry)) ⌝ }
+{
+    match read {
+        JobRead::Refused(number) => number,
+        JobRead::Read { processors, tasks } => {
+            put(answer, 0, processors as u64);
+            put(answer, 1, tasks as u64);
+            0
+        }
+    }
+}
+
+// Inner. What writing a job answers.
+fn put_written(answer: &mut [u64], written: JobWritten) -> u32
+    ensures number { λ r. ⌜ r ≡ writtenNumber written ⌝ }
+    ensures answer { λ _. ⌜ now (answer .exit) ≡ writtenPut written (now (answer .entry)) ⌝ }
+{
+    match written {
+        JobWritten::Refused(number) => number,
+        JobWritten::Written(bytes) => {
+            put(answer, 0, bytes as u64);
+            0
+        }
+    }
+}
+
+// Inner. What a probe answers.
+fn put_probed(answer: &mut [u64], probed: Probed) -> u32
+    ensures number { λ r. ⌜ r ≡ probedNumber probed ⌝ }
+    ensures answer { λ _. ⌜ now (answer .exit) ≡ probedPut probed (now (answer .entry)) ⌝ }
+{
+    match probed {
+        Probed::Refused(number) => number,
+        Probed::Fits => {
+            put(answer, 0, 1);
+            0
+        }
+        Probed::Fails(next) => {
+            put(answer, 0, 0);
+            put_bound(answer, 1, 2, next);
+            0
+        }
+    }
+}
+
+// Inner. What writing a plan answers.
+fn put_plan_written(answer: &mut [u64], written: PlanWritten) -> u32
+    ensures number { λ r. ⌜ r ≡ planWrittenNumber written ⌝ }
+    ensures answer { λ _. ⌜ now (answer .exit) ≡ planWrittenPut written (now (answer .entry)) ⌝ }
+{
+    match written {
+        PlanWritten::Refused(number) => number,
+        PlanWritten::Written(bytes) => {
+            put(answer, 0, bytes as u64);
+            0
+        }
+    }
+}
+
+// Inner. What planning answers.
+fn put_planned(answer: &mut [u64], planned: Planned) -> u32
+    ensures number { λ r. ⌜ r ≡ plannedNumber planned ⌝ }
+    ensures answer { λ _. ⌜ now (answer .exit) ≡ plannedPut planned (now (answer .entry)) ⌝ }
+{
+    match planned {
+        Planned::Refused(number) => number,
+        Planned::Accepted(figures) => {
+            put(answer, 0, wide(figures.count));
+            put(answer, 1, wide(figures.allowance));
+            put_bound(answer, 2, 3, figures.bottleneck);
+            put(answer, 4, figures.imbalance);
+            0
+        }
+    }
+}
+
+// Inner. What measuring and the heuristic answer.
+fn put_measured(answer: &mut [u64], measured: Measured) -> u32
+    ensures number { λ r. ⌜ r ≡ measuredNumber measured ⌝ }
+    ensures answer { λ _. ⌜ now (answer .exit) ≡ measuredPut measured (now (answer .entry)) ⌝ }
+{
+    match measured {
+        Measured::Refused(number) => number,
+        Measured::Bottleneck(bound) => {
+            put_bound(answer, 0, 1, bound);
+            0
+        }
+    }
+}
+
+#[no_mangle]
+pub extern "C" fn exported_test_job(speeds: &[u32], weights: &[u32]) -> u32
+    ensures { λ r.
+        let job = jobOf (now (speeds .entry)) (now (weights .entry)) in
+        ⌜ r ≡ firstRefusal (jobTests job) ⌝ }
+{
+    test_job(speeds, weights)
+}
+
+// The answer: P, N.
+#[no_mangle]
+pub extern "C" fn exported_read_job(
+    file: &[u8],
+    speeds: &mut [u32],
+    weights: &mut [u32],
+    answer: &mut [u64],
+) -> u32
+    ensures number { λ r. ⌜ r ≡ readNumber (readAnswer (now (file .entry)) (length (now (speeds .entry))) (length (now (weights .entry)))) ⌝ }
+    ensures speeds { λ _. ⌜ now (speeds .exit) ≡ readSpeeds (now (file .entry)) (now (speeds .entry)) (now (weights .entry)) ⌝ }
+    ensures weights { λ _. ⌜ now (weights .exit) ≡ readWeights (now (file .entry)) (now (speeds .entry)) (now (weights .entry)) ⌝ }
+    ensures answer { λ _. ⌜ now (answer .exit) ≡ readPut (readAnswer (now (file .entry)) (length (now (speeds .entry))) (length (now (weights .entry)))) (now (answer .entry)) ⌝ }
+{
+    let read = read_job(file, speeds, weights);
+    put_read(answer, read)
+}
+
+// The answer: the bytes written.
+#[no_mangle]
+pub extern "C" fn exported_write_job(
+    speeds: &[u32],
+    weights: &[u32],
+    file: &mut [u8],
+    answer: &mut [u64],
+) -> u32
+    ensures number { λ r.
+        let job = jobOf (now (speeds .entry)) (now (weights .entry)) in
+        ⌜ r ≡ writtenNumber (writeAnswer job (length (now (file .entry)))) ⌝ }
+    ensures bytes { λ _.
+        let job = jobOf (now (speeds .entry)) (now (weights .entry)) in
+        ⌜ now (file .exit) ≡ writeBytes job (now (file .entry)) ⌝ }
+    ensures answer { λ _.
+        let job = jobOf (now (speeds .entry)) (now (weights .entry)) in
+        ⌜ now (answer .exit) ≡ writtenPut (writeAnswer job (length (now (file .entry)))) (now (answer .entry)) ⌝ }
+{
+    let written = write_job(speeds, weights, file);
+    put_written(answer, written)
+}
+
+// The answer: the bottleneck's load, speed.
+#[no_mangle]
+pub extern "C" fn exported_measure(
+    speeds: &[u32],
+    weights: &[u32],
+    separators: &[u32],
+    answer: &mut [u64],
+) -> u32
+    ensures number { λ r.
+        let job = jobOf (now (speeds .entry)) (now (weights .entry)) in
+        ⌜ r ≡ measuredNumber (measureAnswer job (now (separators .entry))) ⌝ }
+    ensures answer { λ _.
+        let job = jobOf (now (speeds .entry)) (now (weights .entry)) in
+        ⌜ now (answer .exit) ≡ measuredPut (measureAnswer job (now (separators .entry))) (now (answer .entry)) ⌝ }
+{
+    let measured = measure(speeds, weights, separators);
+    put_measured(answer, measured)
+}
+
+// The answer: 1 for a fit; or 0 and the next bid's load, speed.
+#[no_mangle]
+pub extern "C" fn exported_probe(
+    speeds: &[u32],
+    weights: &[u32],
+    load: u64,
+    speed: u64,
+    separators: &mut [u32],
+    answer: &mut [u64],
+) -> u32
+    ensures number { λ r.
+        let job = jobOf (now (speeds .entry)) (now (weights .entry)) in
+        ⌜ r ≡ probedNumber (probeAnswer job (record { load = load; speed = speed }) (now (separators .entry))) ⌝ }
+    ensures separators { λ _.
+        let job = jobOf (now (speeds .entry)) (now (weights .entry)) in
+        ⌜ now (separators .exit) ≡ probeWrites job (record { load = load; speed = speed }) (now (separators .entry)) ⌝ }
+    ensures answer { λ _.
+        let job = jobOf (now (speeds .entry)) (now (weights .entry)) in
+        ⌜ now (answer .exit) ≡ probedPut (probeAnswer job (record { load = load; speed = speed }) (now (separators .entry))) (now (answer .entry)) ⌝ }
+{
+    let probed = probe(speeds, weights, Bound { load, speed }, separators);
+    put_probed(answer, probed)
+}
+
+// The answer: the bottleneck's load, speed.
+#[no_mangle]
+pub extern "C" fn exported_heuristic(
+    speeds: &[u32],
+    weights: &[u32],
+    separators: &mut [u32],
+    answer: &mut [u64],
+) -> u32
+    ensures number { λ r.
+        let job = jobOf (now (speeds .entry)) (now (weights .entry)) in
+        ⌜ r ≡ measuredNumber (heuristicAnswer job (now (separators .entry))) ⌝ }
+    ensures separators { λ _.
+        let job = jobOf (now (speeds .entry)) (now (weights .entry)) in
+        ⌜ now (separators .exit) ≡ heuristicWrites job (now (separators .entry)) ⌝ }
+    ensures answer { λ _.
+        let job = jobOf (now (speeds .entry)) (now (weights .entry)) in
+        ⌜ now (answer .exit) ≡ measuredPut (heuristicAnswer job (now (separators .entry))) (now (answer .entry)) ⌝ }
+{
+    let measured = heuristic(speeds, weights, separators);
+    put_measured(answer, measured)
+}
+
+// The answer: count, allowance, the bottleneck's load, speed, imbalance.
+#[no_mangle]
+pub extern "C" fn exported_plan(
+    method: u32,
+    speeds: &[u32],
+    weights: &[u32],
+    separators: &mut [u32],
+    scratch: &mut [u32],
+    answer: &mut [u64],
+) -> u32
+    ensures { λ r.
+        let job = jobOf (now (speeds .entry)) (now (weights .entry)) in
+        ⌜ ((a : Planned) × ((r ≡ plannedNumber a) × (now (answer .exit) ≡ plannedPut a (now (answer .entry))) × PlanAnswer job method (now (separators .entry)) (now (scratch .entry)) (now (separators .exit)) (now (scratch .exit)) a)) ⌝ }
+{
+    let planned = plan(method, speeds, weights, separators, scratch);
+    put_planned(answer, planned)
+}
+
+// The answer: the bytes written.
+#[no_mangle]
+pub extern "C" fn exported_write_plan(
+    speeds: &[u32],
+    weights: &[u32],
+    separators: &[u32],
+    plan: &mut [u8],
+    answer: &mut [u64],
+) -> u32
+    ensures number { λ r.
+        let job = jobOf (now (speeds .entry)) (now (weights .entry)) in
+        ⌜ r ≡ planWrittenNumber (writePlanAnswer job (now (separators .entry)) (length (now (plan .entry)))) ⌝ }
+    ensures bytes { λ _.
+        let job = jobOf (now (speeds .entry)) (now (weights .entry)) in
+        ⌜ now (plan .exit) ≡ writePlanBytes job (now (separators .entry)) (now (plan .entry)) ⌝ }
+    ensures answer { λ _.
+        let job = jobOf (now (speeds .entry)) (now (weights .entry)) in
+        ⌜ now (answer .exit) ≡ planWrittenPut (writePlanAnswer job (now (separators .entry)) (length (now (plan .entry)))) (now (answer .entry)) ⌝ }
+{
+    let written = write_plan(speeds, weights, separators, plan);
+    put_plan_written(answer, written)
+}
