@@ -1,14 +1,14 @@
 -- The laws of the order of bounds. Every later inequality rests on these and on Algebra.
 -- Assumes nothing.
 use Prim.Native.Nat.{ℕ, zero, suc, _+_, _*_, _≤_, _<_}
-use mathlib.Core.Path.{_≡_, refl, sym, subst}
+use mathlib.Core.Path.{_≡_, refl, sym, ap, subst}
 use mathlib.Core.Bool.{Bool, true, false, not}
 use mathlib.Core.Logic.{_⊎_, inl, inr}
 use native.Mathlib.Omega.{arith}
 use native.Mathlib.Nat.{mul-le-mul-right, le-of-mul-le-mul-right}
 use lib.Dec.{T, leb, leb→le, le→leb, nleb→lt, T-not, not-T}
 use Rattle.bound.specs.declared.Bound.{Bound}
-use Rattle.bound.specs.Order.{nought, le, _≼_, _≺_, _≈_, pick, greater, lesser, Real}
+use Rattle.bound.specs.Order.{nought, infinite, le, _≼_, _≺_, _≈_, pick, greater, lesser, Real}
 
 -- What the order says of the products, and back.
 pub open-le : {B C : Bound} → B ≼ C → B .load * C .speed ≤ C .load * B .speed
@@ -167,3 +167,30 @@ lesser-right B C = go (le B C) refl
     go : (t : Bool) → le B C ≡ t → pick t B C ≼ C
     go true e = true-le e
     go false e = le-refl C
+
+-- Which one is the greater, and which the lesser, by the test.
+pub greater-first : (B C : Bound) → le C B ≡ true → B ≡ greater B C
+unfolding greater
+greater-first B C e = ap (λ (t : Bool). pick t B C) (sym e)
+
+pub greater-second : (B C : Bound) → le C B ≡ false → C ≡ greater B C
+unfolding greater
+greater-second B C e = ap (λ (t : Bool). pick t B C) (sym e)
+
+pub lesser-first : (B C : Bound) → le B C ≡ true → B ≡ lesser B C
+unfolding lesser
+lesser-first B C e = ap (λ (t : Bool). pick t B C) (sym e)
+
+pub lesser-second : (B C : Bound) → le B C ≡ false → C ≡ lesser B C
+unfolding lesser
+lesser-second B C e = ap (λ (t : Bool). pick t B C) (sym e)
+
+-- The infinite bound is above every bound with a speed, so the lesser of it and such a bound is that bound.
+pub infinite-real : Real infinite
+infinite-real = record { positive = omega arith }
+
+pub below-infinite : {B : Bound} → 1 ≤ B .speed → B ≺ infinite
+below-infinite h = make-lt (omega arith)
+
+pub lesser-infinite : (B : Bound) → 1 ≤ B .speed → lesser infinite B ≡ B
+lesser-infinite B h = sym (lesser-second infinite B (le-false {B = infinite} {C = B} (below-infinite h)))

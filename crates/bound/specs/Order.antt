@@ -12,6 +12,10 @@ over a b = record { load = a; speed = b }
 abbrev pub nought : Bound
 nought = over 0 1
 
+-- 1/0, above every bound with a speed.
+abbrev pub infinite : Bound
+infinite = over 1 0
+
 -- "its own comparison: a/b ≤ c/d means a × d ≤ c × b"
 unfoldable pub le : Bound → Bound → Bool
 le B C = leb (B .load * C .speed) (C .load * B .speed)

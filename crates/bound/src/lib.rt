@@ -1,7 +1,7 @@
 // A bound: a load over a speed, compared exactly by cross products.
 ghost use Prim.Native.Nat.{_<_, _*_, _+_, _^_};
 ghost use mathlib.Core.Path.{_≡_};
-ghost use Rattle.bound.specs.Order.{le, middle};
+ghost use Rattle.bound.specs.Order.{le, greater, lesser, middle};
 
 pub struct Bound {
     pub load: u64,
@@ -12,12 +12,31 @@ impl Bound {
     // Nought, 0/1.
     pub const ZERO: Bound = Bound { load: 0, speed: 1 };
 
+    // 1/0, above every bound with a speed.
+    pub const INFINITE: Bound = Bound { load: 1, speed: 0 };
+
     // Whether a is at most b. Inner: the two products fit 64 bits.
     pub fn at_most(a: Bound, b: Bound) -> bool
         requires { ⌜ (a .load * b .speed < 2 ^ 64) × (b .load * a .speed < 2 ^ 64) ⌝ }
         ensures { λ r. ⌜ r ≡ le a b ⌝ }
     {
         a.load * b.speed <= b.load * a.speed
+    }
+
+    // The greater of two bounds, the first among equals. Inner: the two products fit 64 bits.
+    pub fn greater(a: Bound, b: Bound) -> Bound
+        requires { ⌜ (b .load * a .speed < 2 ^ 64) × (a .load * b .speed < 2 ^ 64) ⌝ }
+        ensures { λ r. ⌜ r ≡ greater a b ⌝ }
+    {
+        if Bound::at_most(b, a) { a } else { b }
+    }
+
+    // The lesser of two bounds, the first among equals. Inner: the two products fit 64 bits.
+    pub fn lesser(a: Bound, b: Bound) -> Bound
+        requires { ⌜ (a .load * b .speed < 2 ^ 64) × (b .load * a .speed < 2 ^ 64) ⌝ }
+        ensures { λ r. ⌜ r ≡ lesser a b ⌝ }
+    {
+        if Bound::at_most(a, b) { a } else { b }
     }
 
     // Half the sum of a and b. Inner: its load and its speed fit 64 bits.

@@ -12,7 +12,7 @@ use Rattle.bound.proofs.Order.{make-le, lt-le, not-both}
 use Rattle.chain.specs.Lists.{sumTo, isFirst}
 use Rattle.chain.specs.Job.{Job, tasks, last, speedOf, partLoad, totalWeight, totalSpeed, partBound, ideal}
 use Rattle.chain.specs.Probe.{separator, fits, bid, nextBid}
-use Rattle.chain.specs.Search.{bidding}
+use Rattle.chain.specs.Bidding.{bidding}
 use Rattle.chain.proofs.Parts.{Proper, part-left, weight-all}
 use Rattle.chain.proofs.Indices.{first-holds, first-fails, first-exists}
 use Rattle.chain.proofs.Bottleneck.{processors-last}

@@ -16,7 +16,8 @@ use Rattle.chain.specs.Lists.{isFirst, digits}
 use Rattle.chain.specs.Job.{Job, tasks, processors, last, heaviest, fastest, slowest, partBound, boundAt, bottleneck, ideal}
 use Rattle.chain.specs.Probe.{separator, walk, fits, bid, nextBid}
 use Rattle.chain.specs.Heuristic.{heuristic}
-use Rattle.chain.specs.Search.{Ends, firstEnds, narrow, ends, meet}
+use Rattle.chain.specs.declared.Ends.{Ends}
+use Rattle.chain.specs.Bisection.{firstEnds, nextEnds, ends, meet}
 use Rattle.chain.specs.Plan.{difference}
 use Rattle.chain.proofs.Parts.{Proper}
 use Rattle.chain.proofs.Indices.{first-fails, first-exists}
@@ -119,8 +120,8 @@ module _ {job : Job} (ok : Proper job) where
       }
 
   -- A round keeps all that, and halves the gap.
-  pub bracket-turn : {n : ℕ} {E : Ends} → Bracket job n E → Bracket job (2 * n) (narrow job E)
-  unfolding narrow
+  pub bracket-turn : {n : ℕ} {E : Ends} → Bracket job n E → Bracket job (2 * n) (nextEnds job E)
+  unfolding nextEnds
   bracket-turn {n} {E} b = go (fits job M) refl
     where
       M : Bound
@@ -157,7 +158,7 @@ module _ {job : Job} (ok : Proper job) where
   unfolding ends
   bracket-after t zero = bracket-start t
   bracket-after t (suc k) =
-      subst (λ (n : ℕ). Bracket job n (narrow job (ends job k))) (let e : 2 * 2 ^ k ≡ 2 ^ suc k = omega arith in e)
+      subst (λ (n : ℕ). Bracket job n (nextEnds job (ends job k))) (let e : 2 * 2 ^ k ≡ 2 ^ suc k = omega arith in e)
       (bracket-turn (bracket-after t k))
 
   -- Ends that do not meet are apart.

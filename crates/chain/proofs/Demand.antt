@@ -14,8 +14,11 @@ use Rattle.chain.specs.Lists.{digits}
 use Rattle.chain.specs.Job.{Job, tasks, last, Partition, bottleneck, ideal}
 use Rattle.chain.specs.Probe.{walk, fits}
 use Rattle.chain.specs.Dynamic.{tableValue, moves}
-use Rattle.chain.specs.Search.{bidding, ends, meet}
-use Rattle.chain.specs.Plan.{leastBottleneck, planOf, Best, Method, table, biddings, bisection, BisectionEnds, at-once, after, MethodEnds, difference, allowance, imbalance, Plan, PlanBy}
+use Rattle.chain.specs.Bidding.{bidding}
+use Rattle.chain.specs.Bisection.{ends, meet}
+use Rattle.chain.specs.declared.Method.{Method}
+use Rattle.chain.specs.declared.Method.the-variants.{Table, Bidding, Bisection}
+use Rattle.chain.specs.Plan.{leastBottleneck, planOf, Best, BisectionEnds, at-once, after, MethodEnds, difference, allowance, imbalance, Plan, PlanBy}
 use Rattle.chain.proofs.Parts.{Proper}
 use Rattle.chain.proofs.Indices.{first-holds, first-unique}
 use Rattle.chain.proofs.Bottleneck.{bottleneck-real, bottleneck-le, within-bottleneck}
@@ -61,9 +64,9 @@ module _ {job : Job} (ok : Proper job) where
 
   -- Every method ends at the least bound that fits.
   pub method-least : (m : Method) (n : ℕ) (B : Bound) → MethodEnds m job n B → Least job B
-  method-least table n B x = subst (Least job) (sym (x .yields)) table-least-bound
-  method-least biddings n B x = subst (Least job) (sym (x .yields)) (bidding-least ok (x .failures) (x .first-fit))
-  method-least bisection n B x = bisection-bound x
+  method-least Table n B x = subst (Least job) (sym (x .yields)) table-least-bound
+  method-least Bidding n B x = subst (Least job) (sym (x .yields)) (bidding-least ok (x .failures) (x .first-fit))
+  method-least Bisection n B x = bisection-bound x
     where
       bisection-bound : {n : ℕ} {B : Bound} → BisectionEnds job n B → Least job B
       bisection-bound (at-once t c e) = subst (Least job) (sym e) (ideal-least-bound t)
@@ -80,9 +83,9 @@ module _ {job : Job} (ok : Proper job) where
   -- Every method's count is within its allowance.
   pub method-allowed : (m : Method) (n : ℕ) (B : Bound) → MethodEnds m job n B → n ≤ allowance m job
   unfolding allowance
-  method-allowed table n B x = subst (λ (n : ℕ). n ≤ last job * tasks job) (sym (x .counted)) (moves-allowed ok)
-  method-allowed biddings n B x = omega (arith, x .counted, bidding-allowed ok (x .failures) (x .first-fit))
-  method-allowed bisection n B x = bisection-count x
+  method-allowed Table n B x = subst (λ (n : ℕ). n ≤ last job * tasks job) (sym (x .counted)) (moves-allowed ok)
+  method-allowed Bidding n B x = omega (arith, x .counted, bidding-allowed ok (x .failures) (x .first-fit))
+  method-allowed Bisection n B x = bisection-count x
     where
       bisection-count : {n : ℕ} {B : Bound} → BisectionEnds job n B → n ≤ 1 + digits (difference job)
       bisection-count (at-once t c e) = omega arith
@@ -90,13 +93,13 @@ module _ {job : Job} (ok : Proper job) where
 
   -- Every method ends.
   pub method-ends : (m : Method) → (n : ℕ) × (B : Bound) × MethodEnds m job n B
-  method-ends table = (moves job, tableValue job (last job) (tasks job), record { counted = refl; yields = refl })
-  method-ends biddings =
+  method-ends Table = (moves job, tableValue job (last job) (tasks job), record { counted = refl; yields = refl })
+  method-ends Bidding =
       let e = bidding-ends ok in
       (suc (e .0), bidding job (e .0), record { failures = e .0; first-fit = e .2; counted = refl; yields = refl })
-  method-ends bisection = go (fits job (ideal job)) refl
+  method-ends Bisection = go (fits job (ideal job)) refl
     where
-      go : (t : Bool) → fits job (ideal job) ≡ t → (n : ℕ) × (B : Bound) × MethodEnds bisection job n B
+      go : (t : Bool) → fits job (ideal job) ≡ t → (n : ℕ) × (B : Bound) × MethodEnds Bisection job n B
       go true e = (1, ideal job, at-once (subst T (sym e) tt) refl refl)
       go false e =
           let t : T (not (fits job (ideal job))) = subst (λ (x : Bool). T (not x)) (sym e) tt in
@@ -105,10 +108,10 @@ module _ {job : Job} (ok : Proper job) where
 
   -- The count of a method is one number.
   pub method-counts : (m : Method) (n k : ℕ) (B C : Bound) → MethodEnds m job n B → MethodEnds m job k C → n ≡ k
-  method-counts table n k B C x y = x .counted ∙ sym (y .counted)
-  method-counts biddings n k B C x y =
+  method-counts Table n k B C x y = x .counted ∙ sym (y .counted)
+  method-counts Bidding n k B C x y =
       x .counted ∙ ap suc (first-unique (λ j. fits job (bidding job j)) (x .failures) (y .failures) (x .first-fit) (y .first-fit)) ∙ sym (y .counted)
-  method-counts bisection n k B C x y = same x y
+  method-counts Bisection n k B C x y = same x y
     where
       same : {n k : ℕ} {B C : Bound} → BisectionEnds job n B → BisectionEnds job k C → n ≡ k
       same (at-once t c e) (at-once u d f) = c ∙ sym d

@@ -10,9 +10,10 @@ use native.Mathlib.Nat.{le-trans, lt-of-le-of-lt, mul-le-mul, mul-le-mul-left, m
 use lib.Dec.{T, leb, ltb, leb→le, le→leb, lit<, lit≤}
 use lib.ListN.{length, getD, take, drop, take-append-drop}
 use Rattle.bound.specs.declared.Bound.{Bound}
-use Rattle.bound.specs.Order.{pick, middle}
+use Rattle.bound.specs.Order.{infinite, pick, lesser, middle}
 use Rattle.bound.proofs.Order.{lesser-cases}
 use Rattle.chain.specs.Limits.{maxTasks, maxWeight, maxProcessors, maxSpeed, maxBoundLoad, maxBoundSpeed}
+use Rattle.chain.specs.Ranges.{Small, Lendable, Narrow}
 use Rattle.chain.specs.Lists.{sum, greatestOf, leastOf, sumTo}
 use Rattle.chain.specs.Job.{Job, tasks, processors, last, speedOf, Valid, partWeight, partLoad, totalWeight, totalSpeed, heaviest, fastest, slowestOf, slowest, partBound, at, boundAt, bottleneck, ideal}
 use Rattle.chain.specs.Probe.{separator, bid, leastBidTo, nextBid}
@@ -140,18 +141,6 @@ sum-positive : (xs : List ℕ) → 1 ≤ length xs → ((i : ℕ) → 1 ≤ getD
 unfolding sum
 sum-positive [] l h = absurd (let z : ⊥ = omega arith in z)
 sum-positive (x ∷ xs) l h = omega (arith, h 0)
-
--- A bound as parts, bottlenecks and bids have it.
-pub record Small (B : Bound) : Type 0 where
-  pub load-small : B .load ≤ maxTasks * maxWeight
-  pub speed-positive : 1 ≤ B .speed
-  pub speed-small : B .speed ≤ maxSpeed
-
--- "A lent bound has a load of at most 100,000,000,000,000 and a speed of 1 to 1,000,000,000".
-pub record Lendable (B : Bound) : Type 0 where
-  pub load-lent : B .load ≤ maxBoundLoad
-  pub speed-positive : 1 ≤ B .speed
-  pub speed-lent : B .speed ≤ maxBoundSpeed
 
 module _ {job : Job} (v : Valid job) where
   -- All weight is within the limit of a load.
@@ -296,6 +285,30 @@ probe-products s t = (
   lt-of-le-of-lt (mul-le-mul (s .load-small) (t .speed-lent)) load-by-lent-speed,
   lt-of-le-of-lt (mul-le-mul (t .load-lent) (s .speed-small)) lent-load-by-speed,
 )
+
+-- The products of a comparison of two small bounds.
+pub small-products : {B C : Bound} → Small B → Small C → (B .load * C .speed < 2 ^ 64) × (C .load * B .speed < 2 ^ 64)
+small-products s t = probe-products s (small-lendable t)
+
+-- A small bound is narrow, and so are the infinite one and the lesser of two narrow ones.
+pub small-narrow : {B : Bound} → Small B → Narrow B
+small-narrow s = record { load-fits = small-fits s .0; speed-fits = small-fits s .1 }
+
+pub infinite-narrow : Narrow infinite
+infinite-narrow = record { load-fits = lit< tt; speed-fits = lit< tt }
+
+pub lesser-narrow : {B C : Bound} → Narrow B → Narrow C → Narrow (lesser B C)
+lesser-narrow {B} {C} b c = lesser-cases Narrow B C b c
+
+-- The products of a comparison of two narrow bounds.
+pub narrow-products : {B C : Bound} → Narrow B → Narrow C → (B .load * C .speed < 2 ^ 64) × (C .load * B .speed < 2 ^ 64)
+narrow-products b c = (product (b .load-fits) (c .speed-fits), product (c .load-fits) (b .speed-fits))
+  where
+    product : {m n : ℕ} → m < 2 ^ 32 → n < 2 ^ 32 → m * n < 2 ^ 64
+    product {m} {n} h k =
+        let a : m ≤ 2 ^ 32 - 1 = omega arith in
+        let b : n ≤ 2 ^ 32 - 1 = omega arith in
+        lt-of-le-of-lt (mul-le-mul a b) (lit< tt)
 
 -- The midpoint's load and speed, as they are computed.
 pub middle-products : {B C : Bound} → Small B → Small C

@@ -12,7 +12,8 @@ use Rattle.bound.proofs.Order.{le-refl, le-trans, lt-le, lt-le-trans, not-both,
 use Rattle.chain.specs.Lists.{sumTo}
 use Rattle.chain.specs.Job.{Job, tasks, last, partBound}
 use Rattle.chain.specs.Dynamic.{candidate, crossingOf, lesserAt, tableValue, crossing, movesTo, moves}
-use Rattle.chain.specs.Plan.{allowance, table}
+use Rattle.chain.specs.Plan.{allowance}
+use Rattle.chain.specs.declared.Method.the-variants.{Table}
 use Rattle.chain.proofs.Indices.{Smallest, smallest-is}
 use Rattle.chain.proofs.Parts.{Proper, part-empty, part-right, part-left, part-real}
 use Rattle.chain.proofs.Cover.{Cover}
@@ -203,7 +204,7 @@ module _ {job : Job} (ok : Proper job) where
   moves-are-crossings = sum-same (λ p. moves-to-crossing p (tasks job)) (last job)
 
   -- The moves made are within the allowance.
-  pub moves-allowed : moves job ≤ allowance table job
+  pub moves-allowed : moves job ≤ allowance Table job
   unfolding allowance
   moves-allowed =
       omega (arith, moves-are-crossings, sum-le (tasks job) (λ p. crossing-le p (tasks job)) (last job))

@@ -1,10 +1,12 @@
 pub mod Limits
+pub mod Ranges
 pub mod Lists
 pub mod Job
 pub mod Probe
 pub mod Heuristic
 pub mod Dynamic
-pub mod Search
+pub mod Bidding
+pub mod Bisection
 pub mod Plan
 pub mod Refusal
 pub mod Marked

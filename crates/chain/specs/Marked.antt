@@ -6,13 +6,17 @@ use lib.ListN.{length}
 use lib.Dec.{eqb}
 use Rattle.bound.specs.declared.Bound.{Bound}
 use Rattle.bound.specs.Order.{over}
+use Rattle.chain.specs.declared.Method.the-variants.{Table, Bidding, Bisection}
+use Rattle.chain.specs.declared.Outcome.{Outcome}
+use Rattle.chain.specs.declared.Outcome.the-variants.{Fits, Fails}
 use Rattle.chain.specs.Lists.{isFirst}
 use Rattle.chain.specs.Job.{Job, jobOf, processors, last, tasks, bottleneck, ideal}
-use Rattle.chain.specs.Probe.{walk, fits, Outcome, fitting, failing, probe}
+use Rattle.chain.specs.Probe.{walk, fits, probe}
 use Rattle.chain.specs.Heuristic.{heuristic}
 use Rattle.chain.specs.Dynamic.{tableValue, moves}
-use Rattle.chain.specs.Search.{bidding, ends, meet}
-use Rattle.chain.specs.Plan.{planOf, table, biddings, bisection, allowance, imbalance}
+use Rattle.chain.specs.Bidding.{bidding}
+use Rattle.chain.specs.Bisection.{ends, meet}
+use Rattle.chain.specs.Plan.{planOf, allowance, imbalance}
 use Rattle.chain.specs.Refusal.{refusal}
 
 -- The same list; the same pair, load and speed.
@@ -73,19 +77,19 @@ measureRefusal job s =
     (record { methods = []; lists = record { needed = suc (processors job); given = length s } ∷ []; bounds = []; divisions = s ∷ [] })
 
 unfoldable pub isFailing : Outcome → Bound → Bool
-isFailing fitting C = false
-isFailing (failing B) C = samePair B C
+isFailing Fits C = false
+isFailing (Fails B) C = samePair B C
 
 unfoldable pub isFitting : Outcome → Bool
-isFitting fitting = true
-isFitting (failing B) = false
+isFitting Fits = true
+isFitting (Fails B) = false
 
 -- The row says what the definitions give.
 unfoldable pub holds : Row → Bool
 holds (planned job s B i n a) =
     sameList (planOf job) s && samePair (bottleneck job s) B && eqb (imbalance job B) i && endsAt job s n
-    && eqb (allowance table job) (a .byTable) && eqb (allowance biddings job) (a .byBidding)
-    && eqb (allowance bisection job) (a .byBisection)
+    && eqb (allowance Table job) (a .byTable) && eqb (allowance Bidding job) (a .byBidding)
+    && eqb (allowance Bisection job) (a .byBisection)
 holds (fitsWith job B s) = isFitting (probe job B) && sameList (walk job B) s
 holds (failsWith job B C) = isFailing (probe job B) C
 holds (quick job s B) = sameList (heuristic job) s && samePair (bottleneck job s) B

@@ -6,11 +6,14 @@ use mathlib.Core.List.{List, [], _∷_, _++_, map}
 use lib.Dec.{T, eqb}
 use Rattle.bound.specs.declared.Bound.{Bound}
 use Rattle.bound.specs.Order.{nought, lesser, _≼_, _≈_}
+use Rattle.chain.specs.declared.Method.{Method}
+use Rattle.chain.specs.declared.Method.the-variants.{Table, Bidding, Bisection}
 use Rattle.chain.specs.Lists.{digits, isFirst}
 use Rattle.chain.specs.Job.{Job, tasks, last, totalWeight, totalSpeed, heaviest, fastest, slowest, at, Partition, bottleneck, ideal}
 use Rattle.chain.specs.Probe.{walk, fits}
 use Rattle.chain.specs.Dynamic.{tableValue, moves}
-use Rattle.chain.specs.Search.{bidding, ends, meet}
+use Rattle.chain.specs.Bidding.{bidding}
+use Rattle.chain.specs.Bisection.{ends, meet}
 
 -- The lists of separators from a on, each made longer in front by b, for every b from a to a + d.
 unfoldable pub spread : (ℕ → List (List ℕ)) → ℕ → ℕ → List (List ℕ)
@@ -47,10 +50,6 @@ pub record Best (job : Job) (s : List ℕ) : Type 0 where
   pub least : (t : List ℕ) → Partition job t → bottleneck job s ≼ bottleneck job t
   pub furthest : (t : List ℕ) → Partition job t → bottleneck job t ≈ bottleneck job s → (p : ℕ) → at t p ≤ at s p
 
--- "The three methods"
-pub data Method : Type 0 where
-  table biddings bisection : Method
-
 -- The table ends with B(P,N). "Count: the moves made"
 pub record TableEnds (job : Job) (count : ℕ) (found : Bound) : Type 0 where
   pub counted : count ≡ moves job
@@ -72,9 +71,9 @@ pub data BisectionEnds (job : Job) (count : ℕ) (found : Bound) : Type 0 where
 
 -- The method ends with this count and this bottleneck found.
 abbrev pub MethodEnds : Method → Job → ℕ → Bound → Type 0
-MethodEnds table job count found = TableEnds job count found
-MethodEnds biddings job count found = BiddingEnds job count found
-MethodEnds bisection job count found = BisectionEnds job count found
+MethodEnds Table job count found = TableEnds job count found
+MethodEnds Bidding job count found = BiddingEnds job count found
+MethodEnds Bisection job count found = BisectionEnds job count found
 
 -- "D = ⌊heaviest·fastest²/slowest⌋"
 unfoldable pub difference : Job → ℕ
@@ -82,9 +81,9 @@ difference job = heaviest job * (fastest job * fastest job) / slowest job
 
 -- "table at most (P−1)·N, bidding at most (P−1)·N+1, bisection at most 1 + binary digits of D"
 unfoldable pub allowance : Method → Job → ℕ
-allowance table job = last job * tasks job
-allowance biddings job = last job * tasks job + 1
-allowance bisection job = 1 + digits (difference job)
+allowance Table job = last job * tasks job
+allowance Bidding job = last job * tasks job + 1
+allowance Bisection job = 1 + digits (difference job)
 
 -- "the imbalance: 1000 × (bottleneck − ideal) / ideal, rounded down, and 0 if Wtot is 0"
 unfoldable pub imbalance : Job → Bound → ℕ

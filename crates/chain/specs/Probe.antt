@@ -5,6 +5,8 @@ use mathlib.Core.List.{List, [], _∷_, _++_}
 use lib.Dec.{ltb}
 use Rattle.bound.specs.declared.Bound.{Bound}
 use Rattle.bound.specs.Order.{pick, lesser}
+use Rattle.chain.specs.declared.Outcome.{Outcome}
+use Rattle.chain.specs.declared.Outcome.the-variants.{Fits, Fails}
 use Rattle.chain.specs.Lists.{tabulate, greatestFrom}
 use Rattle.chain.specs.Job.{Job, tasks, last, partBound, within}
 
@@ -41,9 +43,5 @@ unfoldable pub nextBid : Job → Bound → Bound
 nextBid job B = leastBidTo job B (last job)
 
 -- The answer of a probe: it fits, or it "fails .. with the least next bid".
-pub data Outcome : Type 0 where
-  fitting : Outcome
-  failing : Bound → Outcome
-
 unfoldable pub probe : Job → Bound → Outcome
-probe job B = elim (fits job B) [ true ↦ fitting | false ↦ failing (nextBid job B) ]
+probe job B = elim (fits job B) [ true ↦ Fits | false ↦ Fails (nextBid job B) ]

@@ -1,1 +1,21 @@
-// The problem: definitions in specs/, theorems about them in proofs/. No code.
+// The problem: definitions in specs/, theorems about them in proofs/, and the types that the definitions share with the code.
+use bound::Bound;
+
+// The methods of planning, by table, by bidding and by bisection.
+pub enum Method {
+    Table,
+    Bidding,
+    Bisection,
+}
+
+// The answer of a probe ("trial at a bound"): it fits, or it fails with the least next bid.
+pub enum Outcome {
+    Fits,
+    Fails(Bound),
+}
+
+// The two ends of bisection.
+pub struct Ends {
+    pub low: Bound,
+    pub high: Bound,
+}
