@@ -18,3 +18,4 @@ pub mod Ranges
 pub mod Refusals
 pub mod Table
 pub mod Walk
+pub mod Counts

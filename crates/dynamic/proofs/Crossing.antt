@@ -10,43 +10,24 @@ use native.Mathlib.Nat.{mul-le-mul}
 use lib.Dec.{lit<}
 use lib.ListN.{getD}
 use Rattle.bound.specs.declared.Bound.{Bound}
-use Rattle.bound.specs.Order.{le, pick, greater, lesser}
-use Rattle.bound.proofs.Order.{le-true, greater-cases}
+use Rattle.bound.specs.Order.{le, lesser}
+use Rattle.bound.proofs.Order.{le-true, greater-cases, greater-first, greater-second}
 use Rattle.chain.specs.Limits.{maxTasks, maxProcessors}
 use Rattle.chain.specs.Lists.{sumTo}
 use Rattle.chain.specs.Job.{Job, Valid, tasks, processors, speedOf, partBound}
 use Rattle.chain.specs.Dynamic.{candidate, crossingOf, lesserAt, tableValue, crossing, movesTo}
 use Rattle.chain.proofs.Indices.{Smallest, smallest-is}
 use Rattle.chain.proofs.Parts.{valid-proper, part-empty}
-use Rattle.chain.proofs.Ranges.{Small, part-small, small-lendable, probe-products}
+use Rattle.chain.specs.Ranges.{Small}
+use Rattle.chain.proofs.Ranges.{part-small}
 use Rattle.chain.proofs.Table.{crossing-le, table-attained, moves-to-crossing}
 use Rattle.parts.proofs.Laws.{speed-read}
-
--- The greater and the lesser of two bounds, by the test's answer.
-greater-first : (B C : Bound) → le C B ≡ true → greater B C ≡ B
-unfolding greater
-greater-first B C e = ap (λ (t : Bool). pick t B C) e
-
-greater-second : (B C : Bound) → le C B ≡ false → greater B C ≡ C
-unfolding greater
-greater-second B C e = ap (λ (t : Bool). pick t B C) e
-
-lesser-first : (B C : Bound) → le B C ≡ true → lesser B C ≡ B
-unfolding lesser
-lesser-first B C e = ap (λ (t : Bool). pick t B C) e
-
-lesser-second : (B C : Bound) → le B C ≡ false → lesser B C ≡ C
-unfolding lesser
-lesser-second B C e = ap (λ (t : Bool). pick t B C) e
 
 -- What the code's test of two bounds says of the bounds that they are.
 pub tested : {B C X Y : Bound} {r t : Bool} → B ≡ X → C ≡ Y → r ≡ le B C → r ≡ t → le X Y ≡ t
 tested e f h k = sym (ap₂ le e f) ∙ sym h ∙ k
 
--- Two small bounds can be compared.
-pub small-products : {B C : Bound} → Small B → Small C → (B .load * C .speed < 2 ^ 64) × (C .load * B .speed < 2 ^ 64)
-small-products s t = probe-products s (small-lendable t)
-
+-- A bound that is small, by the bound that it is.
 pub small-same : {B C : Bound} → B ≡ C → Small C → Small B
 small-same e s = subst Small (sym e) s
 
@@ -118,7 +99,7 @@ module _ (job : Job) (p i : ℕ) where
   pub value-first : crossing job p i ≡ 0 → tableValue job p 0 ≡ tableValue job (suc p) i
   unfolding tableValue crossing lesserAt candidate
   value-first e =
-      sym (ap (lesserAt (candidate job (tableValue job p) (suc p) i)) e ∙ greater-first (tableValue job p 0) (partBound job (suc p) 0 i) (subst (λ (k : ℕ). stops k ≡ true) e crossing-stops))
+      sym (ap (lesserAt (candidate job (tableValue job p) (suc p) i)) e ∙ sym (greater-first (tableValue job p 0) (partBound job (suc p) 0 i) (subst (λ (k : ℕ). stops k ≡ true) e crossing-stops)))
 
   value-later : (c : ℕ) → crossing job p i ≡ suc c
       → tableValue job (suc p) i ≡ lesser (tableValue job p (suc c)) (partBound job (suc p) c i)
@@ -126,21 +107,11 @@ module _ (job : Job) (p i : ℕ) where
   value-later c e =
       ap (lesserAt (candidate job (tableValue job p) (suc p) i)) e
       ∙ ap₂ lesser
-      (greater-first (tableValue job p (suc c)) (partBound job (suc p) (suc c) i) (subst (λ (k : ℕ). stops k ≡ true) e crossing-stops))
-      (greater-second (tableValue job p c) (partBound job (suc p) c i) (crossing-is .before c (omega arith) (omega arith)))
+      (sym (greater-first (tableValue job p (suc c)) (partBound job (suc p) (suc c) i) (subst (λ (k : ℕ). stops k ≡ true) e crossing-stops)))
+      (sym (greater-second (tableValue job p c) (partBound job (suc p) c i) (crossing-is .before c (omega arith) (omega arith))))
 
-  value-here : (at : ℕ) → at ≡ crossing job p i → (at ≡ 0 → ⊥)
+  pub value-here : (at : ℕ) → at ≡ crossing job p i → (at ≡ 0 → ⊥)
       → tableValue job (suc p) i ≡ lesser (tableValue job p at) (partBound job (suc p) (at - 1) i)
   value-here at e n =
       let s : suc (at - 1) ≡ at = omega arith in
       value-later (at - 1) (sym e ∙ sym s) ∙ ap (λ (k : ℕ). lesser (tableValue job p k) (partBound job (suc p) (at - 1) i)) s
-
-  pub value-at-crossing : (at : ℕ) → at ≡ crossing job p i → (at ≡ 0 → ⊥)
-      → le (tableValue job p at) (partBound job (suc p) (at - 1) i) ≡ true → tableValue job p at ≡ tableValue job (suc p) i
-  value-at-crossing at e n t =
-      sym (value-here at e n ∙ lesser-first (tableValue job p at) (partBound job (suc p) (at - 1) i) t)
-
-  pub value-before-crossing : (at : ℕ) → at ≡ crossing job p i → (at ≡ 0 → ⊥)
-      → le (tableValue job p at) (partBound job (suc p) (at - 1) i) ≡ false → partBound job (suc p) (at - 1) i ≡ tableValue job (suc p) i
-  value-before-crossing at e n t =
-      sym (value-here at e n ∙ lesser-second (tableValue job p at) (partBound job (suc p) (at - 1) i) t)

@@ -14,7 +14,7 @@ use Rattle.chain.specs.Lists.{sumTo}
 use Rattle.chain.specs.Job.{Job, Valid, tasks, processors, last, partBound}
 use Rattle.chain.specs.Dynamic.{tableValue, crossing, movesTo, moves}
 use Rattle.chain.proofs.Parts.{valid-proper}
-use Rattle.chain.proofs.Ranges.{Small}
+use Rattle.chain.specs.Ranges.{Small}
 use Rattle.chain.proofs.Table.{crossing-le, crossing-grows, moves-to-crossing}
 use Rattle.parts.specs.Prefix.{Ready}
 use Rattle.dynamic.specs.Rows.{entryAt, stored, RowAt, Kept, RowReady, Places, Advanced, Filled, FirstRow, Tabled}

@@ -3,7 +3,7 @@
 ghost use Prim.Native.Nat.{suc, _+_, _*_, _≤_, _<_, _^_};
 ghost use mathlib.Core.Path.{_≡_};
 ghost use lib.ListN.{length};
-ghost use Rattle.chain.specs.Job.{Job, jobOf, tasks, speedOf, partBound};
+ghost use Rattle.chain.specs.Job.{Job, jobOf, tasks, speedOf};
 ghost use Rattle.chain.specs.Dynamic.{tableValue, crossing};
 ghost use Rattle.parts.specs.Prefix.{Ready};
 ghost use Rattle.dynamic.specs.Rows.{entryAt, stored, RowReady, Places, Advanced, Filled, FirstRow, Tabled};
@@ -41,29 +41,6 @@ fn put(scratch: &mut [u32], row: usize, i: usize, value: Bound)
     scratch[at + 1] = value.speed as u32;
 }
 
-// Inner. The bound of the part from a to b in the row after row p, whose processor has this speed.
-fn next_part(
-    speeds: &[u32],
-    weights: &[u32],
-    sums: &[u32],
-    p: usize,
-    speed: u64,
-    a: usize,
-    b: usize,
-) -> Bound
-    ghost { Job }
-    requires { λ job. ⌜ jobOf (now speeds) (now weights) ≡ job ⌝ }
-    requires { λ job. ⌜ Ready job (now sums) ⌝ }
-    requires { λ job. ⌜ speed ≡ speedOf job (suc p) ⌝ }
-    requires { λ job. ⌜ (a ≤ b) × (b ≤ tasks job) ⌝ }
-    ensures { λ job r. ⌜ r ≡ partBound job (suc p) a b ⌝ }
-{
-    Bound {
-        load: wide(sums[b] - sums[a]),
-        speed,
-    }
-}
-
 // Inner. The pointer moves on to the crossing of i in the row after row p, which begins at `before`. At i at the latest it
 // stops: the part is empty there.
 fn advance(
@@ -72,7 +49,7 @@ fn advance(
     scratch: &[u32],
     before: usize,
     p: usize,
-    speed: u64,
+    speed: u32,
     i: usize,
     start: Pointer,
 ) -> Pointer
@@ -86,7 +63,7 @@ fn advance(
     let mut at = start.at;
     let mut moves = start.moves;
     loop {
-        let part = next_part(speeds, weights, scratch, p, speed, at, i);
+        let part = part_bound(speed, scratch, at, i);
         if Bound::at_most(part, entry(scratch, before, at)) {
             return Pointer { at, moves };
         }
@@ -103,7 +80,7 @@ fn value_at(
     scratch: &[u32],
     before: usize,
     p: usize,
-    speed: u64,
+    speed: u32,
     i: usize,
     at: usize,
 ) -> Bound
@@ -118,12 +95,8 @@ fn value_at(
     if at == 0 {
         return here;
     }
-    let part = next_part(speeds, weights, scratch, p, speed, at - 1, i);
-    if Bound::at_most(here, part) {
-        here
-    } else {
-        part
-    }
+    let part = part_bound(speed, scratch, at - 1, i);
+    Bound::lesser(here, part)
 }
 
 // Inner. Fills the row after row p; the pointer starts at 0. The speed is read once, before the stores.
@@ -143,7 +116,7 @@ fn fill_row(
     requires { λ job. ⌜ (start .at ≡ 0) × (start .moves + tasks job < 2 ^ 32) ⌝ }
     ensures { λ job r. ⌜ Filled job (now (scratch .entry)) (now (scratch .exit)) row p (start .moves) (r .moves) ⌝ }
 {
-    let speed = wide(speeds[p + 1]);
+    let speed = speeds[p + 1];
     let mut pointer = start;
     let mut i = 0;
     while i <= weights.len() {
@@ -164,9 +137,10 @@ fn first_row(speeds: &[u32], weights: &[u32], scratch: &mut [u32], row: usize)
     requires { λ job. ⌜ (suc (tasks job) ≤ row) × (row + 2 * suc (tasks job) ≤ length (now scratch)) ⌝ }
     ensures { λ job r. ⌜ FirstRow job (now (scratch .entry)) (now (scratch .exit)) row ⌝ }
 {
+    let speed = speeds[0];
     let mut i = 0;
     while i <= weights.len() {
-        let value = part_bound(speeds, weights, scratch, 0, 0, i);
+        let value = part_bound(speed, scratch, 0, i);
         put(scratch, row, i, value);
         i += 1;
     }

@@ -20,13 +20,13 @@ use Rattle.chain.proofs.Parts.{Proper, valid-proper, weight-all}
 use Rattle.chain.proofs.Indices.{length-tabulate, at-tabulate}
 use Rattle.chain.proofs.Ideal.{total-speed-is}
 use Rattle.chain.proofs.Heuristic.{nearest-le, nearest-first, nearest-grows, heuristic-at, heuristic-end, heuristic-partition}
-use Rattle.chain.proofs.Ranges.{speeds-to-limit, index-fits, total-speed-fits, heuristic-products}
+use Rattle.chain.proofs.Ranges.{speeds-to-limit, index-fits, total-speed-positive, total-speed-fits, heuristic-products}
 use Rattle.parts.specs.Prefix.{Prefix, Ready}
-use Rattle.parts.specs.Search.{LastAtMost}
+use Rattle.parts.specs.Rising.{Rising, LastAtMost}
 use Rattle.parts.proofs.Front.{Front, front-store, front-end}
-use Rattle.parts.proofs.Laws.{speed-read, prefix-grows, prefix-fits}
-use Rattle.heuristic.specs.Target.{firstAtLeast, off, nearestTo, Target, Behind, FirstPast}
-use Rattle.heuristic.proofs.Nearest.{smallest-unique, sum-of-behind, first-past-is, nearest-high, nearest-low, targetOf, nearest-to-target, target-grows, target-most, behind-first, behind-more}
+use Rattle.parts.proofs.Laws.{speed-read, prefix-fits}
+use Rattle.heuristic.specs.Target.{firstAtLeast, FirstAbove, off, nearestTo, Target, NonePast, FirstPast}
+use Rattle.heuristic.proofs.Nearest.{smallest-unique, sum-of-behind, first-past-is, nearest-high, nearest-low, targetOf, nearest-to-target, target-grows, target-most, none-first, none-more}
 
 -- The sum of the speeds of the first p processors.
 pub record SpeedTo (job : Job) (p total : ℕ) : Type 0 where
@@ -77,21 +77,21 @@ level-first xs h f =
     passed-end (record { from = omega arith; to = h; less = λ k l m. absurd (let z : ⊥ = omega arith in z) }) f
 
 -- Where the prefix sum before b is less, so is every one before it: it is b.
-pub level-all : {job : Job} {xs : List ℕ} {a b limit : ℕ} → Prefix job xs → a < b → b ≤ tasks job → at xs (b - 1) < limit → b ≡ firstAtLeast xs a b limit
-level-all {job} {xs} {a} {b} {limit} p h k e =
+pub level-all : {xs : List ℕ} {a b limit : ℕ} → Rising xs b → a < b → at xs (b - 1) < limit → b ≡ firstAtLeast xs a b limit
+level-all {xs} {a} {b} {limit} w h e =
     passed-end
-    (record { from = omega arith; to = omega arith; less = λ i l m. omega (arith, prefix-grows p i (b - 1) (omega arith) (omega arith)) })
+    (record { from = omega arith; to = omega arith; less = λ i l m. omega (arith, w .up i (b - 1) (omega arith) (omega arith)) })
     (inl refl)
 
 -- Else it is the index after the last less than the limit.
-pub level-after : {job : Job} {xs : List ℕ} {a b limit r : ℕ} → Prefix job xs → a < b → b ≤ tasks job → at xs a < limit → limit ≤ at xs (b - 1)
+pub level-after : {xs : List ℕ} {a b limit r : ℕ} → Rising xs b → a < b → at xs a < limit → limit ≤ at xs (b - 1)
     → LastAtMost xs a (b - 1) (limit - 1) r → r + 1 ≡ firstAtLeast xs a b limit
-level-after {job} {xs} {a} {b} {limit} {r} p g h l m w =
+level-after {xs} {a} {b} {limit} {r} p g l m w =
     passed-end
     (record {
       from = omega (arith, w .from);
       to = omega arith;
-      less = λ k x y. omega (arith, prefix-grows p k r (omega arith) (omega arith), w .below);
+      less = λ k x y. omega (arith, p .up k r (omega arith) (omega (arith, w .to)), w .below);
     })
     (inr (subst (λ (i : ℕ). limit ≤ at xs i) (sym (add-one r)) (omega (arith, w .above short))))
   where
@@ -115,16 +115,40 @@ module _ {job : Job} {xs : List ℕ} {total target : ℕ} (ready : Ready job xs)
       (lt-of-le-of-lt (div-le-of-le-mul (totalSpeed job) (omega (arith, t .most)))
       (subst (λ (n : ℕ). n < 2 ^ 32) (weight-all job) (prefix-fits (ready .valid) (tasks job))))
 
-  pub start-below : {i : ℕ} → Behind job target i → {cap : ℕ} → cap ≡ target / total → at xs (i - 1) ≤ cap
-  start-below {i} b {cap} e =
-      subst (λ (n : ℕ). at xs (i - 1) ≤ n) (sym (e ∙ ap (λ (n : ℕ). target / n) (t .speed)))
+  pub total-positive : 1 ≤ total
+  total-positive = omega (arith, t .speed, total-speed-positive (ready .valid))
+
+  pub start-below : {i : ℕ} → NonePast job target i → at xs (i - 1) ≤ target / total
+  start-below {i} b =
+      subst (λ (n : ℕ). at xs (i - 1) ≤ target / n) (sym (t .speed))
       (sum-of-behind ready (i - 1) (omega (arith, b .to)) (b .before (i - 1) (omega (arith, b .from))))
 
-  pub first-past-of : {i : ℕ} → Behind job target i → {cap r : ℕ} → cap ≡ target / total → LastAtMost xs (i - 1) (tasks job) cap r → FirstPast job target (r + 1)
-  first-past-of {i} b {cap} {r} e w =
-      subst (λ (n : ℕ). FirstPast job target n) (sym (add-one r))
-      (first-past-is ready b
-      (subst (λ (n : ℕ). LastAtMost xs (i - 1) (tasks job) n r) (e ∙ ap (λ (n : ℕ). target / n) (t .speed)) w))
+  pub first-past-of : {i : ℕ} → NonePast job target i → {r : ℕ} → FirstAbove xs i (tasks job) (target / total) r → FirstPast job target r
+  first-past-of {i} b {r} w =
+      subst (λ (n : ℕ). FirstPast job target n) next
+      (first-past-is ready b (subst (λ (n : ℕ). LastAtMost xs (i - 1) (tasks job) (target / n) (r - 1)) (t .speed) found))
+    where
+      next : suc (r - 1) ≡ r
+      next = omega (arith, b .from, w .from)
+
+      found : LastAtMost xs (i - 1) (tasks job) (target / total) (r - 1)
+      found =
+          record {
+            from = omega (arith, w .from);
+            to = omega (arith, w .to, w .from, b .from);
+            below = w .below;
+            above = λ h. subst (λ (n : ℕ). target / total < at xs n) (sym next) (w .above (omega (arith, next)));
+          }
+
+-- The index after the last at most the cap is the first above it.
+pub above-after : {xs : List ℕ} {i n cap c r : ℕ} → 1 ≤ i → c ≡ cap → LastAtMost xs (i - 1) n c r → FirstAbove xs i n cap (r + 1)
+above-after {xs} {i} {n} {cap} {c} {r} h e w =
+    record {
+      from = omega (arith, w .from);
+      to = omega (arith, w .to);
+      below = subst (λ (k : ℕ). at xs k ≤ cap) (let z : r ≡ r + 1 - 1 = omega arith in z) (omega (arith, w .below));
+      above = λ l. subst (λ (k : ℕ). cap < at xs k) (sym (add-one r)) (omega (arith, w .above (omega arith)));
+    }
 
 -- The choice between the first index g past a target and the one before it, whose prefix sums are high and low.
 module _ {job : Job} {xs : List ℕ} {g total target : ℕ} (ready : Ready job xs) (t : Target job total target) (f : FirstPast job target g) where
@@ -170,7 +194,7 @@ pub record Placed (job : Job) (before now : List ℕ) (total weight p speed past
   pub weight-is : weight ≡ totalWeight job
   pub to : p ≤ last job
   pub speeds : SpeedTo job p speed
-  pub behind : Behind job (targetOf job p) past
+  pub behind : NonePast job (targetOf job p) past
   pub near : s ≡ nearest job p
   pub narrow : s < 2 ^ 32
   pub front : Front (at (heuristic job)) (suc p) before now
@@ -185,7 +209,7 @@ placed-start {job} {sums} xs r h x y =
       weight-is = y ∙ r .sums (tasks job) (omega arith) ∙ weight-all job;
       to = omega arith;
       speeds = speed-start;
-      behind = behind-first job (targetOf job 0);
+      behind = none-first job (targetOf job 0);
       near = sym (nearest-first job);
       narrow = lit< tt;
       front = record { same = refl; done = first; rest = λ k l. refl };
@@ -213,9 +237,9 @@ module _ {job : Job} {xs ys : List ℕ} {total weight p speed past s e : ℕ} (v
     placed-target =
         record { speed = w .total-is; most = subst (λ (n : ℕ). n ≤ totalWeight job * totalSpeed job) (sym placed-aim) (target-most job (suc p) (omega arith)) }
 
-    pub placed-behind : Behind job (weight * (speed + e)) past
+    pub placed-behind : NonePast job (weight * (speed + e)) past
     placed-behind =
-        subst (λ (n : ℕ). Behind job n past) (sym placed-aim) (behind-more job (target-grows job p (suc p) (omega arith)) (w .behind))
+        subst (λ (n : ℕ). NonePast job n past) (sym placed-aim) (none-more job (target-grows job p (suc p) (omega arith)) (w .behind))
 
     pub placed-near : s ≤ nearestTo job (weight * (speed + e))
     placed-near =
@@ -239,7 +263,7 @@ module _ {job : Job} {xs ys : List ℕ} {total weight p speed past s e : ℕ} (v
             weight-is = w .weight-is;
             to = h;
             speeds = n;
-            behind = subst (λ (t : ℕ). Behind job t r) placed-aim (f .behind);
+            behind = subst (λ (t : ℕ). NonePast job t r) placed-aim (f .behind);
             near = nearest-next;
             narrow = placed-narrow;
             front = front-store i (w .front) (omega (arith, w .room)) (z ∙ nearest-next ∙ sym (heuristic-at job (suc p) h));

@@ -19,9 +19,9 @@ use Rattle.chain.proofs.Indices.{Smallest, smallest-is, SmallestLeast, smallest
 use Rattle.chain.proofs.Ideal.{total-speed-is, sum-grows}
 use Rattle.chain.proofs.Ranges.{total-speed-positive}
 use Rattle.parts.specs.Prefix.{Ready}
-use Rattle.parts.specs.Search.{LastAtMost}
+use Rattle.parts.specs.Rising.{LastAtMost}
 use Rattle.parts.proofs.Laws.{prefix-grows}
-use Rattle.heuristic.specs.Target.{firstAtLeast, off, nearestTo, Behind, FirstPast}
+use Rattle.heuristic.specs.Target.{firstAtLeast, off, nearestTo, NonePast, FirstPast}
 
 -- There is only one smallest index at which a test holds,
 pub smallest-one : {f : ℕ → Bool} {a d r q : ℕ} → Smallest f a d r → Smallest f a d q → r ≤ q
@@ -132,16 +132,16 @@ module _ (job : Job) where
   target-most p h = rw (total-speed-is job) (target-grows p (processors job) h)
 
   -- At first no index is past the target, and none that was passed before a greater one.
-  pub behind-first : (target : ℕ) → Behind job target 1
-  behind-first target =
+  pub none-first : (target : ℕ) → NonePast job target 1
+  none-first target =
       record {
         from = omega arith;
         to = omega arith;
         before = λ k h. rw (let e : k ≡ 0 = omega arith in e, weight-empty job 0) (omega arith);
       }
 
-  pub behind-more : {t u i : ℕ} → t ≤ u → Behind job t i → Behind job u i
-  behind-more h b = record { from = b .from; to = b .to; before = λ k l. omega (arith, b .before k l) }
+  pub none-more : {t u i : ℕ} → t ≤ u → NonePast job t i → NonePast job u i
+  none-more h b = record { from = b .from; to = b .to; before = λ k l. omega (arith, b .before k l) }
 
 module _ {job : Job} {xs : List ℕ} (r : Ready job xs) where
   speed-positive : 0 < totalSpeed job
@@ -153,7 +153,7 @@ module _ {job : Job} {xs : List ℕ} (r : Ready job xs) where
       subst (λ (n : ℕ). n ≤ target / totalSpeed job) (sym (r .prefix .sums i h)) (le-div-iff-mul-le speed-positive .1 e)
 
   -- The index after the last such one is the first past the target.
-  pub first-past-is : {target i q : ℕ} → Behind job target i → LastAtMost xs (i - 1) (tasks job) (target / totalSpeed job) q → FirstPast job target (suc q)
+  pub first-past-is : {target i q : ℕ} → NonePast job target i → LastAtMost xs (i - 1) (tasks job) (target / totalSpeed job) q → FirstPast job target (suc q)
   first-past-is {target} {i} {q} b w =
       record { behind = record { from = omega arith; to = omega (arith, w .to); before = before }; past = past }
     where

@@ -10,6 +10,13 @@ use Rattle.chain.specs.Job.{Job, tasks, partWeight, totalWeight, totalSpeed, at
 unfoldable pub firstAtLeast : List ℕ → ℕ → ℕ → ℕ → ℕ
 firstAtLeast xs a b limit = smallestFrom (λ i. leb limit (at xs i)) a (b - a)
 
+-- r is the first index from i to n whose entry is above the cap, n + 1 if there is none; the entry before it is not.
+pub record FirstAbove (xs : List ℕ) (i n cap r : ℕ) : Type 0 where
+  pub from : i ≤ r
+  pub to : r ≤ suc n
+  pub below : at xs (r - 1) ≤ cap
+  pub above : r ≤ n → cap < at xs r
+
 -- How far W(1,i) times Etot is from the target.
 abbrev pub off : Job → ℕ → ℕ → ℕ
 off job target i = distance (partWeight job 0 i * totalSpeed job) target
@@ -24,12 +31,12 @@ pub record Target (job : Job) (total target : ℕ) : Type 0 where
   pub most : target ≤ totalWeight job * totalSpeed job
 
 -- No index before i, from 1 to N + 1, is past the target.
-pub record Behind (job : Job) (target i : ℕ) : Type 0 where
+pub record NonePast (job : Job) (target i : ℕ) : Type 0 where
   pub from : 1 ≤ i
   pub to : i ≤ suc (tasks job)
   pub before : (k : ℕ) → k < i → partWeight job 0 k * totalSpeed job ≤ target
 
 -- i is the first index past the target, N + 1 if there is none.
 pub record FirstPast (job : Job) (target i : ℕ) : Type 0 where
-  pub behind : Behind job target i
+  pub behind : NonePast job target i
   pub past : i ≤ tasks job → target < partWeight job 0 i * totalSpeed job

@@ -1,43 +1,31 @@
-// The heuristic of Miguet and Pierson (document 01's quick plan) over prefix sums, and the bottleneck of a partition.
+// The heuristic of Miguet and Pierson (document 01's quick plan) over prefix sums.
 // All functions here are inner: their callers have tested the job.
-ghost use Prim.Native.Nat.{suc, _*_, _^_, _≤_, _<_};
+ghost use Prim.Native.Nat.{suc, _-_, _*_, _/_, _^_, _≤_, _<_};
 ghost use mathlib.Core.Path.{_≡_};
 ghost use mathlib.Core.List.{_++_};
 ghost use lib.Dec.{ltb};
-ghost use lib.ListN.{length, take, drop};
-ghost use Rattle.bound.specs.Order.{greater};
+ghost use lib.ListN.{length, getD, drop};
 ghost use Rattle.chain.specs.Lists.{distance};
-ghost use Rattle.chain.specs.Job.{Job, jobOf, tasks, processors, Partition, boundAt, bottleneck};
+ghost use Rattle.chain.specs.Job.{Job, jobOf, processors};
 ghost use Rattle.chain.specs.Heuristic.{heuristic};
 ghost use Rattle.parts.specs.Prefix.{Ready};
-ghost use Rattle.heuristic.specs.Target.{firstAtLeast, nearestTo, Target, Behind, FirstPast};
-use bound::Bound;
-use figures::total_speed;
-use parts::index;
+ghost use Rattle.parts.specs.Rising.{Rising};
+ghost use Rattle.heuristic.specs.Target.{firstAtLeast, FirstAbove, nearestTo, Target, FirstPast};
 use parts::last_at_most;
 use parts::last_far;
 use parts::narrow;
 use parts::narrow_load;
-use parts::part_bound;
+use parts::total;
 use parts::wide;
 
-// Inner. The first index past the target, where none before i is.
-fn first_past(
-    speeds: &[u32],
-    weights: &[u32],
-    sums: &[u32],
-    i: usize,
-    total: u64,
-    target: u64,
-) -> usize
-    ghost { Job }
-    requires { λ job. ⌜ jobOf (now speeds) (now weights) ≡ job ⌝ }
-    requires { λ job. ⌜ Ready job (now sums) ⌝ }
-    requires { λ job. ⌜ Target job total target ⌝ }
-    requires { λ job. ⌜ Behind job target i ⌝ }
-    ensures { λ job r. ⌜ FirstPast job target r ⌝ }
+// Inner. The first index from i to n whose entry is above the target over the total, n + 1 if there is none. The one before i is not.
+fn first_past(sums: &[u32], n: usize, i: usize, total: u64, target: u64) -> usize
+    requires { ⌜ Rising (now sums) n ⌝ }
+    requires { ⌜ (1 ≤ total) × (target / total < 2 ^ 32) ⌝ }
+    requires { ⌜ (1 ≤ i) × (i ≤ suc n) × (getD (now sums) (i - 1) 0 ≤ target / total) ⌝ }
+    ensures { λ r. ⌜ FirstAbove (now (sums .entry)) i n (target / total) r ⌝ }
 {
-    last_at_most(sums, i - 1, weights.len(), narrow_load(target / total)) + 1
+    last_at_most(sums, i - 1, n, narrow_load(target / total)) + 1
 }
 
 // Inner. Whether high, past the target, is nearer to it than low, not past it, both times all speed.
@@ -50,19 +38,10 @@ fn high_nearer(low: u64, high: u64, total: u64, target: u64) -> bool
 
 // Inner. The smallest index from a to b whose prefix sum is at least the limit, b if there is none. Most often it is b: the one
 // before b is looked at first.
-fn first_level(
-    speeds: &[u32],
-    weights: &[u32],
-    sums: &[u32],
-    a: usize,
-    b: usize,
-    limit: u32,
-) -> usize
-    ghost { Job }
-    requires { λ job. ⌜ jobOf (now speeds) (now weights) ≡ job ⌝ }
-    requires { λ job. ⌜ Ready job (now sums) ⌝ }
-    requires { λ job. ⌜ (a ≤ b) × (b ≤ tasks job) ⌝ }
-    ensures { λ job r. ⌜ r ≡ firstAtLeast (now (sums .entry)) a b limit ⌝ }
+fn first_level(sums: &[u32], a: usize, b: usize, limit: u32) -> usize
+    requires { ⌜ Rising (now sums) b ⌝ }
+    requires { ⌜ a ≤ b ⌝ }
+    ensures { λ r. ⌜ r ≡ firstAtLeast (now (sums .entry)) a b limit ⌝ }
 {
     if a < b {
         if sums[b - 1] < limit {
@@ -100,7 +79,7 @@ fn nearest_from(
             return past;
         }
     }
-    first_level(speeds, weights, sums, s, before, low)
+    first_level(sums, s, before, low)
 }
 
 // Inner. Writes the heuristic's separators to the front of the list.
@@ -111,7 +90,7 @@ pub fn heuristic_in(speeds: &[u32], weights: &[u32], sums: &[u32], separators: &
     requires { λ job. ⌜ processors job < length (now separators) ⌝ }
     ensures { λ job r. ⌜ now (separators .exit) ≡ heuristic job ++ drop (suc (processors job)) (now (separators .entry)) ⌝ }
 {
-    let total = total_speed(speeds, weights);
+    let all_speed = total(speeds);
     let weight = wide(sums[weights.len()]);
     let last = speeds.len() - 1;
     let mut speed = 0u64;
@@ -123,55 +102,9 @@ pub fn heuristic_in(speeds: &[u32], weights: &[u32], sums: &[u32], separators: &
         speed += wide(speeds[p]);
         p += 1;
         let target = weight * speed;
-        past = first_past(speeds, weights, sums, past, total, target);
-        s = nearest_from(speeds, weights, sums, s, past, total, target);
+        past = first_past(sums, weights.len(), past, all_speed, target);
+        s = nearest_from(speeds, weights, sums, s, past, all_speed, target);
         separators[p] = narrow(s);
     }
     separators[last + 1] = narrow(weights.len());
-}
-
-// The greater of two bounds, the first among equals. Inner: the two products fit 64 bits.
-pub fn greater_of(a: Bound, b: Bound) -> Bound
-    requires { ⌜ (b .load * a .speed < 2 ^ 64) × (a .load * b .speed < 2 ^ 64) ⌝ }
-    ensures { λ r. ⌜ r ≡ greater a b ⌝ }
-{
-    if Bound::at_most(b, a) { a } else { b }
-}
-
-// Inner. The bound of processor p's part.
-fn bound_at(speeds: &[u32], weights: &[u32], sums: &[u32], separators: &[u32], p: usize) -> Bound
-    ghost { Job }
-    requires { λ job. ⌜ jobOf (now speeds) (now weights) ≡ job ⌝ }
-    requires { λ job. ⌜ Ready job (now sums) ⌝ }
-    requires { λ job. ⌜ Partition job (take (suc (processors job)) (now separators)) ⌝ }
-    requires { λ job. ⌜ p < processors job ⌝ }
-    ensures { λ job r. ⌜ r ≡ boundAt job (now (separators .entry)) p ⌝ }
-{
-    part_bound(
-        speeds,
-        weights,
-        sums,
-        p,
-        index(separators[p]),
-        index(separators[p + 1]),
-    )
-}
-
-// Inner. The bottleneck of the partition in front of the list.
-pub fn measure_in(speeds: &[u32], weights: &[u32], sums: &[u32], separators: &[u32]) -> Bound
-    ghost { Job }
-    requires { λ job. ⌜ jobOf (now speeds) (now weights) ≡ job ⌝ }
-    requires { λ job. ⌜ Ready job (now sums) ⌝ }
-    requires { λ job. ⌜ Partition job (take (suc (processors job)) (now separators)) ⌝ }
-    ensures { λ job r. ⌜ r ≡ bottleneck job (now (separators .entry)) ⌝ }
-    ensures { λ job r. ⌜ r ≡ bottleneck job (take (suc (processors job)) (now (separators .entry))) ⌝ }
-{
-    let last = speeds.len() - 1;
-    let mut greatest = bound_at(speeds, weights, sums, separators, 0);
-    let mut p = 1;
-    while p <= last {
-        greatest = greater_of(greatest, bound_at(speeds, weights, sums, separators, p));
-        p += 1;
-    }
-    greatest
 }

@@ -11,6 +11,7 @@ use lib.Seq.{getD-set-same, getD-set-other, getD-drop, take-at, drop-at, ext-get
 use Rattle.bound.specs.declared.Bound.{Bound}
 use Rattle.chain.specs.Lists.{tabulate}
 use Rattle.chain.specs.Job.{Job, Partition, processors, bottleneck}
+use Rattle.parts.specs.Kept.{KeptFrom}
 use Rattle.chain.proofs.Indices.{length-tabulate, at-tabulate, after-tabulate}
 
 -- ys is xs with f 0, .. f (n - 1) in front.
@@ -67,25 +68,24 @@ front-of f n xs h =
           ∙ after-tabulate f n (drop n xs) (k - n) ∙ getD-drop n xs (k - n) 0 ∙ ap (λ (i : ℕ). getD xs i 0) (let e : n + (k - n) ≡ k = omega arith in e);
     }
 
--- What is behind the first n entries is as it was.
-pub record Behind (n : ℕ) (before now : List ℕ) : Type 0 where
-  pub same : length now ≡ length before
-  pub rest : drop n now ≡ drop n before
-
-pub behind-start : (n : ℕ) (xs : List ℕ) → Behind n xs xs
-behind-start n xs = record { same = refl; rest = refl }
+-- Nothing changed, so what is behind the first n entries is as it was.
+pub kept-start : (n : ℕ) (xs : List ℕ) → KeptFrom n xs xs
+kept-start n xs = record { same = refl; rest = refl }
 
 -- It stays so where n entries are put in front, and it is then the new list's rest.
-pub behind-written : {n : ℕ} {before now : List ℕ} (new later : List ℕ) → Behind n before now → n ≤ length before → length new ≡ n → later ≡ new ++ drop n now
-    → Behind n before later
-behind-written {n} {before} {now} new later b h l e =
+pub kept-written : {n : ℕ} {before now : List ℕ} (new later : List ℕ) → KeptFrom n before now → n ≤ length before → length new ≡ n → later ≡ new ++ drop n now
+    → KeptFrom n before later
+kept-written {n} {before} {now} new later b h l e =
     record {
       same = omega (arith, ap length e, length-append new (drop n now), length-drop n now, b .same);
       rest = ap (drop n) e ∙ drop-at new (drop n now) n l ∙ b .rest;
     }
 
-pub behind-is : {n : ℕ} {before now later : List ℕ} (new : List ℕ) → Behind n before now → later ≡ new ++ drop n now → later ≡ new ++ drop n before
-behind-is {n} new b e = e ∙ ap (λ (l : List ℕ). new ++ l) (b .rest)
+pub kept-is : {n : ℕ} {before now later : List ℕ} (new : List ℕ) → KeptFrom n before now → later ≡ new ++ drop n now → later ≡ new ++ drop n before
+kept-is {n} new b e = e ∙ ap (λ (l : List ℕ). new ++ l) (b .rest)
+
+pub kept-trans : {n : ℕ} {a b c : List ℕ} → KeptFrom n a b → KeptFrom n b c → KeptFrom n a c
+kept-trans x y = record { same = y .same ∙ x .same; rest = y .rest ∙ x .rest }
 
 -- A list in whose front n entries were written: these entries,
 pub taken : {n : ℕ} (new l : List ℕ) {ys : List ℕ} → length new ≡ n → ys ≡ new ++ l → take n ys ≡ new

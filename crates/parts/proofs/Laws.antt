@@ -1,20 +1,24 @@
 -- What prefix sums say of parts.
 -- Assumes nothing.
 use Prim.Native.Nat.{ℕ, zero, suc, _+_, _-_, _≤_, _<_, _^_}
-use mathlib.Core.Path.{_≡_, refl, sym, ap, subst, _∙_}
+use mathlib.Core.Path.{_≡_, refl, sym, ap, ap₂, subst, _∙_}
 use mathlib.Core.List.{List, [], _∷_, _++_}
 use native.Mathlib.Omega.{arith}
 use native.Mathlib.Numerals.{add-one}
+use native.Mathlib.Nat.{le-trans, lt-of-le-of-lt}
 use lib.Dec.{lit<}
-use lib.ListN.{length, getD, set, length-append, length-set, drop}
+use lib.ListN.{length, getD, set, length-append, length-set, take, drop, take-append-drop}
 use lib.Seq.{getD-set-same, drop-set-lt}
-use Rattle.chain.specs.Lists.{tabulate}
-use Rattle.chain.specs.Job.{Job, Valid, tasks, processors, speedOf, partWeight, partLoad}
-use Rattle.chain.proofs.Parts.{weight-split, weight-empty}
+use Rattle.bound.specs.declared.Bound.{Bound}
+use Rattle.bound.specs.Order.{over}
+use Rattle.chain.specs.Lists.{sum, sumTo, tabulate}
+use Rattle.chain.specs.Job.{Job, Valid, tasks, processors, speedOf, partWeight, partLoad, totalWeight, totalSpeed, partBound}
+use Rattle.chain.proofs.Parts.{sum-append, weight-split}
 use Rattle.chain.proofs.Indices.{length-tabulate, at-tabulate}
-use Rattle.chain.proofs.Extremes.{weight-one}
-use Rattle.chain.proofs.Ranges.{weight-limit, total-weight-limit, loads-fit}
-use Rattle.parts.specs.Prefix.{prefixes, Prefix}
+use Rattle.chain.proofs.Ideal.{sum-is-sumTo, sum-grows}
+use Rattle.chain.proofs.Ranges.{weight-limit, total-weight-limit, total-speed-limit, total-speed-fits, loads-fit}
+use Rattle.parts.specs.Prefix.{prefixes, loadBetween, Prefix, Ready}
+use Rattle.parts.specs.Rising.{Rising}
 use Rattle.parts.proofs.Front.{Front, front-store, front-end}
 
 -- An entry of a list, whatever is read past the end.
@@ -38,67 +42,122 @@ module _ {job : Job} {xs : List ℕ} (r : Prefix job xs) where
   pub prefix-grows : (a b : ℕ) → a ≤ b → b ≤ tasks job → getD xs a 0 ≤ getD xs b 0
   prefix-grows a b h k = omega (arith, prefix-split a b h k)
 
-  pub prefix-load : (a b : ℕ) → a ≤ b → b ≤ tasks job → getD xs b 0 - getD xs a 0 ≡ partLoad job a b
+  pub prefix-rising : Rising xs (tasks job)
+  prefix-rising = record { enough = r .enough; up = prefix-grows }
+
+  pub prefix-load : (a b : ℕ) → a ≤ b → b ≤ tasks job → loadBetween xs a b ≡ partLoad job a b
+  unfolding loadBetween
   prefix-load a b h k = omega (arith, prefix-split a b h k)
 
+  -- So the bound read off them is the part's.
+  pub speed-bound : {e : ℕ} {B : Bound} (p a b : ℕ) → a ≤ b → b ≤ tasks job → e ≡ speedOf job p → B ≡ over (loadBetween xs a b) e
+      → B ≡ partBound job p a b
+  unfolding partBound
+  speed-bound p a b h k e f = f ∙ ap₂ over (prefix-load a b h k) e
+
+  pub prefix-bound : {e : ℕ} {B : Bound} (p a b : ℕ) → p < processors job → a ≤ b → b ≤ tasks job → e ≡ getD (job .speeds) p 0
+      → B ≡ over (loadBetween xs a b) e → B ≡ partBound job p a b
+  prefix-bound p a b l h k e f = speed-bound p a b h k (e ∙ speed-read job p l) f
+
+-- What grows to n grows to any index before it; so the parts up to n can be read.
+pub rising-to : {xs : List ℕ} {m n : ℕ} → m ≤ n → Rising xs n → Rising xs m
+rising-to h w = record { enough = omega (arith, w .enough); up = λ i j k l. w .up i j k (omega arith) }
+
+pub prefix-to : {job : Job} {xs : List ℕ} {b : ℕ} → Ready job xs → b ≤ tasks job → Rising xs b
+prefix-to r h = rising-to h (prefix-rising (r .prefix))
+
+-- A prefix sum by its list.
+weight-front : (job : Job) (i : ℕ) → sum (take i (job .weights)) ≡ partWeight job 0 i
+unfolding partWeight
+weight-front job i = ap (λ (n : ℕ). sum (take n (job .weights))) (let e : i ≡ i - 0 = omega arith in e)
+
 -- The prefix sums in front of any list are prefix sums.
-pub prefixes-are : (job : Job) (l : List ℕ) → Prefix job (prefixes job ++ l)
+pub prefixes-are : (job : Job) (l : List ℕ) → Prefix job (prefixes (job .weights) ++ l)
 unfolding prefixes
 prefixes-are job l =
     record {
       enough =
-          omega (arith, length-append (prefixes job) l, length-tabulate (partWeight job 0) (suc (tasks job)));
-      sums = λ i h. at-tabulate (partWeight job 0) (suc (tasks job)) l i (omega arith);
+          omega (arith, length-append (prefixes (job .weights)) l, length-tabulate (λ i. sum (take i (job .weights))) (suc (tasks job)));
+      sums = λ i h. at-tabulate (λ i. sum (take i (job .weights))) (suc (tasks job)) l i (omega arith) ∙ weight-front job i;
     }
 
--- A prefix sum fits 32 bits.
+-- A prefix sum fits 32 bits, and so does all weight; all speed fits 64.
 pub prefix-fits : {job : Job} → Valid job → (i : ℕ) → partWeight job 0 i < 2 ^ 32
 prefix-fits v i = omega (arith, weight-limit v 0 i, total-weight-limit v, loads-fit)
 
+pub weights-fit : {job : Job} → Valid job → totalWeight job < 2 ^ 32
+weights-fit v = lt-of-le-of-lt (total-weight-limit v) loads-fit
+
+pub speeds-add-up : {job : Job} → Valid job → totalSpeed job < 2 ^ 64
+speeds-add-up {job} v = let h : totalSpeed job ≤ 2 ^ 32 - 1 = omega (arith, total-speed-limit v, total-speed-fits) in lt-of-le-of-lt h (lit< tt)
+
 -- One more weight: what the loop that fills the prefix sums adds.
-pub prefix-next : (job : Job) (i : ℕ) → partWeight job 0 (suc i) ≡ partWeight job 0 i + getD (job .weights) i 0
-prefix-next job i = weight-split job 0 i (suc i) (omega arith) (omega arith) ∙ ap (λ (w : ℕ). partWeight job 0 i + w) (weight-one job i)
+prefix-next : (ws : List ℕ) (i : ℕ) → sum (take (suc i) ws) ≡ sum (take i ws) + getD ws i 0
+unfolding sum
+prefix-next [] zero = refl
+prefix-next [] (suc i) = refl
+prefix-next (x ∷ ws) zero = omega arith
+prefix-next (x ∷ ws) (suc i) = omega (arith, prefix-next ws i)
+
+prefix-below : (ws : List ℕ) (i : ℕ) → sum (take i ws) ≤ sum ws
+prefix-below ws i = omega (arith, sum-append (take i ws) (drop i ws), ap sum (take-append-drop i ws))
 
 -- What the loop keeps: the sum so far, and the list with the sums up to it in front.
-pub record Summed (job : Job) (before now : List ℕ) (i sum : ℕ) : Type 0 where
-  pub to : i ≤ tasks job
-  pub total : sum ≡ partWeight job 0 i
-  pub fits : sum < 2 ^ 32
-  pub front : Front (partWeight job 0) (suc i) before now
+pub record Summed (ws before now : List ℕ) (i total : ℕ) : Type 0 where
+  pub to : i ≤ length ws
+  pub is : total ≡ sum (take i ws)
+  pub front : Front (λ k. sum (take k ws)) (suc i) before now
 
 -- It begins with a list in whose front 0 was stored, and what is behind the sums in the end is what was there before that.
-pub summed-start : {job : Job} (xs : List ℕ) → 0 < length xs → Summed job (set xs 0 0) (set xs 0 0) 0 0
-summed-start {job} xs h =
-    record { to = omega arith; total = sym (weight-empty job 0); fits = lit< tt; front = record { same = refl; done = first; rest = λ k l. refl } }
+pub summed-start : (ws xs : List ℕ) → 0 < length xs → Summed ws (set xs 0 0) (set xs 0 0) 0 0
+unfolding sum
+summed-start ws xs h =
+    record { to = omega arith; is = refl; front = record { same = refl; done = first; rest = λ k l. refl } }
   where
-    first : (k : ℕ) → k < 1 → getD (set xs 0 0) k 0 ≡ partWeight job 0 k
+    first : (k : ℕ) → k < 1 → getD (set xs 0 0) k 0 ≡ sum (take k ws)
     first k l =
-        subst (λ (i : ℕ). getD (set xs 0 0) i 0 ≡ partWeight job 0 i) (let e : 0 ≡ k = omega arith in e)
-        (getD-set-same xs 0 0 0 h ∙ sym (weight-empty job 0))
+        subst (λ (i : ℕ). getD (set xs 0 0) i 0 ≡ sum (take i ws)) (let e : 0 ≡ k = omega arith in e) (getD-set-same xs 0 0 0 h)
 
-pub summed-fits : {job : Job} {xs ys : List ℕ} {i sum : ℕ} → Valid job → Summed job xs ys i sum → sum + getD (job .weights) i 0 < 2 ^ 32
-summed-fits {job} {xs} {ys} {i} v w =
-    subst (λ (n : ℕ). n < 2 ^ 32) (prefix-next job i ∙ ap (λ (n : ℕ). n + getD (job .weights) i 0) (sym (w .total))) (prefix-fits v (suc i))
+pub summed-fits : {ws xs ys : List ℕ} {i total m : ℕ} → sum ws < m → Summed ws xs ys i total → total + getD ws i 0 < m
+summed-fits {ws} {i = i} h w = omega (arith, w .is, prefix-next ws i, prefix-below ws (suc i))
 
-pub summed-turn : {job : Job} {xs ys : List ℕ} {i sum : ℕ} → Valid job → tasks job < length xs → Summed job xs ys i sum → i < tasks job
-    → Summed job xs (set ys (i + 1) (sum + getD (job .weights) i 0)) (i + 1) (sum + getD (job .weights) i 0)
-summed-turn {job} {xs} {ys} {i} {sum} v h w l =
-    subst (λ (k : ℕ). Summed job xs (set ys k (sum + getD (job .weights) i 0)) k (sum + getD (job .weights) i 0)) (sym (add-one i))
-    (record {
-      to = l;
-      total = next;
-      fits = summed-fits v w;
-      front = front-store (sum + getD (job .weights) i 0) (w .front) (omega arith) next;
-    })
+pub summed-turn : {ws xs ys : List ℕ} {i total : ℕ} → length ws < length xs → Summed ws xs ys i total → i < length ws
+    → Summed ws xs (set ys (i + 1) (total + getD ws i 0)) (i + 1) (total + getD ws i 0)
+summed-turn {ws} {xs} {ys} {i} {total} h w l =
+    subst (λ (k : ℕ). Summed ws xs (set ys k (total + getD ws i 0)) k (total + getD ws i 0)) (sym (add-one i))
+    (record { to = l; is = next; front = front-store (total + getD ws i 0) (w .front) (omega arith) next })
   where
-    next : sum + getD (job .weights) i 0 ≡ partWeight job 0 (suc i)
-    next = ap (λ (n : ℕ). n + getD (job .weights) i 0) (w .total) ∙ sym (prefix-next job i)
+    next : total + getD ws i 0 ≡ sum (take (suc i) ws)
+    next = omega (arith, w .is, prefix-next ws i)
 
-pub summed-end : {job : Job} (xs : List ℕ) {ys : List ℕ} {i sum : ℕ} → tasks job < length xs → Summed job (set xs 0 0) ys i sum → tasks job ≤ i
-    → ys ≡ prefixes job ++ drop (suc (tasks job)) xs
+pub summed-end : {ws : List ℕ} (xs : List ℕ) {ys : List ℕ} {i total : ℕ} → length ws < length xs → Summed ws (set xs 0 0) ys i total → length ws ≤ i
+    → ys ≡ prefixes ws ++ drop (suc (length ws)) xs
 unfolding prefixes
-summed-end {job} xs {ys} {i} h w l =
+summed-end {ws} xs {ys} {i} h w l =
     front-end
-    (subst (λ (k : ℕ). Front (partWeight job 0) (suc k) (set xs 0 0) ys) (let e : i ≡ tasks job = omega (arith, w .to) in e) (w .front))
+    (subst (λ (k : ℕ). Front (λ j. sum (take j ws)) (suc k) (set xs 0 0) ys) (let e : i ≡ length ws = omega (arith, w .to) in e) (w .front))
     (omega (arith, length-set xs 0 0))
-    ∙ ap (λ (l : List ℕ). tabulate (partWeight job 0) (suc (tasks job)) ++ l) (drop-set-lt (suc (tasks job)) xs 0 0 (omega arith))
+    ∙ ap (λ (l : List ℕ). tabulate (λ j. sum (take j ws)) (suc (length ws)) ++ l) (drop-set-lt (suc (length ws)) xs 0 0 (omega arith))
+
+-- The sum of a list, so far.
+pub record Total (xs : List ℕ) (p t : ℕ) : Type 0 where
+  pub to : p ≤ length xs
+  pub is : t ≡ sumTo (λ k. getD xs k 0) p
+
+pub total-start : (xs : List ℕ) → Total xs 0 0
+unfolding sumTo
+total-start xs = record { to = omega arith; is = refl }
+
+pub total-next : {xs : List ℕ} {p t : ℕ} → Total xs p t → p < length xs → Total xs (p + 1) (t + getD xs p 0)
+unfolding sumTo
+total-next {xs} {p} {t} w h =
+    record { to = omega arith; is = subst (λ (k : ℕ). t + getD xs p 0 ≡ sumTo (λ k. getD xs k 0) k) (sym (add-one p)) (omega (arith, w .is)) }
+
+pub total-end : {xs : List ℕ} {p t : ℕ} → Total xs p t → length xs ≤ p → t ≡ sum xs
+total-end {xs} {p} {t} w h =
+    w .is ∙ ap (sumTo (λ k. getD xs k 0)) (let e : p ≡ length xs = omega (arith, w .to) in e) ∙ sym (sum-is-sumTo xs 0)
+
+pub total-fits : {xs : List ℕ} {p t m : ℕ} → sum xs < m → Total xs p t → p < length xs → t + getD xs p 0 < m
+unfolding sumTo
+total-fits {xs} {p} {t} {m} s w h =
+    omega (arith, w .is, sum-grows (λ k. getD xs k 0) (suc p) (length xs) h, sum-is-sumTo xs 0)

@@ -1,3 +1,4 @@
 pub mod Front
 pub mod Laws
 pub mod Search
+pub mod Measure

@@ -7,30 +7,19 @@ use native.Mathlib.Omega.{arith}
 use native.Mathlib.Decide.{decLe}
 use native.Mathlib.Numerals.{add-one}
 use lib.ListN.{getD}
-use Rattle.parts.specs.Prefix.{Prefix}
-use Rattle.parts.specs.Search.{Rising, Within, LastAtMost}
-use Rattle.parts.proofs.Laws.{prefix-grows}
-use Rattle.chain.specs.Job.{Job, tasks}
-
--- Prefix sums grow,
-pub prefix-rising : {job : Job} {xs : List ℕ} → Prefix job xs → Rising xs (tasks job)
-prefix-rising p = record { enough = p .enough; up = prefix-grows p }
-
--- and what grows to n grows to any index before it.
-pub rising-to : {xs : List ℕ} {m n : ℕ} → m ≤ n → Rising xs n → Rising xs m
-rising-to h w = record { enough = omega (arith, w .enough); up = λ i j k l. w .up i j k (omega arith) }
+use Rattle.parts.specs.Rising.{Rising, Spanned, LastAtMost}
 
 -- Where the entry is above the cap, so is every later one.
 pub rising-above : {xs : List ℕ} {n cap : ℕ} → Rising xs n → (i j : ℕ) → i ≤ j → j ≤ n → cap < getD xs i 0 → cap < getD xs j 0
 rising-above w i j h k e = omega (arith, w .up i j h k)
 
 -- A halved step: the index stays, or it goes on by what the step has become.
-pub half-stays : {xs : List ℕ} {a n cap low step : ℕ} (half : ℕ) → Within xs a n cap low step → (low + half ≤ n → cap < getD xs (low + half) 0)
-    → Within xs a n cap low half
+pub half-stays : {xs : List ℕ} {a n cap low step : ℕ} (half : ℕ) → Spanned xs a n cap low step → (low + half ≤ n → cap < getD xs (low + half) 0)
+    → Spanned xs a n cap low half
 half-stays half b h = record { from = b .from; to = b .to; below = b .below; above = h }
 
-module _ {xs : List ℕ} {n cap : ℕ} (w : Rising xs n) {a low step : ℕ} (b : Within xs a n cap low step) where
-  pub half-goes : (half : ℕ) → step ≤ half + half → low + half ≤ n → getD xs (low + half) 0 ≤ cap → Within xs a n cap (low + half) half
+module _ {xs : List ℕ} {n cap : ℕ} (w : Rising xs n) {a low step : ℕ} (b : Spanned xs a n cap low step) where
+  pub half-goes : (half : ℕ) → step ≤ half + half → low + half ≤ n → getD xs (low + half) 0 ≤ cap → Spanned xs a n cap (low + half) half
   half-goes half h k e =
       record {
         from = omega (arith, b .from);
@@ -40,7 +29,7 @@ module _ {xs : List ℕ} {n cap : ℕ} (w : Rising xs n) {a low step : ℕ} (b :
       }
 
   -- A step that is no greater than another is as good.
-  pub step-at-most : (most : ℕ) → step ≤ most → Within xs a n cap low most
+  pub step-at-most : (most : ℕ) → step ≤ most → Spanned xs a n cap low most
   step-at-most most h =
       record {
         from = b .from;
@@ -85,7 +74,7 @@ module _ {xs : List ℕ} {n cap low : ℕ} (k : ℕ) {r : ℕ} (w : Rising xs n)
       }
 
 -- What is last up to the entry before the eighth is last where the eighth is above the cap.
-pub near-last : {xs : List ℕ} {a n cap low m r : ℕ} → Within xs a n cap low 8 → low + 8 ≤ n → low + 8 ≡ suc m → LastAtMost xs low m cap r
+pub near-last : {xs : List ℕ} {a n cap low m r : ℕ} → Spanned xs a n cap low 8 → low + 8 ≤ n → low + 8 ≡ suc m → LastAtMost xs low m cap r
     → LastAtMost xs low n cap r
 near-last {xs} {a} {n} {cap} {low} {m} {r} b h e c =
     record {

@@ -1,2 +1,3 @@
 pub mod Prefix
-pub mod Search
+pub mod Rising
+pub mod Kept

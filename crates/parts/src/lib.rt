@@ -1,12 +1,14 @@
-// Prefix sums of the weights, and what is read off them: the bound of a part, and the last index whose sum is at most a cap.
-// All functions here are inner: their callers have tested the job.
+// Prefix sums of the weights, and what is read off them: loads and bounds of parts, the bottleneck of a partition, and the last
+// index whose sum is at most a cap. All functions here are inner: their callers have tested the job.
 ghost use Prim.Native.Nat.{suc, _+_, _≤_, _<_, _^_};
 ghost use mathlib.Core.Path.{_≡_};
 ghost use mathlib.Core.List.{_++_};
-ghost use lib.ListN.{length, getD, drop};
-ghost use Rattle.chain.specs.Job.{Job, jobOf, tasks, processors, Valid, partBound};
-ghost use Rattle.parts.specs.Prefix.{prefixes, Ready};
-ghost use Rattle.parts.specs.Search.{Rising, Within, LastAtMost};
+ghost use lib.ListN.{length, getD, take, drop};
+ghost use Rattle.bound.specs.Order.{over};
+ghost use Rattle.chain.specs.Lists.{sum};
+ghost use Rattle.chain.specs.Job.{Job, jobOf, processors, ideal, Partition, boundAt, bottleneck};
+ghost use Rattle.parts.specs.Prefix.{prefixes, loadBetween, Ready};
+ghost use Rattle.parts.specs.Rising.{Rising, Spanned, LastAtMost};
 use bound::Bound;
 
 // What a method ends with: the bottleneck found, and the count of its moves or trials.
@@ -45,13 +47,25 @@ pub fn narrow_load(load: u64) -> u32
     load as u32
 }
 
+// Inner. The sum of a list.
+pub fn total(values: &[u32]) -> u64
+    requires { ⌜ sum (now values) < 2 ^ 64 ⌝ }
+    ensures { λ r. ⌜ r ≡ sum (now (values .entry)) ⌝ }
+{
+    let mut sum = 0u64;
+    let mut i = 0;
+    while i < values.len() {
+        sum += wide(values[i]);
+        i += 1;
+    }
+    sum
+}
+
 // Inner. Writes W(1,0) to W(1,N) to the front of the list.
-pub fn prefix_sums(speeds: &[u32], weights: &[u32], sums: &mut [u32])
-    ghost { Job }
-    requires { λ job. ⌜ jobOf (now speeds) (now weights) ≡ job ⌝ }
-    requires { λ job. ⌜ Valid job ⌝ }
-    requires { λ job. ⌜ tasks job < length (now sums) ⌝ }
-    ensures { λ job r. ⌜ now (sums .exit) ≡ prefixes job ++ drop (suc (tasks job)) (now (sums .entry)) ⌝ }
+pub fn prefix_sums(weights: &[u32], sums: &mut [u32])
+    requires { ⌜ sum (now weights) < 2 ^ 32 ⌝ }
+    requires { ⌜ length (now weights) < length (now sums) ⌝ }
+    ensures { λ r. ⌜ now (sums .exit) ≡ prefixes (now (weights .entry)) ++ drop (suc (length (now (weights .entry)))) (now (sums .entry)) ⌝ }
 {
     let mut sum = 0u32;
     let mut i = 0;
@@ -63,25 +77,71 @@ pub fn prefix_sums(speeds: &[u32], weights: &[u32], sums: &mut [u32])
     }
 }
 
-// Inner. The bound of the part from a to b on processor p.
-pub fn part_bound(
-    speeds: &[u32],
-    weights: &[u32],
-    sums: &[u32],
-    p: usize,
-    a: usize,
-    b: usize,
-) -> Bound
+// Inner. The load of the part from a to b.
+pub fn part_load(sums: &[u32], a: usize, b: usize) -> u32
+    requires { ⌜ Rising (now sums) b ⌝ }
+    requires { ⌜ a ≤ b ⌝ }
+    ensures { λ r. ⌜ r ≡ loadBetween (now (sums .entry)) a b ⌝ }
+{
+    sums[b] - sums[a]
+}
+
+// Inner. The bound of the part from a to b on a processor of this speed.
+pub fn part_bound(speed: u32, sums: &[u32], a: usize, b: usize) -> Bound
+    requires { ⌜ Rising (now sums) b ⌝ }
+    requires { ⌜ a ≤ b ⌝ }
+    ensures { λ r. ⌜ r ≡ over (loadBetween (now (sums .entry)) a b) speed ⌝ }
+{
+    Bound {
+        load: wide(part_load(sums, a, b)),
+        speed: wide(speed),
+    }
+}
+
+// Inner. The ideal, all weight over all speed.
+pub fn ideal_of(speeds: &[u32], weights: &[u32], sums: &[u32]) -> Bound
     ghost { Job }
     requires { λ job. ⌜ jobOf (now speeds) (now weights) ≡ job ⌝ }
     requires { λ job. ⌜ Ready job (now sums) ⌝ }
-    requires { λ job. ⌜ (p < processors job) × (a ≤ b) × (b ≤ tasks job) ⌝ }
-    ensures { λ job r. ⌜ r ≡ partBound job p a b ⌝ }
+    ensures { λ job r. ⌜ r ≡ ideal job ⌝ }
 {
     Bound {
-        load: wide(sums[b] - sums[a]),
-        speed: wide(speeds[p]),
+        load: wide(sums[weights.len()]),
+        speed: total(speeds),
     }
+}
+
+// Inner. The bound of processor p's part.
+fn bound_at(speeds: &[u32], weights: &[u32], sums: &[u32], separators: &[u32], p: usize) -> Bound
+    ghost { Job }
+    requires { λ job. ⌜ jobOf (now speeds) (now weights) ≡ job ⌝ }
+    requires { λ job. ⌜ Ready job (now sums) ⌝ }
+    requires { λ job. ⌜ Partition job (take (suc (processors job)) (now separators)) ⌝ }
+    requires { λ job. ⌜ p < processors job ⌝ }
+    ensures { λ job r. ⌜ r ≡ boundAt job (now (separators .entry)) p ⌝ }
+{
+    let a = index(separators[p]);
+    let b = index(separators[p + 1]);
+    part_bound(speeds[p], sums, a, b)
+}
+
+// Inner. The bottleneck of the partition in front of the list.
+pub fn measure_in(speeds: &[u32], weights: &[u32], sums: &[u32], separators: &[u32]) -> Bound
+    ghost { Job }
+    requires { λ job. ⌜ jobOf (now speeds) (now weights) ≡ job ⌝ }
+    requires { λ job. ⌜ Ready job (now sums) ⌝ }
+    requires { λ job. ⌜ Partition job (take (suc (processors job)) (now separators)) ⌝ }
+    ensures { λ job r. ⌜ r ≡ bottleneck job (now (separators .entry)) ⌝ }
+    ensures { λ job r. ⌜ r ≡ bottleneck job (take (suc (processors job)) (now (separators .entry))) ⌝ }
+{
+    let last = speeds.len() - 1;
+    let mut greatest = bound_at(speeds, weights, sums, separators, 0);
+    let mut p = 1;
+    while p <= last {
+        greatest = Bound::greater(greatest, bound_at(speeds, weights, sums, separators, p));
+        p += 1;
+    }
+    greatest
 }
 
 // An index whose entry is at most a cap, and a step: the entry a step on is above the cap, or past the last.
@@ -93,7 +153,7 @@ pub struct Span {
 // Inner. From a on in steps of 8, 16, 32, .. to before the first entry seen above the cap.
 pub fn gallop(xs: &[u32], a: usize, n: usize, cap: u32) -> Span
     requires { ⌜ (a ≤ n) × (n < length (now xs)) × (getD (now xs) a 0 ≤ cap) ⌝ }
-    ensures { λ r. ⌜ Within (now (xs .entry)) a n cap (r .low) (r .step) ⌝ }
+    ensures { λ r. ⌜ Spanned (now (xs .entry)) a n cap (r .low) (r .step) ⌝ }
 {
     let mut low = a;
     let mut step: usize = 8;
@@ -110,8 +170,8 @@ pub fn gallop(xs: &[u32], a: usize, n: usize, cap: u32) -> Span
 // Inner. The same with a step of 8, by halving the step.
 pub fn halve(xs: &[u32], span: Span, n: usize, cap: u32) -> usize
     requires { ⌜ Rising (now xs) n ⌝ }
-    requires { ⌜ Within (now xs) (span .low) n cap (span .low) (span .step) ⌝ }
-    ensures { λ r. ⌜ Within (now (xs .entry)) (span .low) n cap r 8 ⌝ }
+    requires { ⌜ Spanned (now xs) (span .low) n cap (span .low) (span .step) ⌝ }
+    ensures { λ r. ⌜ Spanned (now (xs .entry)) (span .low) n cap r 8 ⌝ }
 {
     let mut low = span.low;
     let mut step = span.step;
@@ -147,7 +207,7 @@ pub fn last_counted(xs: &[u32], low: usize, more: usize, cap: u32) -> usize
 // Inner. The last entry at most the cap, where it is fewer than 8 on.
 pub fn last_near(xs: &[u32], low: usize, n: usize, cap: u32) -> usize
     requires { ⌜ Rising (now xs) n ⌝ }
-    requires { ⌜ Within (now xs) low n cap low 8 ⌝ }
+    requires { ⌜ Spanned (now xs) low n cap low 8 ⌝ }
     ensures { λ r. ⌜ LastAtMost (now (xs .entry)) low n cap r ⌝ }
 {
     if 8 <= n - low {

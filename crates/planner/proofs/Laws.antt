@@ -25,7 +25,7 @@ use Rattle.chain.proofs.Demand.{least-bottleneck, method-least, method-allowed,
 use Rattle.chain.proofs.Ranges.{Small, Lendable, small-lendable, ideal-lendable, next-bid-small, bottleneck-small}
 use Rattle.parts.specs.Prefix.{Ready, Prefix, prefixes}
 use Rattle.parts.proofs.Laws.{prefixes-are}
-use Rattle.parts.proofs.Front.{Behind}
+use Rattle.parts.specs.Kept.{KeptFrom}
 use Rattle.figures.specs.Methods.{methodOf}
 use Rattle.figures.proofs.Laws.{method-table, method-bidding, method-bisection}
 use Rattle.dynamic.specs.Rows.{Tabled}
@@ -52,8 +52,8 @@ bidding-lendable {job} v (suc k) = small-lendable (next-bid-small v (bidding job
 pub ended-lendable : {job : Job} {B : Bound} {n : ℕ} → Valid job → BiddingEnds job n B → Lendable B
 ended-lendable v b = subst Lendable (sym (b .yields)) (bidding-lendable v (b .failures))
 
-pub tabled-behind : {job : Job} {xs ys : List ℕ} {B : Bound} {n : ℕ} → Tabled job xs ys B n → Behind (scratchNeeded job) xs ys
-tabled-behind t = record { same = t .same; rest = t .rest }
+pub tabled-kept : {job : Job} {xs ys : List ℕ} {B : Bound} {n : ℕ} → Tabled job xs ys B n → KeptFrom (scratchNeeded job) xs ys
+tabled-kept t = record { same = t .same; rest = t .rest }
 
 -- The closing walk writes the plan's separators.
 pub walk-is-plan : {job : Job} → Valid job → (m : Method) (n : ℕ) (B : Bound) → MethodEnds m job n B → walk job B ≡ planOf job
@@ -80,7 +80,7 @@ plan-by {job} found m f v e a b i =
     record { found = found; ended = e; walked = sym (walk-is-plan v m (f .count) found e); allows = a; measured = b; exceeds = i }
 
 pub plan-given : {job : Job} {m : ℕ} {s t s′ t′ : List ℕ} {f : Figures} → Valid job → PlanBy (methodOf m) job (planWith job f)
-    → s′ ≡ planOf job ++ drop (suc (processors job)) s → Behind (scratchNeeded job) t t′ → PlanGiven job m s t s′ t′ f
+    → s′ ≡ planOf job ++ drop (suc (processors job)) s → KeptFrom (scratchNeeded job) t t′ → PlanGiven job m s t s′ t′ f
 plan-given {job} {m} {s} {t} {s′} {t′} {f} v p e b =
     record {
       plan = p;
@@ -97,7 +97,7 @@ pub summed-ready : {job : Job} (xs : List ℕ) {ys : List ℕ} → Valid job →
 summed-ready {job} xs v e = record { valid = v; prefix = subst (Prefix job) (sym e) (prefixes-are job (drop (suc (tasks job)) xs)) }
 
 pub summed-behind : (job : Job) (xs : List ℕ) {ys : List ℕ} → ys ≡ prefixes job ++ drop (suc (tasks job)) xs → scratchNeeded job ≤ length xs
-    → Behind (scratchNeeded job) xs ys
+    → KeptFrom (scratchNeeded job) xs ys
 unfolding prefixes
 summed-behind job xs {ys} e h =
     record {

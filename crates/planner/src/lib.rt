@@ -7,7 +7,7 @@ ghost use Rattle.chain.specs.Job.{Job, jobOf, tasks, processors, Valid};
 ghost use Rattle.chain.specs.Plan.{MethodEnds, PlanBy, planOf};
 ghost use Rattle.chain.proofs.Ranges.{Lendable};
 ghost use Rattle.parts.specs.Prefix.{Ready};
-ghost use Rattle.parts.proofs.Front.{Behind};
+ghost use Rattle.parts.specs.Kept.{KeptFrom};
 ghost use Rattle.figures.specs.Methods.{methodOf};
 ghost use Rattle.planner.specs.Answers.{planWith, PlanGiven, PlanAnswer};
 
@@ -54,9 +54,9 @@ fn run_method(
     requires { λ job. ⌜ (processors job < length (now separators)) × (5 * suc (tasks job) ≤ length (now scratch)) ⌝ }
     ensures { λ job r. ⌜ MethodEnds (methodOf method) job (r .count) (r .bound) ⌝ }
     ensures { λ job r. ⌜ Lendable (r .bound) ⌝ }
-    ensures { λ job r. ⌜ Behind (suc (processors job)) (now (separators .entry)) (now (separators .exit)) ⌝ }
+    ensures { λ job r. ⌜ KeptFrom (suc (processors job)) (now (separators .entry)) (now (separators .exit)) ⌝ }
     ensures { λ job r. ⌜ Ready job (now (scratch .exit)) ⌝ }
-    ensures { λ job r. ⌜ Behind (5 * suc (tasks job)) (now (scratch .entry)) (now (scratch .exit)) ⌝ }
+    ensures { λ job r. ⌜ KeptFrom (5 * suc (tasks job)) (now (scratch .entry)) (now (scratch .exit)) ⌝ }
 {
     if method == 1 {
         return table_in(speeds, weights, scratch);

@@ -10,31 +10,34 @@ use lib.ListN.{length, getD, take, drop, length-append, length-drop, List·getD-
 use lib.Seq.{take-at, drop-at}
 use Rattle.bound.specs.declared.Bound.{Bound}
 use Rattle.chain.specs.Job.{Job, Valid, processors, at, Partition}
-use Rattle.chain.specs.Probe.{walk, fits, nextBid, probe, fitting, failing}
+use Rattle.chain.specs.Probe.{walk, fits, nextBid, probe}
 use Rattle.chain.proofs.Parts.{valid-proper}
 use Rattle.chain.proofs.Bottleneck.{processors-last}
 use Rattle.chain.proofs.Walk.{walk-length, walk-partition}
-use Rattle.probe.specs.declared.Outcome.the-variants.{Fits, Fails}
-use Rattle.probe.specs.Outcome.{rendered, outcomeOf}
+use Rattle.chain.specs.declared.Outcome.{Outcome}
+use Rattle.chain.specs.declared.Outcome.the-variants.{Fits, Fails}
 
 -- What the answer says, case by case.
 module _ (job : Job) (B : Bound) where
-  pub outcome-fits : fits job B ≡ true → outcomeOf job B ≡ Fits
-  unfolding outcomeOf probe
-  outcome-fits e = ap (λ (t : Bool). rendered (elim t [ true ↦ fitting | false ↦ failing (nextBid job B) ])) e
+  answer : Bool → Outcome
+  answer t = elim t [ true ↦ Fits | false ↦ Fails (nextBid job B) ]
 
-  pub outcome-fails : fits job B ≡ false → outcomeOf job B ≡ Fails (nextBid job B)
-  unfolding outcomeOf probe
-  outcome-fails e = ap (λ (t : Bool). rendered (elim t [ true ↦ fitting | false ↦ failing (nextBid job B) ])) e
+  pub outcome-fits : fits job B ≡ true → probe job B ≡ Fits
+  unfolding probe answer
+  outcome-fits e = ap answer e
 
-  pub fits-outcome : outcomeOf job B ≡ Fits → T (fits job B)
+  pub outcome-fails : fits job B ≡ false → probe job B ≡ Fails (nextBid job B)
+  unfolding probe answer
+  outcome-fails e = ap answer e
+
+  pub fits-outcome : probe job B ≡ Fits → T (fits job B)
   fits-outcome e = go (fits job B) refl
     where
       go : (t : Bool) → fits job B ≡ t → T t
       go true f = tt
       go false f = let z : _≡_ {A = ℕ} 0 1 = cc (outcome-fails f) in absurd (let y : ⊥ = omega arith in y)
 
-  pub fails-outcome : {C : Bound} → outcomeOf job B ≡ Fails C → T (not (fits job B)) × (C ≡ nextBid job B)
+  pub fails-outcome : {C : Bound} → probe job B ≡ Fails C → T (not (fits job B)) × (C ≡ nextBid job B)
   fails-outcome {C} e = go (fits job B) refl
     where
       go : (t : Bool) → fits job B ≡ t → T (not t) × (C ≡ nextBid job B)

@@ -1,4 +1,4 @@
--- The bids: comparing them fits, a part gains nothing past the last task, and the least bid so far.
+-- The bids: a part gains nothing past the last task, and the least bid so far.
 -- Assumes nothing.
 use Prim.Native.Nat.{ℕ, zero, suc, _-_, _*_, _^_, _≤_, _<_}
 use mathlib.Core.Path.{_≡_, refl, sym, ap, subst, _∙_}
@@ -10,47 +10,15 @@ use lib.Dec.{lit<}
 use lib.ListN.{List·getD-eq-default}
 use Rattle.bound.specs.declared.Bound.{Bound}
 use Rattle.bound.specs.Order.{over, le, pick, lesser}
-use Rattle.bound.proofs.Order.{make-lt, le-false, lesser-cases}
+use Rattle.bound.proofs.Order.{lesser-infinite}
 use Rattle.chain.specs.Job.{Job, Valid, tasks, last, speedOf, partLoad, partBound}
 use Rattle.chain.specs.Probe.{separator, bid, leastBidTo, nextBid}
 use Rattle.chain.proofs.Parts.{weight-split}
 use Rattle.chain.proofs.Extremes.{weight-one}
 use Rattle.chain.proofs.NextBid.{bid-before, bid-last}
-use Rattle.chain.proofs.Ranges.{Small, part-small, small-fits}
-use Rattle.probe.specs.Outcome.{Narrow, OneMore}
-use Rattle.probe.specs.Walk.{none, leastBefore}
-
--- The products of a comparison of two narrow bounds fit.
-pub narrow-products : {B C : Bound} → Narrow B → Narrow C → (B .load * C .speed < 2 ^ 64) × (C .load * B .speed < 2 ^ 64)
-narrow-products b c = (product (b .load-fits) (c .speed-fits), product (c .load-fits) (b .speed-fits))
-  where
-    product : {m n : ℕ} → m < 2 ^ 32 → n < 2 ^ 32 → m * n < 2 ^ 64
-    product {m} {n} h k =
-        let a : m ≤ 2 ^ 32 - 1 = omega arith in
-        let b : n ≤ 2 ^ 32 - 1 = omega arith in
-        lt-of-le-of-lt (mul-le-mul a b) (lit< tt)
-
-pub small-narrow : {B : Bound} → Small B → Narrow B
-small-narrow s = record { load-fits = small-fits s .0; speed-fits = small-fits s .1 }
-
-pub lesser-narrow : {B C : Bound} → Narrow B → Narrow C → Narrow (lesser B C)
-lesser-narrow {B} {C} b c = lesser-cases Narrow B C b c
-
--- Which one is the lesser.
-pub lesser-first : (B C : Bound) → le B C ≡ true → B ≡ lesser B C
-unfolding lesser
-lesser-first B C e = ap (λ (t : Bool). pick t B C) (sym e)
-
-pub lesser-second : (B C : Bound) → le B C ≡ false → C ≡ lesser B C
-unfolding lesser
-lesser-second B C e = ap (λ (t : Bool). pick t B C) (sym e)
-
--- 1/0 is above every bound with a speed.
-pub none-narrow : Narrow none
-none-narrow = record { load-fits = lit< tt; speed-fits = lit< tt }
-
-pub lesser-none : (B : Bound) → 1 ≤ B .speed → lesser none B ≡ B
-lesser-none B h = sym (lesser-second none B (le-false {B = none} {C = B} (make-lt (omega arith))))
+use Rattle.chain.specs.Ranges.{Narrow}
+use Rattle.chain.proofs.Ranges.{part-small, small-narrow}
+use Rattle.probe.specs.Walk.{OneMore, leastBefore}
 
 module _ (job : Job) where
   -- A part gains nothing past the last task.
@@ -86,7 +54,7 @@ part-narrow p a b v e = subst Narrow (sym e) (small-narrow (part-small v p a b))
 module _ {job : Job} (v : Valid job) (B : Bound) where
   least-next : (p : ℕ) → 1 ≤ (bid job B p) .speed → lesser (leastBefore job B p) (bid job B p) ≡ leastBidTo job B p
   unfolding leastBefore leastBidTo
-  least-next zero h = lesser-none (bid job B 0) h
+  least-next zero h = lesser-infinite (bid job B 0) h
   least-next (suc p) h = refl
 
   -- One processor more, before the last,

@@ -15,10 +15,11 @@ use Rattle.chain.specs.Job.{Job, Valid, tasks, processors, speedOf, partLoad, p
 use Rattle.chain.specs.Probe.{reach}
 use Rattle.chain.proofs.Parts.{Proper, valid-proper, part-right, part-real}
 use Rattle.chain.proofs.Walk.{reach-to, reach-within, reach-past}
-use Rattle.chain.proofs.Ranges.{Lendable, part-small, probe-products}
-use Rattle.parts.specs.Prefix.{Ready}
-use Rattle.parts.proofs.Laws.{speed-read, prefix-split, prefix-fits}
-use Rattle.parts.specs.Search.{LastAtMost}
+use Rattle.chain.specs.Ranges.{Lendable}
+use Rattle.chain.proofs.Ranges.{part-small, probe-products}
+use Rattle.parts.specs.Prefix.{loadBetween, Ready}
+use Rattle.parts.proofs.Laws.{speed-read, prefix-split, prefix-load, prefix-fits}
+use Rattle.parts.specs.Rising.{LastAtMost}
 
 -- An index whose part is within the bound, while the part with one more task is not, is as far as the part reaches.
 pub reach-unique : {job : Job} → Proper job → (p a r : ℕ) (B : Bound) → a ≤ r → r ≤ tasks job → partBound job p a r ≼ B
@@ -60,15 +61,16 @@ module _ {job : Job} {xs : List ℕ} (r : Ready job xs) {B : Bound} (l : Lendabl
   limit-is = e ∙ ap (λ (n : ℕ). B .load * n / B .speed) (speed-read job p k)
 
   -- Where all that remains is at most the limit, the part reaches the last task.
-  pub end-all : getD xs (tasks job) 0 - getD xs a 0 ≤ m → tasks job ≡ reach job p a B
+  pub end-all : loadBetween xs a (tasks job) ≤ m → tasks job ≡ reach job p a B
   end-all x =
       reach-unique (valid-proper (r .valid)) p a (tasks job) B h (omega arith)
       (limit-within job p a (tasks job) (l .speed-positive)
-      (omega (arith, limit-is, prefix-split (r .prefix) a (tasks job) h (omega arith))))
+      (omega (arith, limit-is, prefix-load (r .prefix) a (tasks job) h (omega arith))))
       (λ y. absurd (let z : ⊥ = omega arith in z))
 
   -- Where it is more, the prefix sum at the limit fits,
-  pub cap-fits : m < getD xs (tasks job) 0 - getD xs a 0 → getD xs a 0 + m < 2 ^ 32
+  pub cap-fits : m < loadBetween xs a (tasks job) → getD xs a 0 + m < 2 ^ 32
+  unfolding loadBetween
   cap-fits x = omega (arith, r .prefix .sums (tasks job) (omega arith), prefix-fits (r .valid) (tasks job))
 
   -- and the last index at most that is the part's end.

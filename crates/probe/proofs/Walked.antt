@@ -8,20 +8,20 @@ use native.Mathlib.Omega.{arith}
 use native.Mathlib.Numerals.{add-one}
 use lib.ListN.{length, set, drop}
 use Rattle.bound.specs.declared.Bound.{Bound}
-use Rattle.bound.specs.Order.{le, lesser}
+use Rattle.bound.specs.Order.{infinite, le, lesser}
 use Rattle.chain.specs.Lists.{tabulate}
 use Rattle.chain.specs.Job.{Job, Valid, tasks, processors, last, partBound, within, at}
-use Rattle.chain.specs.Probe.{reach, separator, walk, fits}
+use Rattle.chain.specs.Probe.{reach, separator, walk, fits, probe}
 use Rattle.chain.proofs.Parts.{valid-proper}
 use Rattle.chain.proofs.Bottleneck.{processors-last}
 use Rattle.chain.proofs.Walk.{reach-from, reach-to, separator-to, walk-at, walk-end}
-use Rattle.chain.proofs.Ranges.{Small, Lendable, part-small, probe-products}
+use Rattle.chain.specs.Ranges.{Small, Lendable, Narrow}
+use Rattle.chain.proofs.Ranges.{part-small, probe-products, small-narrow, lesser-narrow, infinite-narrow}
 use Rattle.parts.proofs.Front.{Front, front-store, front-end}
 use Rattle.probe.specs.declared.Point.{Point}
-use Rattle.probe.specs.declared.Outcome.the-variants.{Fits, Fails}
-use Rattle.probe.specs.Outcome.{Narrow, outcomeOf}
-use Rattle.probe.specs.Walk.{none, leastBefore, Reached}
-use Rattle.probe.proofs.Bids.{small-narrow, lesser-narrow, none-narrow, least-turn, least-end}
+use Rattle.chain.specs.declared.Outcome.the-variants.{Fits, Fails}
+use Rattle.probe.specs.Walk.{leastBefore, Reached}
+use Rattle.probe.proofs.Bids.{least-turn, least-end}
 use Rattle.probe.proofs.Answer.{outcome-fits, outcome-fails, walk-count}
 
 -- The products of the test of the last part fit.
@@ -46,14 +46,14 @@ pub record Walked (job : Job) (B : Bound) (before now : List ℕ) (p a : ℕ) (b
   pub front : Front (at (walk job B)) p before now
 
 -- Every walk reaches its first point,
-pub reached-first : (job : Job) (B : Bound) (xs : List ℕ) → Reached job B xs (record { processor = 0; start = 0; least = none })
+pub reached-first : (job : Job) (B : Bound) (xs : List ℕ) → Reached job B xs (record { processor = 0; start = 0; least = infinite })
 unfolding separator leastBefore
 reached-first job B xs =
     record {
       to = omega arith;
       start-is = refl;
       least-is = refl;
-      small = none-narrow;
+      small = infinite-narrow;
       before = λ k h. absurd (let z : ⊥ = omega arith in z);
     }
 
@@ -135,11 +135,11 @@ module _ {job : Job} (v : Valid job) {B : Bound} {xs ys : List ℕ} {p a : ℕ} 
     unfolding fits within
     fits-is e = ap (λ (D : Bound). le D B) (rest-is e)
 
-    pub answer-fits : {C : Bound} → C ≡ partBound job p a (tasks job) → le C B ≡ true → Fits ≡ outcomeOf job B
+    pub answer-fits : {C : Bound} → C ≡ partBound job p a (tasks job) → le C B ≡ true → Fits ≡ probe job B
     answer-fits e t = sym (outcome-fits job B (sym (fits-is e) ∙ t))
 
     -- and is the last bid.
-    pub answer-fails : {C D : Bound} → C ≡ partBound job p a (tasks job) → le C B ≡ false → D ≡ lesser best C → Fails D ≡ outcomeOf job B
+    pub answer-fails : {C D : Bound} → C ≡ partBound job p a (tasks job) → le C B ≡ false → D ≡ lesser best C → Fails D ≡ probe job B
     answer-fails {C} {D} e t f =
         ap Fails
         (f ∙ ap (λ (E : Bound). lesser E C) (w .least ∙ ap (leastBefore job B) at-last) ∙ ap (lesser (leastBefore job B (last job))) (rest-is e)

@@ -1,22 +1,26 @@
--- A walk on its way: where it stands, and what it has seen.
+-- A walk on its way: where it stands, and what it has seen; and what a failed one leaves.
 use Prim.Native.Nat.{ℕ, zero, suc, _≤_, _<_}
 use mathlib.Core.Path.{_≡_}
+use mathlib.Core.Bool.{not}
 use mathlib.Core.List.{List}
+use lib.Dec.{T}
 use lib.ListN.{getD}
 use Rattle.bound.specs.declared.Bound.{Bound}
-use Rattle.bound.specs.Order.{over}
+use Rattle.bound.specs.Order.{infinite}
+use Rattle.chain.specs.Ranges.{Narrow}
 use Rattle.chain.specs.Job.{Job, last}
-use Rattle.chain.specs.Probe.{separator, leastBidTo}
+use Rattle.chain.specs.Probe.{separator, fits, leastBidTo, nextBid}
 use Rattle.probe.specs.declared.Point.{Point}
-use Rattle.probe.specs.Outcome.{Narrow}
 
--- 1/0, above every bound with a speed.
-abbrev pub none : Bound
-none = over 1 0
+-- r is the index after i, and n after n.
+pub record OneMore (i n r : ℕ) : Type 0 where
+  pub from : i ≤ r
+  pub to : r ≤ n
+  pub next : i < n → r ≡ suc i
 
--- The least bid of the processors below p, 1/0 of none.
+-- The least bid of the processors below p, infinite of none.
 unfoldable pub leastBefore : Job → Bound → ℕ → Bound
-leastBefore job B zero = none
+leastBefore job B zero = infinite
 leastBefore job B (suc p) = leastBidTo job B p
 
 -- The walk at the bound B has come to this point, and the separators before it stand in the list xs.
@@ -26,3 +30,8 @@ pub record Reached (job : Job) (B : Bound) (xs : List ℕ) (point : Point) : Typ
   pub least-is : point .least ≡ leastBefore job B (point .processor)
   pub small : Narrow (point .least)
   pub before : (k : ℕ) → k < point .processor → getD xs k 0 ≡ separator job B k
+
+-- The trial at the bound fails, with this next bid.
+pub record Rejected (job : Job) (B next : Bound) : Type 0 where
+  pub failed : T (not (fits job B))
+  pub bids : next ≡ nextBid job B

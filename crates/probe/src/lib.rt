@@ -1,23 +1,23 @@
 // The probe at a bound over prefix sums: the end of a part, the walk and the least next bid.
 // All functions here are inner: their callers have tested the job and the bound.
-ghost use Prim.Native.Nat.{suc, _+_, _-_, _*_, _/_, _≤_, _<_, _^_};
+ghost use Prim.Native.Nat.{suc, _+_, _*_, _/_, _≤_, _<_, _^_};
 ghost use mathlib.Core.Path.{_≡_};
 ghost use mathlib.Core.List.{_++_};
 ghost use lib.ListN.{length, getD, drop};
-ghost use Rattle.bound.specs.Order.{lesser};
+ghost use Rattle.chain.specs.Ranges.{Lendable, Narrow};
 ghost use Rattle.chain.specs.Job.{Job, jobOf, tasks, processors, partBound};
-ghost use Rattle.chain.specs.Probe.{reach, walk};
-ghost use Rattle.chain.proofs.Ranges.{Lendable};
+ghost use Rattle.chain.specs.Probe.{reach, walk, probe};
 ghost use Rattle.parts.specs.Prefix.{Ready};
-ghost use Rattle.parts.specs.Search.{Rising, LastAtMost};
-ghost use Rattle.probe.specs.Outcome.{Narrow, OneMore, outcomeOf};
-ghost use Rattle.probe.specs.Walk.{Reached};
+ghost use Rattle.parts.specs.Rising.{Rising, LastAtMost};
+ghost use Rattle.probe.specs.Walk.{OneMore, Reached};
 use bound::Bound;
+use chain::Outcome;
 use parts::index;
 use parts::last_at_most;
 use parts::narrow;
 use parts::narrow_load;
 use parts::part_bound;
+use parts::part_load;
 use parts::wide;
 
 // Inner. The last entry at most the cap from a to n, whatever the hint. It takes time in the logarithm of its distance from a, and
@@ -73,19 +73,10 @@ pub fn part_end(
 {
     let n = weights.len();
     let limit = most_load(bound, speeds[p]);
-    let sum = sums[a];
-    if wide(sums[n] - sum) <= limit {
+    if wide(part_load(sums, a, n)) <= limit {
         return n;
     }
-    last_from(sums, a, n, raised(sum, limit), hint)
-}
-
-// Inner. The lesser of two bounds, the first among equals.
-pub fn lesser_bound(a: Bound, b: Bound) -> Bound
-    requires { ⌜ Narrow a × Narrow b ⌝ }
-    ensures { λ r. ⌜ r ≡ lesser a b ⌝ }
-{
-    if Bound::at_most(a, b) { a } else { b }
+    last_from(sums, a, n, raised(sums[a], limit), hint)
 }
 
 // Inner. The index after i, and n after n.
@@ -113,13 +104,19 @@ pub fn bid_of(
     ensures { λ job r. ⌜ Narrow r ⌝ }
 {
     let next = one_more(end, weights.len());
-    part_bound(speeds, weights, sums, p, a, next)
+    part_bound(speeds[p], sums, a, next)
 }
 
-// The answer of a probe ("trial at a bound"): it fits, or it fails with the least next bid.
-pub enum Outcome {
-    Fits,
-    Fails(Bound),
+// Inner. The bound of all that remains from a on, on processor p.
+pub fn rest_of(speeds: &[u32], weights: &[u32], sums: &[u32], p: usize, a: usize) -> Bound
+    ghost { Job }
+    requires { λ job. ⌜ jobOf (now speeds) (now weights) ≡ job ⌝ }
+    requires { λ job. ⌜ Ready job (now sums) ⌝ }
+    requires { λ job. ⌜ (p < processors job) × (a ≤ tasks job) ⌝ }
+    ensures { λ job r. ⌜ r ≡ partBound job p a (tasks job) ⌝ }
+    ensures { λ job r. ⌜ Narrow r ⌝ }
+{
+    part_bound(speeds[p], sums, a, weights.len())
 }
 
 // Where a walk stands: before the part of a processor, with that part's start and the least bid of the processors before it.
@@ -145,7 +142,7 @@ pub fn walk_from(
     requires { λ job. ⌜ Lendable bound ⌝ }
     requires { λ job. ⌜ processors job < length (now separators) ⌝ }
     requires { λ job. ⌜ Reached job bound (now separators) point ⌝ }
-    ensures { λ job r. ⌜ r ≡ outcomeOf job bound ⌝ }
+    ensures { λ job r. ⌜ r ≡ probe job bound ⌝ }
     ensures { λ job r. ⌜ now (separators .exit) ≡ walk job bound ++ drop (suc (processors job)) (now (separators .entry)) ⌝ }
 {
     let last = speeds.len() - 1;
@@ -157,17 +154,17 @@ pub fn walk_from(
         let hint = index(separators[p + 1]);
         separators[p] = narrow(a);
         let end = part_end(speeds, weights, sums, p, a, bound, hint);
-        best = lesser_bound(best, bid_of(speeds, weights, sums, p, a, end));
+        best = Bound::lesser(best, bid_of(speeds, weights, sums, p, a, end));
         a = end;
         p += 1;
     }
     separators[p] = narrow(a);
     separators[p + 1] = narrow(n);
-    let rest = part_bound(speeds, weights, sums, p, a, n);
+    let rest = rest_of(speeds, weights, sums, p, a);
     if Bound::at_most(rest, bound) {
         return Outcome::Fits;
     }
-    Outcome::Fails(lesser_bound(best, rest))
+    Outcome::Fails(Bound::lesser(best, rest))
 }
 
 // Inner. The probe at the bound: writes the walk's P + 1 separators, whether it fits or not, and answers.
@@ -183,13 +180,13 @@ pub fn probe_in(
     requires { λ job. ⌜ Ready job (now sums) ⌝ }
     requires { λ job. ⌜ Lendable bound ⌝ }
     requires { λ job. ⌜ processors job < length (now separators) ⌝ }
-    ensures { λ job r. ⌜ r ≡ outcomeOf job bound ⌝ }
+    ensures { λ job r. ⌜ r ≡ probe job bound ⌝ }
     ensures { λ job r. ⌜ now (separators .exit) ≡ walk job bound ++ drop (suc (processors job)) (now (separators .entry)) ⌝ }
 {
     let first = Point {
         processor: 0,
         start: 0,
-        least: Bound { load: 1, speed: 0 },
+        least: Bound::INFINITE,
     };
     walk_from(speeds, weights, sums, bound, first, separators)
 }

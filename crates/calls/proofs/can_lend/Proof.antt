@@ -5,8 +5,6 @@ use Rattle.calls.proofs.Limits.{bound-load-limit, bound-speed-limit}
 use Rattle.calls.proofs.Tested.{load-far, speed-none, speed-decides}
 use Rattle.calls.proofs.can_lend.Statement.{statement}
 use Rattle.calls.proofs.can_lend.Tie as tie
-use Rattle.calls.proofs.can_lend.Reads as reads
-use Rattle.calls.proofs.can_lend.Lts as lts
 
 returns : tie.Need-returns
 returns c =

@@ -10,10 +10,6 @@ use Rattle.calls.proofs.Ends.{heuristic-refused, heuristic-accepted}
 use borrow.Author.Needs.{needs}
 use Rattle.calls.proofs.heuristic.Statement.{statement}
 use Rattle.calls.proofs.heuristic.Tie as tie
-use Rattle.calls.proofs.heuristic.Reads as reads
-use Rattle.calls.proofs.heuristic.Lts as lts
-use Rattle.calls.proofs.heuristic_tested.Reads as heuristic-tested-reads
-use Rattle.jobs.proofs.test_job.Reads as test-job-reads
 
 -- Past the job's tests they are all passed.
 accepted : (c : tie.Else1)

@@ -15,11 +15,6 @@ use Rattle.calls.proofs.Ends.{measure-refused, measure-accepted}
 use borrow.Author.Needs.{needs}
 use Rattle.calls.proofs.measure.Statement.{statement}
 use Rattle.calls.proofs.measure.Tie as tie
-use Rattle.calls.proofs.measure.Reads as reads
-use Rattle.calls.proofs.measure.Lts as lts
-use Rattle.calls.proofs.is_partition.Reads as is-partition-reads
-use Rattle.calls.proofs.measure_tested.Reads as measure-tested-reads
-use Rattle.jobs.proofs.test_job.Reads as test-job-reads
 
 -- Past the job's tests they are all passed.
 accepted : (c : tie.Else1)

@@ -14,11 +14,6 @@ use Rattle.calls.proofs.Ends.{probe-refused, probe-accepted}
 use borrow.Author.Needs.{needs}
 use Rattle.calls.proofs.probe.Statement.{statement}
 use Rattle.calls.proofs.probe.Tie as tie
-use Rattle.calls.proofs.probe.Reads as reads
-use Rattle.calls.proofs.probe.Lts as lts
-use Rattle.calls.proofs.can_lend.Reads as can-lend-reads
-use Rattle.calls.proofs.probe_tested.Reads as probe-tested-reads
-use Rattle.jobs.proofs.test_job.Reads as test-job-reads
 
 -- Past the job's tests they are all passed.
 accepted : (c : tie.Else1)

@@ -8,9 +8,6 @@ use native.Mathlib.Omega.{arith}
 use borrow.Author.Needs.{needs}
 use Rattle.calls_run.proofs.case.Statement.{statement}
 use Rattle.calls_run.proofs.case.Tie as tie
-use Rattle.calls_run.proofs.case.Reads as reads
-use Rattle.calls_run.proofs.case.Lts as lts
-use Rattle.calls_run.proofs.compare.Reads as compare-reads
 
 mul-n : tie.Need-mul-n
 mul-n c = search needs

@@ -13,10 +13,6 @@ use borrow.Author.Needs.{needs}
 use native.Mathlib.Omega.{arith}
 use Rattle.calls_run.proofs.fill.Statement.{statement}
 use Rattle.calls_run.proofs.fill.Tie as tie
-use Rattle.calls_run.proofs.fill.Reads as reads
-use Rattle.calls_run.proofs.fill.Lts as lts
-use Rattle.calls_run.proofs.next.Reads as next-reads
-use Rattle.calls_run.proofs.number.Reads as number-reads
 
 abbrev Inv-loop : tie.InvT-loop
 Inv-loop kind seed xs₀ state₀ i₀ xs state i = length xs ≡ length xs₀

@@ -5,13 +5,6 @@ use borrow.Author.Needs.{needs}
 use native.Mathlib.Omega.{arith}
 use Rattle.calls_run.proofs.main.Statement.{statement}
 use Rattle.calls_run.proofs.main.Tie as tie
-use Rattle.calls_run.proofs.main.Reads as reads
-use Rattle.calls_run.proofs.main.Lts as lts
-use Rattle.calls.proofs.heuristic.Reads as heuristic-reads
-use Rattle.calls_run.proofs.case.Reads as case-reads
-use Rattle.calls_run.proofs.measure_a.Reads as measure-a-reads
-use Rattle.calls_run.proofs.say.measured.Reads as measured-reads
-use Rattle.calls_run.proofs.try_a.Reads as try-a-reads
 
 abbrev Inv-loop : tie.InvT-loop
 Inv-loop k₀ k = k ≤ 60

@@ -8,9 +8,10 @@ use native.Mathlib.Omega.{arith}
 use Rattle.chain.specs.Job.{Job, jobOf, partBound}
 use Rattle.chain.specs.Dynamic.{tableValue}
 use Rattle.chain.proofs.Parts.{valid-proper}
-use Rattle.chain.proofs.Ranges.{part-small}
+use Rattle.chain.proofs.Ranges.{part-small, small-products}
 use Rattle.chain.proofs.Table.{crossing-le}
-use Rattle.dynamic.proofs.Crossing.{table-small, stops, tested, small-products, small-same}
+use Rattle.parts.proofs.Laws.{prefix-to, speed-bound}
+use Rattle.dynamic.proofs.Crossing.{table-small, stops, tested, small-same}
 use Rattle.dynamic.proofs.Laws.{Moving, moving-start, moving-before, moving-turn, moving-stop}
 use Rattle.dynamic.proofs.advance.Statement.{statement}
 use Rattle.dynamic.proofs.advance.Tie as tie
@@ -30,10 +31,10 @@ at-le c =
     let s = c .before .before .before .before in
     omega (arith, c .loop .inv .to, crossing-le (valid-proper (s .pre .0 .ready .valid)) (s .args .p) (s .args .i))
 
-next-part-requires : tie.Need-next-part-requires Inv-loop μ-loop
-next-part-requires c κs =
+part-bound-requires : tie.Need-part-bound-requires Inv-loop μ-loop
+part-bound-requires c κs =
     let s = c .before .before .before .before in
-    (s .pre .0 .ready, (s .pre .1 .0, (at-le c, s .pre .1 .1 .0)))
+    (prefix-to (s .pre .0 .ready) (s .pre .1 .1 .0), at-le c)
 
 entry-requires : tie.Need-entry-requires Inv-loop μ-loop
 entry-requires c κs = omega (arith, c .before .before .before .before .before .pre .0 .inside, at-le (c .before))
@@ -49,8 +50,10 @@ module _ (c : tie.After-entry Inv-loop μ-loop) where
   abbrev at : ℕ
   at = c .before .before .loop .at
 
-  part-is : c .before .next-part .result ≡ partBound job (suc (start .args .p)) at (start .args .i)
-  part-is = c .before .next-part .ensures
+  part-is : c .before .part-bound .result ≡ partBound job (suc (start .args .p)) at (start .args .i)
+  part-is =
+      speed-bound (start .pre .0 .ready .prefix) (suc (start .args .p)) at (start .args .i) (at-le (c .before .before)) (start .pre .1 .1 .0) (start .pre .1 .0)
+      (c .before .part-bound .ensures)
 
   value-is : c .entry .result ≡ tableValue job (start .args .p) at
   value-is = c .entry .ensures ∙ start .pre .0 .row .entries at (omega (arith, at-le (c .before .before)))
@@ -99,7 +102,7 @@ advance-spec =
     Inv-loop
     μ-loop
     loop-holds
-    next-part-requires
+    part-bound-requires
     entry-requires
     at-most-requires
     returns

@@ -1,9 +1,9 @@
 -- `fill_row` meets its contract: the loop keeps `Filling`.
 -- Assumes nothing.
-use Prim.Native.Nat.{suc, _-_, _≤_}
-use mathlib.Core.Path.{_≡_}
+use Prim.Native.Nat.{suc, _+_, _-_, _≤_}
+use mathlib.Core.Path.{_≡_, refl}
 use native.Mathlib.Omega.{arith}
-use lib.ListN.{length}
+use lib.ListN.{length, getD}
 use Rattle.chain.specs.Job.{Job, jobOf, speedOf}
 use Rattle.chain.specs.Dynamic.{crossing}
 use Rattle.chain.proofs.Ranges.{small-fits}
@@ -20,27 +20,24 @@ Inv-loop speeds weights scratch₀ before row p speed pointer₀ i₀ scratch po
 abbrev μ-loop : tie.MeasureT-loop
 μ-loop speeds weights scratch₀ before row p speed pointer₀ i₀ scratch pointer i = suc (length weights) - i
 
-add-wide : tie.Need-add-wide Inv-loop μ-loop
-add-wide c = omega (arith, c .before .before .before .pre .0 .next)
+add-speed : tie.Need-add-speed Inv-loop μ-loop
+add-speed c = omega (arith, c .before .before .before .pre .0 .next)
 
-mul-wide : tie.Need-mul-wide Inv-loop μ-loop
-mul-wide c = omega (arith, c .before .before .before .pre .0 .next)
+mul-speed : tie.Need-mul-speed Inv-loop μ-loop
+mul-speed c = omega (arith, c .before .before .before .pre .0 .next)
 
-shared-slice-read-wide : tie.Need-shared-slice-read-wide Inv-loop μ-loop
-shared-slice-read-wide c = omega (arith, c .before .before .before .before .pre .0 .next)
-
-wide-requires : tie.Need-wide-requires Inv-loop μ-loop
-wide-requires c κs = tt
+shared-slice-read-speed : tie.Need-shared-slice-read-speed Inv-loop μ-loop
+shared-slice-read-speed c = omega (arith, c .before .before .before .before .pre .0 .next)
 
 loop-holds : tie.Need-loop-holds Inv-loop μ-loop
 loop-holds c =
-    let s = c .before .before .before .before .before in
+    let s = c .before .before .before .before in
     filling-start (s .args .scratch .now) (s .args .row) (s .args .p) (s .pre .1 .1 .0)
 
 -- What each turn starts from.
 module _ (c : tie.At-loop Inv-loop μ-loop) where
   abbrev start : tie.Start Inv-loop μ-loop
-  start = c .before .before .before .before .before .before
+  start = c .before .before .before .before .before
 
   abbrev job : Job
   job = jobOf (start .args .speeds .now) (start .args .weights .now)
@@ -48,8 +45,8 @@ module _ (c : tie.At-loop Inv-loop μ-loop) where
   still-ready : RowReady job (c .loop .scratch) (start .args .before) (start .args .p)
   still-ready = writing-ready (start .pre .0) (start .pre .1 .0) (c .loop .inv .writing)
 
-  speed-is : c .before .wide .result ≡ speedOf job (suc (start .args .p))
-  speed-is = next-speed job (start .args .p) _ (c .before .wide .ensures) (omega arith) (start .pre .0 .next)
+  speed-is : getD (start .args .speeds .now) (start .args .p + 1) 0 ≡ speedOf job (suc (start .args .p))
+  speed-is = next-speed job (start .args .p) (start .args .p + 1) refl (omega arith) (start .pre .0 .next)
 
   pointer-le : c .loop .pointer .at ≤ crossing job (start .args .p) (c .loop .i)
   pointer-le = omega (arith, c .loop .inv .pointer, passed-le (start .pre .0 .ready .valid) (start .args .p) (c .loop .i))
@@ -95,10 +92,9 @@ fill-row-spec =
     (tie.spec
     Inv-loop
     μ-loop
-    add-wide
-    mul-wide
-    shared-slice-read-wide
-    wide-requires
+    add-speed
+    mul-speed
+    shared-slice-read-speed
     loop-holds
     advance-requires
     value-at-requires

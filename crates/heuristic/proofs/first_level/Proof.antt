@@ -4,7 +4,7 @@
 use mathlib.Core.Logic.{inl, inr}
 use native.Mathlib.Omega.{arith}
 use borrow.Author.Needs.{needs}
-use Rattle.parts.proofs.Search.{prefix-rising, rising-to}
+use Rattle.parts.proofs.Laws.{rising-to}
 use Rattle.heuristic.proofs.Laws.{level-first, level-all, level-after}
 use Rattle.heuristic.proofs.first_level.Statement.{statement}
 use Rattle.heuristic.proofs.first_level.Tie as tie
@@ -20,8 +20,8 @@ shared-slice-read-if2 c = search needs
 
 returns : tie.Need-returns
 returns c =
-    let s = c .before .before .before .before .before .before in
-    level-all (s .pre .0 .prefix) (omega arith) (s .pre .1 .1) (omega arith)
+    let s = c .before .before .before .before in
+    level-all (s .pre .0) (omega arith) (omega arith)
 
 mul-if3 : tie.Need-mul-if3
 mul-if3 c = search needs
@@ -37,26 +37,26 @@ sub-last-far-2 c = search needs
 
 last-far-requires : tie.Need-last-far-requires
 last-far-requires c κs =
-    let s = c .before .before .before .before .before .before .before .before in
-    (rising-to (omega arith) (prefix-rising (s .pre .0 .prefix)), (omega arith, omega arith))
+    let s = c .before .before .before .before .before .before in
+    (rising-to (omega arith) (s .pre .0), (omega arith, omega arith))
 
 add-result : tie.Need-add-result
 add-result c = search needs
 
 returns-2 : tie.Need-returns-2
 returns-2 c =
-    let s = c .before .before .before .before .before .before .before .before .before in
-    level-after (s .pre .0 .prefix) (omega arith) (s .pre .1 .1) (omega arith) (omega arith) (c .last-far .ensures)
+    let s = c .before .before .before .before .before .before .before in
+    level-after (s .pre .0) (omega arith) (omega arith) (omega arith) (c .last-far .ensures)
 
 returns-3 : tie.Need-returns-3
 returns-3 c =
-    let s = c .before .before .before .before .before .before .before .before in
-    level-first (s .args .sums .now) (s .pre .1 .0) (inr (omega arith))
+    let s = c .before .before .before .before .before .before in
+    level-first (s .args .sums .now) (s .pre .1) (inr (omega arith))
 
 returns-4 : tie.Need-returns-4
 returns-4 c =
-    let s = c .before .before .before .before in
-    level-first (s .args .sums .now) (s .pre .1 .0) (inl (omega arith))
+    let s = c .before .before in
+    level-first (s .args .sums .now) (s .pre .1) (inl (omega arith))
 
 pub first-level-spec : {M : Type 1} → statement M
 first-level-spec =

@@ -1,26 +1,28 @@
 -- `heuristic_in` meets its contract: the loop keeps `Placed`.
 -- Assumes nothing.
-use Prim.Native.Nat.{_+_, _-_}
+use Prim.Native.Nat.{_+_, _-_, _*_}
 use mathlib.Core.Path.{_∙_}
 use native.Mathlib.Omega.{arith}
 use lib.ListN.{length, length-set}
 use borrow.Author.Needs.{needs}
 use Rattle.chain.specs.Job.{jobOf}
 use Rattle.chain.proofs.Ranges.{index-fits}
-use Rattle.heuristic.proofs.Laws.{Placed, speed-fits, placed-start, placed-fits, placed-target, placed-behind, placed-near, placed-narrow, placed-turn, placed-end}
+use Rattle.parts.proofs.Laws.{speeds-add-up, prefix-rising}
+use Rattle.heuristic.specs.Target.{FirstPast}
+use Rattle.heuristic.proofs.Laws.{total-positive, cap-fits, start-below, first-past-of, Placed, speed-fits, placed-start, placed-fits, placed-target, placed-behind, placed-near, placed-narrow, placed-turn, placed-end}
 use Rattle.heuristic.proofs.heuristic_in.Statement.{statement}
 use Rattle.heuristic.proofs.heuristic_in.Tie as tie
 
 abbrev Inv-loop : tie.InvT-loop
-Inv-loop speeds weights sums separators₀ total weight last speed₀ past₀ s₀ p₀ separators speed past s p = Placed (jobOf speeds weights) separators₀ separators total weight p speed past s
+Inv-loop speeds weights sums separators₀ all-speed weight last speed₀ past₀ s₀ p₀ separators speed past s p = Placed (jobOf speeds weights) separators₀ separators all-speed weight p speed past s
 
 abbrev μ-loop : tie.MeasureT-loop
-μ-loop speeds weights sums separators₀ total weight last speed₀ past₀ s₀ p₀ separators speed past s p = length speeds - p
+μ-loop speeds weights sums separators₀ all-speed weight last speed₀ past₀ s₀ p₀ separators speed past s p = length speeds - p
 
-total-speed-requires : tie.Need-total-speed-requires Inv-loop μ-loop
-total-speed-requires c κs =
+total-requires : tie.Need-total-requires Inv-loop μ-loop
+total-requires c κs =
     let s = c .before .before .before .before in
-    s .pre .0 .valid
+    speeds-add-up (s .pre .0 .valid)
 
 mul-wide : tie.Need-mul-wide Inv-loop μ-loop
 mul-wide c = omega arith
@@ -40,7 +42,7 @@ slice-write-separators c = omega arith
 loop-holds : tie.Need-loop-holds Inv-loop μ-loop
 loop-holds c =
     let s = c .before .before .before .before .before .before .before in
-    placed-start (s .args .separators .now) (s .pre .0 .prefix) (s .pre .1) (c .before .before .total-speed .ensures) (c .wide .ensures)
+    placed-start (s .args .separators .now) (s .pre .0 .prefix) (s .pre .1) (c .before .before .total .ensures) (c .wide .ensures)
 
 mul-wide-2 : tie.Need-mul-wide-2 Inv-loop μ-loop
 mul-wide-2 c = omega arith
@@ -71,7 +73,22 @@ first-past-requires c κs =
     let w = c .before .before .before .loop .inv in
     let h = c .before .before .loop-test .taken in
     let e = c .wide2 .ensures in
-    (s .pre .0, (placed-target v w h e, placed-behind v w h e))
+    let t = placed-target v w h e in
+    let b = placed-behind v w h e in
+    (prefix-rising (s .pre .0 .prefix), ((total-positive (s .pre .0) t, cap-fits (s .pre .0) t), (b .from, b .to, start-below (s .pre .0) t b)))
+
+-- The index that is found is the first past the target.
+past-is : (c : tie.After-first-past Inv-loop μ-loop)
+    → let s = c .before .before .before .before .before .before .before .before .before .before .before .before in
+    let l = c .before .before .before .before .loop in
+    FirstPast (jobOf (s .args .speeds .now) (s .args .weights .now)) (c .before .before .before .before .before .wide .result * (l .speed + c .before .wide2 .result)) (c .first-past .result)
+past-is c =
+    let s = c .before .before .before .before .before .before .before .before .before .before .before .before in
+    let v = s .pre .0 .valid in
+    let w = c .before .before .before .before .loop .inv in
+    let h = c .before .before .before .loop-test .taken in
+    let e = c .before .wide2 .ensures in
+    first-past-of (s .pre .0) (placed-target v w h e) (placed-behind v w h e) (c .first-past .ensures)
 
 nearest-from-requires : tie.Need-nearest-from-requires Inv-loop μ-loop
 nearest-from-requires c κs =
@@ -80,12 +97,12 @@ nearest-from-requires c κs =
     let w = c .before .before .before .before .loop .inv in
     let h = c .before .before .before .loop-test .taken in
     let e = c .before .wide2 .ensures in
-    (s .pre .0, (placed-target v w h e, (c .first-past .ensures, placed-near v w h e)))
+    (s .pre .0, (placed-target v w h e, (past-is c, placed-near v w h e)))
 
 narrow-requires : tie.Need-narrow-requires Inv-loop μ-loop
 narrow-requires c κs =
     let s = c .before .before .before .before .before .before .before .before .before .before .before .before .before in
-    placed-narrow (s .pre .0 .valid) (c .before .before .before .before .before .loop .inv) (c .before .before .before .before .loop-test .taken) (c .before .before .wide2 .ensures) (c .before .first-past .ensures) (c .nearest-from .ensures)
+    placed-narrow (s .pre .0 .valid) (c .before .before .before .before .before .loop .inv) (c .before .before .before .before .loop-test .taken) (c .before .before .wide2 .ensures) (past-is (c .before)) (c .nearest-from .ensures)
 
 mul-separators : tie.Need-mul-separators Inv-loop μ-loop
 mul-separators c = omega arith
@@ -99,7 +116,7 @@ loop-less c = omega arith
 loop-again : tie.Need-loop-again Inv-loop μ-loop
 loop-again c =
     let s = c .before .before .before .before .before .before .before .before .before .before .before .before .before .before in
-    placed-turn (s .pre .0 .valid) (c .before .before .before .before .before .before .loop .inv) (c .before .before .before .before .before .loop-test .taken) (c .before .before .before .wide2 .ensures) (c .before .before .first-past .ensures) (c .before .nearest-from .ensures) (c .narrow .ensures)
+    placed-turn (s .pre .0 .valid) (c .before .before .before .before .before .before .loop .inv) (c .before .before .before .before .before .loop-test .taken) (c .before .before .before .wide2 .ensures) (past-is (c .before .before)) (c .before .nearest-from .ensures) (c .narrow .ensures)
 
 narrow-requires-2 : tie.Need-narrow-requires-2 Inv-loop μ-loop
 narrow-requires-2 c κs =
@@ -131,7 +148,7 @@ heuristic-in-spec =
     (tie.spec
     Inv-loop
     μ-loop
-    total-speed-requires
+    total-requires
     mul-wide
     shared-slice-read-wide
     wide-requires

@@ -6,6 +6,7 @@ use mathlib.Core.Path.{refl, sym, _∙_}
 use native.Mathlib.Omega.{arith}
 use borrow.Author.Needs.{needs}
 use Rattle.chain.specs.Job.{jobOf, tasks}
+use Rattle.parts.proofs.Laws.{prefix-to}
 use Rattle.heuristic.specs.Target.{off}
 use Rattle.heuristic.proofs.Nearest.{nearest-before}
 use Rattle.heuristic.proofs.Laws.{choice-products, choice-high, choice-low, choice-end}
@@ -59,7 +60,7 @@ first-level-requires : tie.Need-first-level-requires
 first-level-requires c κs =
     let s = c .before .before .before .before .before in
     let m = nearest-before (s .pre .0) (s .pre .1 .1 .0) (near c) in
-    (s .pre .0, (omega arith, omega arith))
+    (prefix-to (s .pre .0) (omega (arith, s .pre .1 .1 .0 .behind .to)), omega arith)
 
 returns-2 : tie.Need-returns-2
 returns-2 c =

@@ -6,9 +6,6 @@ use Rattle.jobs.specs.Parse.{byteAt}
 use borrow.Author.Needs.{needs}
 use Rattle.jobs.proofs.byte_at.Statement.{statement}
 use Rattle.jobs.proofs.byte_at.Tie as tie
-use Rattle.jobs.proofs.byte_at.Reads as reads
-use Rattle.jobs.proofs.byte_at.Lts as lts
-use Rattle.jobs.proofs.wide.Reads as wide-reads
 
 mul-wide : tie.Need-mul-wide
 mul-wide c = search needs

@@ -7,8 +7,6 @@ use borrow.Author.Needs.{needs}
 use Rattle.jobs.proofs.Records.{eight-stores}
 use Rattle.jobs.proofs.put_record.Statement.{statement}
 use Rattle.jobs.proofs.put_record.Tie as tie
-use Rattle.jobs.proofs.put_record.Reads as reads
-use Rattle.jobs.proofs.put_record.Lts as lts
 
 mul-at : tie.Need-mul-at
 mul-at c = search needs

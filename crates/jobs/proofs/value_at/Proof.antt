@@ -5,9 +5,6 @@ use Rattle.jobs.specs.Parse.{valueAt}
 use borrow.Author.Needs.{needs}
 use Rattle.jobs.proofs.value_at.Statement.{statement}
 use Rattle.jobs.proofs.value_at.Tie as tie
-use Rattle.jobs.proofs.value_at.Reads as reads
-use Rattle.jobs.proofs.value_at.Lts as lts
-use Rattle.jobs.proofs.byte_at.Reads as byte-at-reads
 
 byte-at-requires : tie.Need-byte-at-requires
 byte-at-requires c κs = search needs

@@ -4,10 +4,6 @@ use Rattle.jobs.proofs.Writing.{write-refused}
 use borrow.Author.Needs.{needs}
 use Rattle.jobs.proofs.write_job.Statement.{statement}
 use Rattle.jobs.proofs.write_job.Tie as tie
-use Rattle.jobs.proofs.write_job.Reads as reads
-use Rattle.jobs.proofs.write_job.Lts as lts
-use Rattle.jobs.proofs.test_job.Reads as test-job-reads
-use Rattle.jobs.proofs.write_tested.Reads as write-tested-reads
 
 test-job-requires : tie.Need-test-job-requires
 test-job-requires c κs = search needs

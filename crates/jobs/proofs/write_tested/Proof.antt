@@ -8,9 +8,6 @@ use Rattle.jobs.proofs.Writing.{write-laws}
 use borrow.Author.Needs.{needs}
 use Rattle.jobs.proofs.write_tested.Statement.{statement}
 use Rattle.jobs.proofs.write_tested.Tie as tie
-use Rattle.jobs.proofs.write_tested.Reads as reads
-use Rattle.jobs.proofs.write_tested.Lts as lts
-use Rattle.jobs.proofs.put_records.Reads as put-records-reads
 
 add-needed : tie.Need-add-needed
 add-needed c = search needs

@@ -6,9 +6,6 @@ use native.Mathlib.Omega.{arith}
 use lib.ListN.{length}
 use Rattle.jobs_run.proofs.fill.Statement.{statement}
 use Rattle.jobs_run.proofs.fill.Tie as tie
-use Rattle.jobs_run.proofs.fill.Reads as reads
-use Rattle.jobs_run.proofs.fill.Lts as lts
-use Rattle.jobs_run.proofs.put.Reads as put-reads
 
 abbrev Inv-loop : tie.InvT-loop
 Inv-loop file₀ from to kind value i₀ file i = length file ≡ length file₀

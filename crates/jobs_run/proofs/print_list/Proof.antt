@@ -5,11 +5,6 @@ use native.Mathlib.Omega.{arith}
 use lib.ListN.{length}
 use Rattle.jobs_run.proofs.print_list.Statement.{statement}
 use Rattle.jobs_run.proofs.print_list.Tie as tie
-use Rattle.jobs_run.proofs.print_list.Reads as reads
-use Rattle.jobs_run.proofs.print_list.Lts as lts
-use Rattle.jobs_run.proofs.number.Reads as number-reads
-use Rattle.jobs_run.proofs.of_entry.Reads as of-entry-reads
-use Rattle.jobs_run.proofs.text.Reads as text-reads
 
 abbrev Inv-loop : tie.InvT-loop
 Inv-loop name list i₀ i = i ≤ length list

@@ -5,10 +5,6 @@ use lib.ListN.{length-take}
 use borrow.Author.Needs.{needs}
 use Rattle.jobs_run.proofs.read.Statement.{statement}
 use Rattle.jobs_run.proofs.read.Tie as tie
-use Rattle.jobs_run.proofs.read.Reads as reads
-use Rattle.jobs_run.proofs.read.Lts as lts
-use Rattle.jobs.proofs.read_job.Reads as read-job-reads
-use Rattle.jobs_run.proofs.show.Reads as show-reads
 
 slice-aggregate-read-job : tie.Need-slice-aggregate-read-job
 slice-aggregate-read-job c = simp length-take (omega arith)

@@ -5,9 +5,6 @@ use lib.ListN.{length-take}
 use borrow.Author.Needs.{needs}
 use Rattle.jobs_run.proofs.read_into.Statement.{statement}
 use Rattle.jobs_run.proofs.read_into.Tie as tie
-use Rattle.jobs_run.proofs.read_into.Reads as reads
-use Rattle.jobs_run.proofs.read_into.Lts as lts
-use Rattle.jobs_run.proofs.read.Reads as read-reads
 
 slice-relend-prefix-read : tie.Need-slice-relend-prefix-read
 slice-relend-prefix-read c = search needs

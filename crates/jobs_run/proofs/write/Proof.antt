@@ -5,10 +5,6 @@ use lib.ListN.{length-take}
 use borrow.Author.Needs.{needs}
 use Rattle.jobs_run.proofs.write.Statement.{statement}
 use Rattle.jobs_run.proofs.write.Tie as tie
-use Rattle.jobs_run.proofs.write.Reads as reads
-use Rattle.jobs_run.proofs.write.Lts as lts
-use Rattle.jobs.proofs.write_job.Reads as write-job-reads
-use Rattle.jobs_run.proofs.show_written.Reads as show-written-reads
 
 slice-aggregate-write-job : tie.Need-slice-aggregate-write-job
 slice-aggregate-write-job c = search needs

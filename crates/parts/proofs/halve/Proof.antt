@@ -2,13 +2,13 @@
 -- Assumes nothing.
 use Prim.Native.Nat.{_-_, _/_}
 use native.Mathlib.Omega.{arith}
-use Rattle.parts.specs.Search.{Rising, Within}
+use Rattle.parts.specs.Rising.{Rising, Spanned}
 use Rattle.parts.proofs.Search.{half-stays, half-goes, step-at-most}
 use Rattle.parts.proofs.halve.Statement.{statement}
 use Rattle.parts.proofs.halve.Tie as tie
 
 abbrev Inv-loop : tie.InvT-loop
-Inv-loop xs n cap low₀ step₀ low step = Rising xs n × Within xs low₀ n cap low step
+Inv-loop xs n cap low₀ step₀ low step = Rising xs n × Spanned xs low₀ n cap low step
 
 abbrev μ-loop : tie.MeasureT-loop
 μ-loop xs n cap low₀ step₀ low step = step

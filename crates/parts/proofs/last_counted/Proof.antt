@@ -3,7 +3,7 @@
 use Prim.Native.Nat.{ℕ, _+_, _-_, _≤_}
 use mathlib.Core.Path.{_≡_, subst}
 use native.Mathlib.Omega.{arith}
-use Rattle.parts.specs.Search.{Rising, LastAtMost}
+use Rattle.parts.specs.Rising.{Rising, LastAtMost}
 use Rattle.parts.proofs.Search.{counted-start, counted-more, counted-same}
 use Rattle.parts.proofs.last_counted.Statement.{statement}
 use Rattle.parts.proofs.last_counted.Tie as tie

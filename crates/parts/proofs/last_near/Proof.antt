@@ -2,7 +2,8 @@
 -- Assumes nothing.
 use native.Mathlib.Omega.{arith}
 use borrow.Author.Needs.{needs}
-use Rattle.parts.proofs.Search.{rising-to, near-last, all-last}
+use Rattle.parts.proofs.Laws.{rising-to}
+use Rattle.parts.proofs.Search.{near-last, all-last}
 use Rattle.parts.proofs.last_near.Statement.{statement}
 use Rattle.parts.proofs.last_near.Tie as tie
 

@@ -3,22 +3,21 @@
 use Prim.Native.Nat.{_-_, _<_}
 use native.Mathlib.Omega.{arith}
 use lib.ListN.{length, length-set}
-use Rattle.chain.specs.Job.{jobOf}
 use Rattle.parts.proofs.Laws.{Summed, summed-start, summed-fits, summed-turn, summed-end}
 use Rattle.parts.proofs.prefix_sums.Statement.{statement}
 use Rattle.parts.proofs.prefix_sums.Tie as tie
 
 abbrev Inv-loop : tie.InvT-loop
-Inv-loop speeds weights sums₀ sum₀ i₀ sums sum i = (length weights < length sums₀) × Summed (jobOf speeds weights) sums₀ sums i sum
+Inv-loop weights sums₀ sum₀ i₀ sums sum i = (length weights < length sums₀) × Summed weights sums₀ sums i sum
 
 abbrev μ-loop : tie.MeasureT-loop
-μ-loop speeds weights sums₀ sum₀ i₀ sums sum i = length weights - i
+μ-loop weights sums₀ sum₀ i₀ sums sum i = length weights - i
 
 slice-write-sums : tie.Need-slice-write-sums Inv-loop μ-loop
 slice-write-sums c = omega arith
 
 loop-holds : tie.Need-loop-holds Inv-loop μ-loop
-loop-holds c = (omega (arith, length-set (c .args .sums .now) 0 0), summed-start (c .args .sums .now) (omega arith))
+loop-holds c = (omega (arith, length-set (c .args .sums .now) 0 0), summed-start (c .args .weights .now) (c .args .sums .now) (omega arith))
 
 mul-sum : tie.Need-mul-sum Inv-loop μ-loop
 mul-sum c = omega arith
@@ -44,7 +43,7 @@ loop-less c = omega arith
 loop-again : tie.Need-loop-again Inv-loop μ-loop
 loop-again c = (
   c .before .before .loop .inv .0,
-  summed-turn (c .before .before .before .pre .0) (c .before .before .loop .inv .0) (c .before .before .loop .inv .1) (omega arith),
+  summed-turn (c .before .before .loop .inv .0) (c .before .before .loop .inv .1) (omega arith),
 )
 
 same-length : tie.Need-same-length Inv-loop μ-loop

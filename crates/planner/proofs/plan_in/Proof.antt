@@ -3,8 +3,8 @@
 use native.Mathlib.Omega.{arith}
 use Rattle.chain.specs.Job.{Job, jobOf}
 use Rattle.chain.specs.Plan.{planOf}
-use Rattle.parts.proofs.Front.{behind-is}
-use Rattle.search.proofs.Laws.{behind-trans}
+use Rattle.parts.proofs.Front.{kept-is}
+use Rattle.search.proofs.Laws.{kept-trans}
 use Rattle.planner.proofs.Laws.{summed-ready, summed-behind, plan-given}
 use borrow.Author.Needs.{needs}
 use Rattle.planner.proofs.plan_in.Statement.{statement}
@@ -42,8 +42,8 @@ returns c =
     let v = s .pre .0 in
     let r = c .before .before .before .before .before .before .before .before .before .run-method .ensures in
     let p = c .before .before .close-plan .ensures in (
-      plan-given v (p .0) (behind-is (planOf job) (r .1 .1 .0) (p .1))
-          (behind-trans (summed-behind job (s .args .scratch .now) (c .before .before .before .before .before .before .before .before .before .before .before .before .before .before .prefix-sums .ensures) (s .pre .1 .1)) (r .1 .1 .1 .1)),
+      plan-given v (p .0) (kept-is (planOf job) (r .1 .1 .0) (p .1))
+          (kept-trans (summed-behind job (s .args .scratch .now) (c .before .before .before .before .before .before .before .before .before .before .before .before .before .before .prefix-sums .ensures) (s .pre .1 .1)) (r .1 .1 .1 .1)),
       r .1 .1 .1 .0,
     )
 

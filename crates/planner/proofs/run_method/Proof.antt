@@ -6,11 +6,11 @@ use lib.ListN.{length}
 use Rattle.chain.specs.Job.{Job, jobOf}
 use Rattle.chain.specs.Probe.{walk}
 use Rattle.chain.proofs.Ranges.{small-lendable}
-use Rattle.parts.proofs.Front.{behind-start, behind-written}
+use Rattle.parts.proofs.Front.{kept-start, kept-written}
 use Rattle.probe.proofs.Answer.{walk-count}
 use Rattle.dynamic.proofs.Laws.{tabled-ready, tabled-small}
 use Rattle.planner.specs.Answers.{scratchNeeded}
-use Rattle.planner.proofs.Laws.{ends-table, ends-bidding, ends-bisection, ended-lendable, tabled-behind}
+use Rattle.planner.proofs.Laws.{ends-table, ends-bidding, ends-bisection, ended-lendable, tabled-kept}
 use borrow.Author.Needs.{needs}
 use Rattle.planner.proofs.run_method.Statement.{statement}
 use Rattle.planner.proofs.run_method.Tie as tie
@@ -28,7 +28,7 @@ returns c =
       ends-table (s .args .method) (omega arith) t,
       (
         small-lendable (tabled-small t (s .pre .0 .valid)),
-        (behind-start (suc (length (s .args .speeds .now))) (s .args .separators .now), (tabled-ready t (s .pre .0), tabled-behind t)),
+        (kept-start (suc (length (s .args .speeds .now))) (s .args .separators .now), (tabled-ready t (s .pre .0), tabled-kept t)),
       ),
     )
 
@@ -46,13 +46,13 @@ returns-2 c =
     let s = c .before .before .before .before .before .before .before .before .before .before .before in
     let job : Job = jobOf (s .args .speeds .now) (s .args .weights .now) in
     let r = c .before .before .bidding-in in
-    let b = behind-start (suc (length (s .args .speeds .now))) (s .args .separators .now) in (
+    let b = kept-start (suc (length (s .args .speeds .now))) (s .args .separators .now) in (
       ends-bidding (s .args .method) (omega arith) (r .ensures .0),
       (
         ended-lendable (s .pre .0 .valid) (r .ensures .0),
         (
-          behind-written (walk job (r .result .bound)) _ b (s .pre .1 .0) (walk-count (s .pre .0 .valid) (r .result .bound)) (r .ensures .1),
-          (s .pre .0, behind-start (scratchNeeded job) (s .args .scratch .now)),
+          kept-written (walk job (r .result .bound)) _ b (s .pre .1 .0) (walk-count (s .pre .0 .valid) (r .result .bound)) (r .ensures .1),
+          (s .pre .0, kept-start (scratchNeeded job) (s .args .scratch .now)),
         ),
       ),
     )
@@ -72,7 +72,7 @@ returns-3 c =
     let job : Job = jobOf (s .args .speeds .now) (s .args .weights .now) in
     let r = c .before .before .bisection-in .ensures in (
       ends-bisection (s .args .method) (omega arith) (omega arith) (r .0),
-      (r .1 .0, (r .1 .1, (s .pre .0, behind-start (scratchNeeded job) (s .args .scratch .now)))),
+      (r .1 .0, (r .1 .1, (s .pre .0, kept-start (scratchNeeded job) (s .args .scratch .now)))),
     )
 
 pub run-method-spec : {M : Type 1} → statement M

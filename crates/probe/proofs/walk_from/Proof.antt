@@ -6,9 +6,8 @@ use native.Mathlib.Omega.{arith}
 use borrow.Author.Needs.{needs}
 use lib.ListN.{length, length-set}
 use Rattle.chain.specs.Job.{jobOf}
-use Rattle.chain.proofs.Ranges.{index-fits}
+use Rattle.chain.proofs.Ranges.{index-fits, narrow-products}
 use Rattle.probe.proofs.Walked.{Walked, walked-start, walked-turn, walked-end, answer-fits, answer-fails, rest-products, end-after, end-inside}
-use Rattle.probe.proofs.Bids.{part-narrow}
 use Rattle.probe.proofs.walk_from.Statement.{statement}
 use Rattle.probe.proofs.walk_from.Tie as tie
 
@@ -58,8 +57,10 @@ bid-of-requires c κs =
     let w = c .before .before .before .before .before .loop .inv in
     (s .pre .0, (omega arith, end-after (s .pre .0 .valid) (s .pre .1 .1 .0) w (c .part-end .ensures), end-inside (s .pre .0 .valid) (s .pre .1 .1 .0) w (c .part-end .ensures)))
 
-lesser-bound-requires : tie.Need-lesser-bound-requires Inv-loop μ-loop
-lesser-bound-requires c κs = (c .before .before .before .before .before .before .loop .inv .small, c .bid-of .ensures .1)
+lesser-requires : tie.Need-lesser-requires Inv-loop μ-loop
+lesser-requires c κs =
+    let h = narrow-products (c .before .before .before .before .before .before .loop .inv .small) (c .bid-of .ensures .1) in
+    (omega arith, omega arith)
 
 add-p : tie.Need-add-p Inv-loop μ-loop
 add-p c = omega arith
@@ -71,7 +72,7 @@ loop-again : tie.Need-loop-again Inv-loop μ-loop
 loop-again c =
     let s = c .before .before .before .before .before .before .before .before .before .before .before .before .before in
     walked-turn (s .pre .0 .valid) (s .pre .1 .1 .0) (c .before .before .before .before .before .before .before .loop .inv) (omega arith) (c .before .before .before .narrow .ensures)
-    (c .before .before .part-end .ensures) (c .before .bid-of .ensures .0) (c .lesser-bound .ensures)
+    (c .before .before .part-end .ensures) (c .before .bid-of .ensures .0) (c .lesser .ensures)
 
 narrow-requires-2 : tie.Need-narrow-requires-2 Inv-loop μ-loop
 narrow-requires-2 c κs = index-fits (c .before .before .before .before .before .before .before .pre .0 .valid) (c .before .loop .inv .inside)
@@ -94,16 +95,16 @@ mul-separators-3 c = omega arith
 slice-write-separators-3 : tie.Need-slice-write-separators-3 Inv-loop μ-loop
 slice-write-separators-3 c = simp length-set (omega (arith, c .before .before .before .loop .inv .front .same))
 
-part-bound-requires : tie.Need-part-bound-requires Inv-loop μ-loop
-part-bound-requires c κs =
+rest-of-requires : tie.Need-rest-of-requires Inv-loop μ-loop
+rest-of-requires c κs =
     let s = c .before .before .before .before .before .before .before .before .before in
     let h = c .before .before .before .loop .inv .inside in
-    (s .pre .0, (omega arith, omega arith, omega arith))
+    (s .pre .0, (omega arith, omega arith))
 
 at-most-requires : tie.Need-at-most-requires Inv-loop μ-loop
 at-most-requires c κs =
     let s = c .before .before .before .before .before .before .before .before .before .before in
-    let h = rest-products _ _ _ (s .pre .0 .valid) (s .pre .1 .0) (c .part-bound .ensures) in
+    let h = rest-products _ _ _ (s .pre .0 .valid) (s .pre .1 .0) (c .rest-of .ensures .0) in
     (omega arith, omega arith)
 
 same-length : tie.Need-same-length Inv-loop μ-loop
@@ -113,15 +114,14 @@ returns : tie.Need-returns Inv-loop μ-loop
 returns c =
     let s = c .before .before .before .before .before .before .before .before .before .before .before .before in
     let w = c .before .before .before .before .before .before .loop .inv in (
-      answer-fits (s .pre .0 .valid) (s .pre .1 .1 .0) w (omega arith) (c .before .before .part-bound .ensures) (sym (c .before .at-most .ensures) ∙ c .if1 .taken),
+      answer-fits (s .pre .0 .valid) (s .pre .1 .1 .0) w (omega arith) (c .before .before .rest-of .ensures .0) (sym (c .before .at-most .ensures) ∙ c .if1 .taken),
       walked-end (s .pre .0 .valid) (s .pre .1 .1 .0) w (omega arith) (c .before .before .before .before .narrow2 .ensures) (c .before .before .before .narrow3 .ensures),
     )
 
-lesser-bound-requires-2 : tie.Need-lesser-bound-requires-2 Inv-loop μ-loop
-lesser-bound-requires-2 c κs =
-    let s = c .before .before .before .before .before .before .before .before .before .before .before .before in
-    let l = c .before .before .before .before .before .before .loop in
-    (l .inv .small, part-narrow _ _ _ (s .pre .0 .valid) (c .before .before .part-bound .ensures))
+lesser-requires-2 : tie.Need-lesser-requires-2 Inv-loop μ-loop
+lesser-requires-2 c κs =
+    let h = narrow-products (c .before .before .before .before .before .before .loop .inv .small) (c .before .before .rest-of .ensures .1) in
+    (omega arith, omega arith)
 
 same-length-2 : tie.Need-same-length-2 Inv-loop μ-loop
 same-length-2 c = simp length-set (c .before .before .before .before .before .before .before .loop .inv .front .same)
@@ -130,7 +130,7 @@ returns-2 : tie.Need-returns-2 Inv-loop μ-loop
 returns-2 c =
     let s = c .before .before .before .before .before .before .before .before .before .before .before .before .before in
     let w = c .before .before .before .before .before .before .before .loop .inv in (
-      answer-fails (s .pre .0 .valid) (s .pre .1 .1 .0) w (omega arith) (c .before .before .before .part-bound .ensures) (sym (c .before .before .at-most .ensures) ∙ c .before .if1 .left) (c .lesser-bound2 .ensures),
+      answer-fails (s .pre .0 .valid) (s .pre .1 .1 .0) w (omega arith) (c .before .before .before .rest-of .ensures .0) (sym (c .before .before .at-most .ensures) ∙ c .before .if1 .left) (c .lesser2 .ensures),
       walked-end (s .pre .0 .valid) (s .pre .1 .1 .0) w (omega arith) (c .before .before .before .before .before .narrow2 .ensures) (c .before .before .before .before .narrow3 .ensures),
     )
 
@@ -151,7 +151,7 @@ walk-from-spec =
     slice-write-separators
     part-end-requires
     bid-of-requires
-    lesser-bound-requires
+    lesser-requires
     add-p
     loop-less
     loop-again
@@ -162,10 +162,10 @@ walk-from-spec =
     add-separators
     mul-separators-3
     slice-write-separators-3
-    part-bound-requires
+    rest-of-requires
     at-most-requires
     same-length
     returns
-    lesser-bound-requires-2
+    lesser-requires-2
     same-length-2
     returns-2)

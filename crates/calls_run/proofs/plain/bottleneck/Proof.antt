@@ -6,10 +6,6 @@ use borrow.Author.Needs.{needs}
 use native.Mathlib.Omega.{arith}
 use Rattle.calls_run.proofs.plain.bottleneck.Statement.{statement}
 use Rattle.calls_run.proofs.plain.bottleneck.Tie as tie
-use Rattle.calls_run.proofs.plain.bottleneck.Reads as reads
-use Rattle.calls_run.proofs.plain.bottleneck.Lts as lts
-use Rattle.calls_run.proofs.plain.at_most.Reads as at-most-reads
-use Rattle.calls_run.proofs.plain.bound_at.Reads as bound-at-reads
 
 abbrev Inv-loop : tie.InvT-loop
 Inv-loop speeds weights separators greatest₀ p₀ greatest p = ℕ

@@ -6,10 +6,6 @@ use borrow.Author.Needs.{needs}
 use native.Mathlib.Omega.{arith}
 use Rattle.calls_run.proofs.plain.least_bid.Statement.{statement}
 use Rattle.calls_run.proofs.plain.least_bid.Tie as tie
-use Rattle.calls_run.proofs.plain.least_bid.Reads as reads
-use Rattle.calls_run.proofs.plain.least_bid.Lts as lts
-use Rattle.calls_run.proofs.plain.at_most.Reads as at-most-reads
-use Rattle.calls_run.proofs.plain.bid.Reads as bid-reads
 
 abbrev Inv-loop : tie.InvT-loop
 Inv-loop speeds weights separators least₀ p₀ least p = ℕ

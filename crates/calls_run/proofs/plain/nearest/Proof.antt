@@ -6,11 +6,6 @@ use borrow.Author.Needs.{needs}
 use native.Mathlib.Omega.{arith}
 use Rattle.calls_run.proofs.plain.nearest.Statement.{statement}
 use Rattle.calls_run.proofs.plain.nearest.Tie as tie
-use Rattle.calls_run.proofs.plain.nearest.Reads as reads
-use Rattle.calls_run.proofs.plain.nearest.Lts as lts
-use Rattle.calls_run.proofs.plain.distance.Reads as distance-reads
-use Rattle.calls_run.proofs.plain.product.Reads as product-reads
-use Rattle.calls_run.proofs.plain.sum.Reads as sum-reads
 
 abbrev Inv-loop : tie.InvT-loop
 Inv-loop weights total-speed target best₀ least₀ i₀ best least i = ℕ

@@ -6,8 +6,6 @@ use native.Mathlib.Omega.{arith}
 use borrow.Author.Needs.{needs}
 use Rattle.calls_run.proofs.plain.product.Statement.{statement}
 use Rattle.calls_run.proofs.plain.product.Tie as tie
-use Rattle.calls_run.proofs.plain.product.Reads as reads
-use Rattle.calls_run.proofs.plain.product.Lts as lts
 
 mul-result : tie.Need-mul-result
 mul-result c =

@@ -7,13 +7,6 @@ use borrow.Author.Needs.{needs}
 use native.Mathlib.Omega.{arith}
 use Rattle.calls_run.proofs.plain.quick.Statement.{statement}
 use Rattle.calls_run.proofs.plain.quick.Tie as tie
-use Rattle.calls_run.proofs.plain.quick.Reads as reads
-use Rattle.calls_run.proofs.plain.quick.Lts as lts
-use Rattle.calls_run.proofs.plain.ideal.Reads as ideal-reads
-use Rattle.calls_run.proofs.plain.nearest.Reads as nearest-reads
-use Rattle.calls_run.proofs.plain.product.Reads as product-reads
-use Rattle.calls_run.proofs.plain.put.Reads as put-reads
-use Rattle.calls_run.proofs.plain.sum.Reads as sum-reads
 
 abbrev Inv-loop : tie.InvT-loop
 Inv-loop speeds weights separators₀ all p₀ separators p = length separators ≡ length separators₀

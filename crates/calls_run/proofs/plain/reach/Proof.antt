@@ -6,10 +6,6 @@ use borrow.Author.Needs.{needs}
 use native.Mathlib.Omega.{arith}
 use Rattle.calls_run.proofs.plain.reach.Statement.{statement}
 use Rattle.calls_run.proofs.plain.reach.Tie as tie
-use Rattle.calls_run.proofs.plain.reach.Reads as reads
-use Rattle.calls_run.proofs.plain.reach.Lts as lts
-use Rattle.calls_run.proofs.plain.at_most.Reads as at-most-reads
-use Rattle.calls_run.proofs.plain.part.Reads as part-reads
 
 abbrev Inv-loop : tie.InvT-loop
 Inv-loop speeds weights p a bound greatest₀ b₀ greatest b = ℕ

@@ -6,9 +6,6 @@ use borrow.Author.Needs.{needs}
 use native.Mathlib.Omega.{arith}
 use Rattle.calls_run.proofs.plain.same.Statement.{statement}
 use Rattle.calls_run.proofs.plain.same.Tie as tie
-use Rattle.calls_run.proofs.plain.same.Reads as reads
-use Rattle.calls_run.proofs.plain.same.Lts as lts
-use Rattle.calls_run.proofs.plain.entry.Reads as entry-reads
 
 abbrev Inv-loop : tie.InvT-loop
 Inv-loop xs ys i₀ i = i ≤ length xs

@@ -5,10 +5,6 @@ use borrow.Author.Needs.{needs}
 use native.Mathlib.Omega.{arith}
 use Rattle.calls_run.proofs.plain.sum.Statement.{statement}
 use Rattle.calls_run.proofs.plain.sum.Tie as tie
-use Rattle.calls_run.proofs.plain.sum.Reads as reads
-use Rattle.calls_run.proofs.plain.sum.Lts as lts
-use Rattle.calls_run.proofs.plain.entry.Reads as entry-reads
-use Rattle.std.proofs.num.wrapping_add_u64.Reads as wrapping-add-u64-reads
 
 abbrev Inv-loop : tie.InvT-loop
 Inv-loop xs a b total₀ i₀ total i = ℕ

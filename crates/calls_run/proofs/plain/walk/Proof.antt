@@ -7,11 +7,6 @@ use borrow.Author.Needs.{needs}
 use native.Mathlib.Omega.{arith}
 use Rattle.calls_run.proofs.plain.walk.Statement.{statement}
 use Rattle.calls_run.proofs.plain.walk.Tie as tie
-use Rattle.calls_run.proofs.plain.walk.Reads as reads
-use Rattle.calls_run.proofs.plain.walk.Lts as lts
-use Rattle.calls_run.proofs.plain.put.Reads as put-reads
-use Rattle.calls_run.proofs.plain.reach.Reads as reach-reads
-use Rattle.calls_run.proofs.plain.separator.Reads as separator-reads
 
 abbrev Inv-loop : tie.InvT-loop
 Inv-loop speeds weights bound separators₀ p₀ separators p = (1 ≤ p) × (length separators ≡ length separators₀)

@@ -6,11 +6,6 @@ use borrow.Author.Needs.{needs}
 use native.Mathlib.Omega.{arith}
 use Rattle.calls_run.proofs.say.list.Statement.{statement}
 use Rattle.calls_run.proofs.say.list.Tie as tie
-use Rattle.calls_run.proofs.say.list.Reads as reads
-use Rattle.calls_run.proofs.say.list.Lts as lts
-use Rattle.calls_run.proofs.say.wide.Reads as wide-reads
-use Rattle.io.proofs.print_decimal.Reads as print-decimal-reads
-use Rattle.io.proofs.write_all.Reads as write-all-reads
 
 abbrev Inv-loop : tie.InvT-loop
 Inv-loop xs i₀ t4 t5 i = i ≤ length xs

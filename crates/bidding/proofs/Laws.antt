@@ -1,0 +1,62 @@
+-- What the loop of bidding keeps.
+-- Assumes nothing.
+use Prim.Native.Nat.{ℕ, zero, suc, _+_, _*_, _<_, _^_}
+use mathlib.Core.Path.{_≡_, sym, ap, subst, _∙_}
+use mathlib.Core.Bool.{not}
+use native.Mathlib.Omega.{arith}
+use native.Mathlib.Numerals.{add-one}
+use lib.Dec.{T, lit<}
+use Rattle.bound.specs.declared.Bound.{Bound}
+use Rattle.chain.specs.Ranges.{Lendable}
+use Rattle.chain.specs.Job.{Job, Valid, tasks, last, ideal}
+use Rattle.chain.specs.Probe.{fits, nextBid}
+use Rattle.chain.specs.Bidding.{bidding}
+use Rattle.chain.specs.Plan.{BiddingEnds}
+use Rattle.chain.proofs.Parts.{valid-proper}
+use Rattle.chain.proofs.Indices.{first-of}
+use Rattle.chain.proofs.Bidding.{failures-below}
+use Rattle.chain.proofs.Ranges.{small-lendable, ideal-lendable, next-bid-small}
+use Rattle.chain.proofs.Counts.{below-next, count-fits}
+
+-- Bidding after k failures: the bound to try next, and the count of failures.
+pub record Bidden (job : Job) (bound : Bound) (count : ℕ) : Type 0 where
+  pub is : bound ≡ bidding job count
+  pub failed : (j : ℕ) → j < count → T (not (fits job (bidding job j)))
+  pub lendable : Lendable bound
+
+pub bidden-start : {job : Job} {bound : Bound} → Valid job → bound ≡ ideal job → Bidden job bound 0
+unfolding bidding
+bidden-start {job} v e =
+    record { is = e; failed = λ j h. absurd (let z : ⊥ = omega arith in z); lendable = subst Lendable (sym e) (ideal-lendable v) }
+
+-- One more failure is below (P − 1) · N.
+pub bidden-room : {job : Job} {bound : Bound} {count : ℕ} → Valid job → Bidden job bound count → T (not (fits job bound)) → count < last job * tasks job
+bidden-room {job} {bound} {count} v b t =
+    failures-below (valid-proper v) count
+    (below-next {Q = λ j. T (not (fits job (bidding job j)))} (b .failed) (subst (λ (B : Bound). T (not (fits job B))) (b .is) t))
+
+-- The count of failures is at most (P − 1) · N, so that one more fits 32 bits.
+pub bidden-fits : {job : Job} {bound : Bound} (count : ℕ) → Valid job → Bidden job bound count → count + 1 < 2 ^ 32
+bidden-fits {job} zero v b = lit< tt
+bidden-fits {job} (suc k) v b =
+    omega (arith, failures-below (valid-proper v) k (b .failed), count-fits v)
+
+pub bidden-next : {job : Job} {bound : Bound} {count : ℕ} (new : Bound) → Valid job → Bidden job bound count → T (not (fits job bound)) → new ≡ nextBid job bound
+    → Bidden job new (count + 1)
+unfolding bidding
+bidden-next {job} {bound} {count} new v b t e =
+    subst (Bidden job new) (sym (add-one count))
+    (record {
+      is = e ∙ ap (nextBid job) (b .is);
+      failed = below-next {Q = λ j. T (not (fits job (bidding job j)))} (b .failed) (subst (λ (B : Bound). T (not (fits job B))) (b .is) t);
+      lendable = subst Lendable (sym e) (small-lendable (next-bid-small v bound));
+    })
+
+pub bidden-end : {job : Job} {bound : Bound} {count : ℕ} → Bidden job bound count → T (fits job bound) → BiddingEnds job (count + 1) bound
+bidden-end {job} {bound} {count} b t =
+    record {
+      failures = count;
+      first-fit = first-of (λ k. fits job (bidding job k)) count (subst (λ (B : Bound). T (fits job B)) (b .is) t) (b .failed);
+      counted = add-one count;
+      yields = b .is;
+    }

@@ -1,0 +1,119 @@
+-- `bidding_in` meets its contract: the loop keeps `Bidden`.
+-- Assumes nothing.
+use Prim.Native.Nat.{suc, _-_, _*_}
+use mathlib.Core.Path.{sym, _∙_}
+use native.Mathlib.Omega.{arith}
+use borrow.Author.Needs.{needs}
+use lib.ListN.{length}
+use Rattle.chain.specs.Job.{Job, jobOf, last}
+use Rattle.chain.specs.Probe.{walk}
+use Rattle.parts.specs.Kept.{KeptFrom}
+use Rattle.parts.proofs.Front.{kept-start, kept-written, kept-is}
+use Rattle.probe.specs.Walk.{Reached}
+use Rattle.probe.proofs.Walked.{reached-first}
+use Rattle.probe.proofs.Answer.{walk-count, fits-outcome, fails-outcome}
+use Rattle.bidding.proofs.Laws.{Bidden, bidden-start, bidden-room, bidden-fits, bidden-next, bidden-end}
+use Rattle.bidding.proofs.Resume.{failed-written}
+use Rattle.bidding.proofs.bidding_in.Statement.{statement}
+use Rattle.bidding.proofs.bidding_in.Tie as tie
+
+abbrev Inv-loop : tie.InvT-loop
+Inv-loop speeds weights sums separators₀ bound₀ point₀ failures₀ separators bound point failures =
+    Bidden (jobOf speeds weights) bound failures × (KeptFrom (suc (length speeds)) separators₀ separators × Reached (jobOf speeds weights) bound separators point)
+
+abbrev μ-loop : tie.MeasureT-loop
+μ-loop speeds weights sums separators₀ bound₀ point₀ failures₀ separators bound point failures = last (jobOf speeds weights) * length weights - failures
+
+ideal-of-requires : tie.Need-ideal-of-requires Inv-loop μ-loop
+ideal-of-requires c κs = search needs
+
+loop-holds : tie.Need-loop-holds Inv-loop μ-loop
+loop-holds c =
+    let s = c .before .before .before .before .before in (
+      bidden-start (s .pre .0 .valid) (c .ideal-of .ensures),
+      (
+        kept-start (suc (length (s .args .speeds .now))) (s .args .separators .now),
+        reached-first (jobOf (s .args .speeds .now) (s .args .weights .now)) (c .ideal-of .result) (s .args .separators .now),
+      ),
+    )
+
+walk-from-requires : tie.Need-walk-from-requires Inv-loop μ-loop
+walk-from-requires c κs =
+    let l = c .before in
+    let s = c .before .before .before .before .before .before .before in
+    (s .pre .0, (l .loop .inv .0 .lendable, (omega (arith, l .loop .inv .1 .0 .same, s .pre .1), l .loop .inv .1 .1)))
+
+enum-told : tie.Need-enum-told Inv-loop μ-loop
+enum-told c = search needs
+
+add-t13 : tie.Need-add-t13 Inv-loop μ-loop
+add-t13 c = record { fits = bidden-fits (c .before .before .before .before .before .before .loop .failures) (c .before .before .before .before .before .before .before .before .before .before .before .before .pre .0 .valid) (c .before .before .before .before .before .before .loop .inv .0) }
+
+same-length : tie.Need-same-length Inv-loop μ-loop
+same-length c = search needs
+
+returns : tie.Need-returns Inv-loop μ-loop
+returns c =
+    let l = c .before .before .before .before .before .before in
+    let s = c .before .before .before .before .before .before .before .before .before .before .before .before in
+    let job : Job = jobOf (s .args .speeds .now) (s .args .weights .now) in
+    let y = c .before .before .before .before .walk-from .ensures in (
+      bidden-end (l .loop .inv .0) (fits-outcome job (l .loop .bound) (sym (y .0) ∙ c .enum-told .given .1)),
+      kept-is (walk job (l .loop .bound)) (l .loop .inv .1 .0) (y .1),
+    )
+
+enum-known-answer : tie.Need-enum-known-answer Inv-loop μ-loop
+enum-known-answer c = search needs
+
+parting-requires : tie.Need-parting-requires Inv-loop μ-loop
+parting-requires c κs =
+    let l = c .before .before .before .before .before .before .before .before in
+    let s = c .before .before .before .before .before .before .before .before .before .before .before .before .before .before in
+    let job : Job = jobOf (s .args .speeds .now) (s .args .weights .now) in
+    let y = c .before .before .before .before .before .before .walk-from .ensures in
+    let f = fails-outcome job (l .loop .bound) (sym (y .0) ∙ c .before .before .answer .given .1) in
+    (s .pre .0, failed-written (l .loop .separators) (s .pre .0 .valid) (l .loop .inv .0 .lendable) (f .0) (f .1) (omega (arith, l .loop .inv .1 .0 .same, s .pre .1)) (y .1))
+
+add-failures : tie.Need-add-failures Inv-loop μ-loop
+add-failures c = record { fits = bidden-fits (c .before .before .before .before .before .before .before .before .before .loop .failures) (c .before .before .before .before .before .before .before .before .before .before .before .before .before .before .before .pre .0 .valid) (c .before .before .before .before .before .before .before .before .before .loop .inv .0) }
+
+loop-less : tie.Need-loop-less Inv-loop μ-loop
+loop-less c =
+    let l = c .before .before .before .before .before .before .before .before .before in
+    let s = c .before .before .before .before .before .before .before .before .before .before .before .before .before .before .before in
+    let job : Job = jobOf (s .args .speeds .now) (s .args .weights .now) in
+    let f = fails-outcome job (l .loop .bound) (sym (c .before .before .before .before .before .before .before .walk-from .ensures .0) ∙ c .before .before .before .answer .given .1) in
+    omega (arith, bidden-room (s .pre .0 .valid) (l .loop .inv .0) (f .0))
+
+loop-again : tie.Need-loop-again Inv-loop μ-loop
+loop-again c =
+    let l = c .before .before .before .before .before .before .before .before .before in
+    let s = c .before .before .before .before .before .before .before .before .before .before .before .before .before .before .before in
+    let job : Job = jobOf (s .args .speeds .now) (s .args .weights .now) in
+    let y = c .before .before .before .before .before .before .before .walk-from .ensures in
+    let f = fails-outcome job (l .loop .bound) (sym (y .0) ∙ c .before .before .before .answer .given .1) in (
+      bidden-next (c .before .before .before .answer .given .0 .0) (s .pre .0 .valid) (l .loop .inv .0) (f .0) (f .1),
+      (
+        kept-written (walk job (l .loop .bound)) _ (l .loop .inv .1 .0) (s .pre .1) (walk-count (s .pre .0 .valid) (l .loop .bound)) (y .1),
+        c .parting .ensures,
+      ),
+    )
+
+pub bidding-in-spec : {M : Type 1} → statement M
+bidding-in-spec =
+    tie.close
+    (tie.spec
+    Inv-loop
+    μ-loop
+    ideal-of-requires
+    loop-holds
+    walk-from-requires
+    enum-told
+    add-t13
+    same-length
+    returns
+    enum-known-answer
+    parting-requires
+    add-failures
+    loop-less
+    loop-again)

@@ -1,0 +1,88 @@
+// Bidding: document 01, "The three methods", 2. All functions here are inner: their callers have tested the job.
+ghost use Prim.Native.Nat.{suc, _<_};
+ghost use mathlib.Core.Path.{_≡_};
+ghost use mathlib.Core.List.{_++_};
+ghost use lib.ListN.{length, drop};
+ghost use Rattle.chain.specs.Job.{Job, jobOf, processors};
+ghost use Rattle.chain.specs.Probe.{walk};
+ghost use Rattle.chain.specs.Plan.{BiddingEnds};
+ghost use Rattle.parts.specs.Prefix.{Ready};
+ghost use Rattle.probe.specs.Walk.{Reached};
+ghost use Rattle.bidding.specs.Failed.{FailedWalk};
+use bound::Bound;
+use chain::Outcome;
+use parts::Found;
+use parts::ideal_of;
+use parts::index;
+use probe::Point;
+use probe::bid_of;
+use probe::walk_from;
+
+// Inner. Where the walk at the next bid parts from the failed walk in front of the list: before the first processor whose bid is
+// within it. Up to there the separators and the bids stay.
+fn parting(speeds: &[u32], weights: &[u32], sums: &[u32], next: Bound, separators: &[u32]) -> Point
+    ghost { Job }
+    requires { λ job. ⌜ jobOf (now speeds) (now weights) ≡ job ⌝ }
+    requires { λ job. ⌜ Ready job (now sums) ⌝ }
+    requires { λ job. ⌜ FailedWalk job next (now separators) ⌝ }
+    ensures { λ job r. ⌜ Reached job next (now (separators .entry)) r ⌝ }
+{
+    let last = speeds.len() - 1;
+    let mut least = Bound::INFINITE;
+    let mut a = 0;
+    let mut p = 0;
+    while p < last {
+        let end = index(separators[p + 1]);
+        let bid = bid_of(speeds, weights, sums, p, a, end);
+        if Bound::at_most(bid, next) {
+            return Point {
+                processor: p,
+                start: a,
+                least,
+            };
+        }
+        least = Bound::lesser(least, bid);
+        a = end;
+        p += 1;
+    }
+    Point {
+        processor: p,
+        start: a,
+        least,
+    }
+}
+
+// Inner. Bidding: a trial at the ideal, then at each least next bid until one fits. Each walk goes on from where it parts from the
+// one before. It leaves the walk at the bound found.
+pub fn bidding_in(speeds: &[u32], weights: &[u32], sums: &[u32], separators: &mut [u32]) -> Found
+    ghost { Job }
+    requires { λ job. ⌜ jobOf (now speeds) (now weights) ≡ job ⌝ }
+    requires { λ job. ⌜ Ready job (now sums) ⌝ }
+    requires { λ job. ⌜ processors job < length (now separators) ⌝ }
+    ensures { λ job r. ⌜ BiddingEnds job (r .count) (r .bound) ⌝ }
+    ensures { λ job r. ⌜ now (separators .exit) ≡ walk job (r .bound) ++ drop (suc (processors job)) (now (separators .entry)) ⌝ }
+{
+    let mut bound = ideal_of(speeds, weights, sums);
+    let mut point = Point {
+        processor: 0,
+        start: 0,
+        least: Bound::INFINITE,
+    };
+    let mut failures = 0u32;
+    loop {
+        let answer = walk_from(speeds, weights, sums, bound, point, separators);
+        match answer {
+            Outcome::Fits => {
+                return Found {
+                    bound,
+                    count: failures + 1,
+                };
+            }
+            Outcome::Fails(next) => {
+                point = parting(speeds, weights, sums, next, separators);
+                bound = next;
+                failures += 1;
+            }
+        }
+    }
+}

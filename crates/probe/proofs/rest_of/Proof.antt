@@ -1,0 +1,33 @@
+-- `rest_of` meets its contract.
+-- Assumes nothing.
+use mathlib.Core.Path.{_≡_, refl}
+use native.Mathlib.Omega.{arith}
+use Rattle.chain.specs.Job.{Job, jobOf, tasks, partBound}
+use Rattle.parts.proofs.Laws.{prefix-to, prefix-bound}
+use Rattle.probe.proofs.Bids.{part-narrow}
+use borrow.Author.Needs.{needs}
+use Rattle.probe.proofs.rest_of.Statement.{statement}
+use Rattle.probe.proofs.rest_of.Tie as tie
+
+mul-part-bound : tie.Need-mul-part-bound
+mul-part-bound c = search needs
+
+shared-slice-read-part-bound : tie.Need-shared-slice-read-part-bound
+shared-slice-read-part-bound c = search needs
+
+part-bound-requires : tie.Need-part-bound-requires
+part-bound-requires c κs =
+    let s = c .before .before .before .before in
+    (prefix-to (s .pre .0) (omega arith), s .pre .1 .1)
+
+returns : tie.Need-returns
+returns c =
+    let s = c .before .before .before .before .before in
+    let job : Job = jobOf (s .args .speeds .now) (s .args .weights .now) in
+    let e : c .part-bound .result ≡ partBound job (s .args .p) (s .args .a) (tasks job) =
+        prefix-bound (s .pre .0 .prefix) (s .args .p) (s .args .a) (tasks job) (s .pre .1 .0) (s .pre .1 .1) (omega arith) refl (c .part-bound .ensures) in
+    (e, part-narrow _ _ _ (s .pre .0 .valid) e)
+
+pub rest-of-spec : {M : Type 1} → statement M
+rest-of-spec =
+    tie.close (tie.spec mul-part-bound shared-slice-read-part-bound part-bound-requires returns)
