@@ -40,9 +40,27 @@ pub enum Planned {
     Refused(u32),
 }
 
+// A method chosen by its number, or a number that is no method's.
+pub enum Chosen {
+    Known(Method),
+    Unknown,
+}
+
+// The method with this number.
+pub fn choose(number: u32) -> Chosen
+    ensures { λ r. ⌜ r ≡ chosenOf number ⌝ }
+{
+    match number {
+        1 => Chosen::Known(Method::Table),
+        2 => Chosen::Known(Method::Bidding),
+        3 => Chosen::Known(Method::Bisection),
+        _ => Chosen::Unknown,
+    }
+}
+
 // Inner. Runs the method; the scratch list begins with the prefix sums, and still does when it ends.
 fn run_method(
-    method: u32,
+    method: Method,
     speeds: &[u32],
     weights: &[u32],
     separators: &mut [u32],
@@ -52,24 +70,22 @@ fn run_method(
     requires { λ job. ⌜ jobOf (now speeds) (now weights) ≡ job ⌝ }
     requires { λ job. ⌜ Ready job (now scratch) ⌝ }
     requires { λ job. ⌜ (processors job < length (now separators)) × (5 * suc (tasks job) ≤ length (now scratch)) ⌝ }
-    ensures { λ job r. ⌜ MethodEnds (methodOf method) job (r .count) (r .bound) ⌝ }
+    ensures { λ job r. ⌜ MethodEnds method job (r .count) (r .bound) ⌝ }
     ensures { λ job r. ⌜ Lendable (r .bound) ⌝ }
     ensures { λ job r. ⌜ KeptFrom (suc (processors job)) (now (separators .entry)) (now (separators .exit)) ⌝ }
     ensures { λ job r. ⌜ Ready job (now (scratch .exit)) ⌝ }
     ensures { λ job r. ⌜ KeptFrom (5 * suc (tasks job)) (now (scratch .entry)) (now (scratch .exit)) ⌝ }
 {
-    if method == 1 {
-        return table_in(speeds, weights, scratch);
+    match method {
+        Method::Table => table_in(speeds, weights, scratch),
+        Method::Bidding => bidding_in(speeds, weights, scratch, separators),
+        Method::Bisection => bisection_in(speeds, weights, scratch, separators),
     }
-    if method == 2 {
-        return bidding_in(speeds, weights, scratch, separators);
-    }
-    bisection_in(speeds, weights, scratch, separators)
 }
 
 // Inner. The closing walk at the bottleneck found, which writes the separators and is not counted, and the figures.
 fn close_plan(
-    method: u32,
+    method: Method,
     speeds: &[u32],
     weights: &[u32],
     sums: &[u32],
@@ -80,9 +96,9 @@ fn close_plan(
     requires { λ job. ⌜ jobOf (now speeds) (now weights) ≡ job ⌝ }
     requires { λ job. ⌜ Ready job (now sums) ⌝ }
     requires { λ job. ⌜ processors job < length (now separators) ⌝ }
-    requires { λ job. ⌜ MethodEnds (methodOf method) job (found .count) (found .bound) ⌝ }
+    requires { λ job. ⌜ MethodEnds method job (found .count) (found .bound) ⌝ }
     requires { λ job. ⌜ Lendable (found .bound) ⌝ }
-    ensures { λ job r. ⌜ PlanBy (methodOf method) job (planWith job r) ⌝ }
+    ensures { λ job r. ⌜ PlanBy method job (planWith job r) ⌝ }
     ensures { λ job r. ⌜ now (separators .exit) ≡ planOf job ++ drop (suc (processors job)) (now (separators .entry)) ⌝ }
 {
     let bound = found.bound;
@@ -102,7 +118,7 @@ fn close_plan(
 
 // Inner. Plans a job that has been tested, by a method that has been tested.
 pub fn plan_in(
-    method: u32,
+    method: Method,
     speeds: &[u32],
     weights: &[u32],
     separators: &mut [u32],
@@ -115,12 +131,32 @@ pub fn plan_in(
     ensures { λ job r. ⌜ PlanGiven job method (now (separators .entry)) (now (scratch .entry)) (now (separators .exit)) (now (scratch .exit)) r ⌝ }
     ensures { λ job r. ⌜ Ready job (now (scratch .exit)) ⌝ }
 {
-    prefix_sums(speeds, weights, scratch);
+    prefix_sums(weights, scratch);
     let found = run_method(method, speeds, weights, separators, scratch);
     close_plan(method, speeds, weights, scratch, found, separators)
 }
 
-// Plans a job by a method: the first P + 1 separators become the plan's, or the refusal: 1, 5, 6, 7, 8 or 9, in this order.
+// Plans a tested list of inputs by a method that is known: the plan, or the refusal: 5, 6, 7, 8 or 9, in this order.
+fn plan_by(
+    method: Method,
+    speeds: &[u32],
+    weights: &[u32],
+    separators: &mut [u32],
+    scratch: &mut [u32],
+) -> Planned
+    ensures { λ r.
+        let job = jobOf (now (speeds .entry)) (now (weights .entry)) in
+        ⌜ PlannedBy job method (now (separators .entry)) (now (scratch .entry)) (now (separators .exit)) (now (scratch .exit)) r ⌝ }
+{
+    let tested = test_plan(speeds, weights, separators.len(), scratch.len());
+    if tested != 0 {
+        return Planned::Refused(tested);
+    }
+    Planned::Accepted(plan_in(method, speeds, weights, separators, scratch))
+}
+
+// Plans a job by the method with this number: the first P + 1 separators become the plan's, or the refusal: 1, 5, 6, 7, 8 or 9, in
+// this order.
 pub fn plan(
     method: u32,
     speeds: &[u32],
@@ -132,21 +168,9 @@ pub fn plan(
         let job = jobOf (now (speeds .entry)) (now (weights .entry)) in
         ⌜ PlanAnswer job method (now (separators .entry)) (now (scratch .entry)) (now (separators .exit)) (now (scratch .exit)) r ⌝ }
 {
-    if method < 1 {
-        return Planned::Refused(1);
+    let chosen = choose(method);
+    match chosen {
+        Chosen::Unknown => Planned::Refused(1),
+        Chosen::Known(known) => plan_by(known, speeds, weights, separators, scratch),
     }
-    if 3 < method {
-        return Planned::Refused(1);
-    }
-    let tested = test_job(speeds, weights);
-    if tested != 0 {
-        return Planned::Refused(tested);
-    }
-    if separators.len() <= speeds.len() {
-        return Planned::Refused(9);
-    }
-    if scratch.len() < 5 * (weights.len() + 1) {
-        return Planned::Refused(9);
-    }
-    Planned::Accepted(plan_in(method, speeds, weights, separators, scratch))
 }

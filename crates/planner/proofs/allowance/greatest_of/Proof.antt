@@ -5,9 +5,9 @@ use mathlib.Core.Path.{subst, sym}
 use mathlib.Core.Logic.{⊎-elim}
 use native.Mathlib.Omega.{arith}
 use lib.ListN.{length}
-use Rattle.figures.proofs.Laws.{Most, most-start, most-raised, most-kept, most-end}
-use Rattle.figures.proofs.greatest_of.Statement.{statement}
-use Rattle.figures.proofs.greatest_of.Tie as tie
+use Rattle.planner.proofs.Allowances.{Most, most-start, most-raised, most-kept, most-end}
+use Rattle.planner.proofs.allowance.greatest_of.Statement.{statement}
+use Rattle.planner.proofs.allowance.greatest_of.Tie as tie
 
 abbrev Inv-loop : tie.InvT-loop
 Inv-loop values most₀ i₀ most i = Most values i most

@@ -5,9 +5,9 @@ use mathlib.Core.Path.{subst, sym}
 use mathlib.Core.Logic.{⊎-elim}
 use native.Mathlib.Omega.{arith}
 use lib.ListN.{length}
-use Rattle.figures.proofs.Laws.{Fewest, fewest-start, fewest-lowered, fewest-kept, fewest-end}
-use Rattle.figures.proofs.least_of.Statement.{statement}
-use Rattle.figures.proofs.least_of.Tie as tie
+use Rattle.planner.proofs.Allowances.{Fewest, fewest-start, fewest-lowered, fewest-kept, fewest-end}
+use Rattle.planner.proofs.allowance.least_of.Statement.{statement}
+use Rattle.planner.proofs.allowance.least_of.Tie as tie
 
 abbrev Inv-loop : tie.InvT-loop
 Inv-loop values least₀ i₀ least i = Fewest values i least

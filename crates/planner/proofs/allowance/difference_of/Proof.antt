@@ -7,10 +7,10 @@ use Rattle.chain.specs.Plan.{difference}
 use Rattle.chain.proofs.Parts.{valid-proper}
 use Rattle.chain.proofs.Extremes.{slowest-positive}
 use Rattle.chain.proofs.Ranges.{difference-product}
-use Rattle.figures.proofs.Laws.{square-fits}
+use Rattle.chain.proofs.Counts.{square-fits}
 use borrow.Author.Needs.{needs}
-use Rattle.figures.proofs.difference_of.Statement.{statement}
-use Rattle.figures.proofs.difference_of.Tie as tie
+use Rattle.planner.proofs.allowance.difference_of.Statement.{statement}
+use Rattle.planner.proofs.allowance.difference_of.Tie as tie
 
 greatest-of-requires : tie.Need-greatest-of-requires
 greatest-of-requires c κs = search needs

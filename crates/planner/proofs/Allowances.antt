@@ -1,0 +1,120 @@
+-- Laws for the allowance: the greatest and the least of a list, and the methods one by one.
+-- Assumes nothing.
+use Prim.Native.Nat.{ℕ, suc, _+_, _-_, _*_, _≤_, _<_, _^_}
+use mathlib.Core.Path.{_≡_, refl, sym, ap, subst, _∙_}
+use mathlib.Core.Bool.{Bool, true, false, cond}
+use mathlib.Core.List.{List, [], _∷_}
+use native.Mathlib.Omega.{arith}
+use native.Mathlib.Decide.{decLe}
+use lib.Count.{leadingZeros}
+use lib.Dec.{leb}
+use lib.ListN.{length, getD}
+use Rattle.chain.specs.declared.Method.{Method}
+use Rattle.chain.specs.declared.Method.the-variants.{Table, Bidding, Bisection}
+use Rattle.chain.specs.Lists.{greatestOf, leastOf, digits}
+use Rattle.chain.specs.Job.{Job, tasks, last, slowestOf}
+use Rattle.chain.specs.Plan.{difference, allowance}
+use Rattle.chain.proofs.Digits.{digits-leading}
+use Rattle.chain.proofs.Extremes.{greatest-of-le, greatest-cases, slowest-le}
+use Rattle.parts.proofs.Laws.{entry-is}
+
+-- What holds at each index below i and at i holds below i + 1.
+pub more : {Q : ℕ → Type 0} {i : ℕ} → ((k : ℕ) → k < i → Q k) → Q i → (k : ℕ) → k < i + 1 → Q k
+more {Q} {i} h x k l = elim (decLe (suc k) i) [ yes m ↦ h k m | no m ↦ subst Q (let e : i ≡ k = omega arith in e) x ]
+
+-- The greatest so far: at least each entry passed, at most the greatest of all.
+pub record Most (xs : List ℕ) (i m : ℕ) : Type 0 where
+  pub to : i ≤ length xs
+  pub below : m ≤ greatestOf xs
+  pub above : (k : ℕ) → k < i → getD xs k 0 ≤ m
+
+pub most-start : (xs : List ℕ) → Most xs 0 0
+most-start xs = record { to = omega arith; below = omega arith; above = λ k h. absurd (let z : ⊥ = omega arith in z) }
+
+pub most-raised : {xs : List ℕ} {i m : ℕ} → Most xs i m → i < length xs → m ≤ getD xs i 0 → Most xs (i + 1) (getD xs i 0)
+most-raised {xs} {i} {m} w h l =
+    record {
+      to = omega arith;
+      below = greatest-of-le xs i;
+      above = more {Q = λ k. getD xs k 0 ≤ getD xs i 0} (λ k x. omega (arith, w .above k x)) (omega arith);
+    }
+
+pub most-kept : {xs : List ℕ} {i m : ℕ} → Most xs i m → i < length xs → getD xs i 0 ≤ m → Most xs (i + 1) m
+most-kept {xs} {i} {m} w h l = record { to = omega arith; below = w .below; above = more {Q = λ k. getD xs k 0 ≤ m} (w .above) l }
+
+pub most-end : {xs : List ℕ} {i m : ℕ} → Most xs i m → length xs ≤ i → m ≡ greatestOf xs
+most-end {xs} {i} {m} w h = omega (arith, w .below, greatest-cases (λ n. n ≤ m) xs each)
+  where
+    each : (k : ℕ) → getD xs k 0 ≤ m
+    each k = elim (decLe (suc k) (length xs)) [ yes l ↦ w .above k (omega arith) | no l ↦ past l ]
+      where
+        past : (suc k ≤ length xs → ⊥) → getD xs k 0 ≤ m
+        past l = omega (arith, lib.ListN.List·getD-eq-default xs 0 {n = k} (omega arith))
+
+-- A property of every entry is the least's.
+least-cases : (Q : ℕ → Type 0) (x : ℕ) (ys : List ℕ) → Q x → ((k : ℕ) → k < length ys → Q (getD ys k 0)) → Q (leastOf x ys)
+unfolding leastOf
+least-cases Q x [] q h = q
+least-cases Q x (y ∷ ys) q h = go (leb x (leastOf y ys)) (least-cases Q y ys (h 0 (omega arith)) (λ k l. h (suc k) (omega arith)))
+  where
+    go : (t : Bool) → Q (leastOf y ys) → Q (cond t x (leastOf y ys))
+    go true r = q
+    go false r = r
+
+-- The least so far: at most each entry passed, at least the least of all.
+pub record Fewest (xs : List ℕ) (i m : ℕ) : Type 0 where
+  pub from : 1 ≤ i
+  pub to : i ≤ length xs
+  pub above : slowestOf xs ≤ m
+  pub below : (k : ℕ) → k < i → m ≤ getD xs k 0
+
+slowest-at : (xs : List ℕ) (i : ℕ) → i < length xs → slowestOf xs ≤ getD xs i 0
+slowest-at xs i h = subst (λ (n : ℕ). slowestOf xs ≤ n) (entry-is xs i 1 0 h) (slowest-le xs i h)
+
+pub fewest-start : (xs : List ℕ) → 0 < length xs → Fewest xs 1 (getD xs 0 0)
+fewest-start xs h =
+    record {
+      from = omega arith;
+      to = h;
+      above = slowest-at xs 0 h;
+      below = λ k l. subst (λ (i : ℕ). getD xs 0 0 ≤ getD xs i 0) (let e : 0 ≡ k = omega arith in e) (omega arith);
+    }
+
+pub fewest-lowered : {xs : List ℕ} {i m : ℕ} → Fewest xs i m → i < length xs → getD xs i 0 ≤ m → Fewest xs (i + 1) (getD xs i 0)
+fewest-lowered {xs} {i} {m} w h l =
+    record {
+      from = omega arith;
+      to = omega arith;
+      above = slowest-at xs i h;
+      below = more {Q = λ k. getD xs i 0 ≤ getD xs k 0} (λ k x. omega (arith, w .below k x)) (omega arith);
+    }
+
+pub fewest-kept : {xs : List ℕ} {i m : ℕ} → Fewest xs i m → i < length xs → m ≤ getD xs i 0 → Fewest xs (i + 1) m
+fewest-kept {xs} {i} {m} w h l =
+    record { from = omega (arith, w .from); to = omega arith; above = w .above; below = more {Q = λ k. m ≤ getD xs k 0} (w .below) l }
+
+pub fewest-end : (xs : List ℕ) {i m : ℕ} → Fewest xs i m → length xs ≤ i → m ≡ slowestOf xs
+unfolding slowestOf
+fewest-end [] {i} {m} w h = absurd (let z : ⊥ = omega (arith, w .from, w .to) in z)
+fewest-end (x ∷ xs) {i} {m} w h =
+    omega (
+      arith,
+      w .above,
+      least-cases (λ n. m ≤ n) x xs (w .below 0 (omega (arith, w .from))) (λ k l. w .below (suc k) (omega (arith, w .to))),
+    )
+
+-- The allowances, method by method.
+module _ (job : Job) {m : Method} where
+  pub allowance-table : m ≡ Table → last job * tasks job ≡ allowance m job
+  unfolding allowance
+  allowance-table e = sym (ap (λ (k : Method). allowance k job) e)
+
+  pub allowance-bidding : m ≡ Bidding → last job * tasks job + 1 ≡ allowance m job
+  unfolding allowance
+  allowance-bidding e = sym (ap (λ (k : Method). allowance k job) e)
+
+  -- By the leading zeros of the 64-bit D.
+  pub allowance-bisection : (d : ℕ) → m ≡ Bisection → d ≡ difference job → d < 2 ^ 64 → 1 + (64 - leadingZeros 64 d) ≡ allowance m job
+  unfolding allowance
+  allowance-bisection d a e h =
+      ap (λ (n : ℕ). 1 + n) (sym (digits-leading 64 d h) ∙ ap digits e) ∙ sym (ap (λ (k : Method). allowance k job) a)

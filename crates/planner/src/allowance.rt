@@ -1,0 +1,70 @@
+// The allowance of a method. All functions here are inner.
+ghost use Prim.Native.Nat.{_<_};
+ghost use mathlib.Core.Path.{_≡_};
+ghost use lib.ListN.{length};
+ghost use Rattle.chain.specs.Lists.{greatestOf};
+ghost use Rattle.chain.specs.Job.{Job, jobOf, Valid, slowestOf};
+ghost use Rattle.chain.specs.Plan.{difference, allowance};
+use chain::Method;
+use parts::wide;
+
+// The greatest of a list, 0 of none.
+fn greatest_of(values: &[u32]) -> u32
+    ensures { λ r. ⌜ r ≡ greatestOf (now (values .entry)) ⌝ }
+{
+    let mut most = 0u32;
+    let mut i = 0;
+    while i < values.len() {
+        let v = values[i];
+        if most < v {
+            most = v;
+        }
+        i += 1;
+    }
+    most
+}
+
+// The least of a list. Inner: it is not empty.
+fn least_of(values: &[u32]) -> u32
+    requires { ⌜ 0 < length (now values) ⌝ }
+    ensures { λ r. ⌜ r ≡ slowestOf (now (values .entry)) ⌝ }
+{
+    let mut least = values[0];
+    let mut i = 1;
+    while i < values.len() {
+        let v = values[i];
+        if v < least {
+            least = v;
+        }
+        i += 1;
+    }
+    least
+}
+
+// D, the heaviest weight times the fastest speed squared over the slowest speed. Inner.
+fn difference_of(speeds: &[u32], weights: &[u32]) -> u64
+    ghost { Job }
+    requires { λ job. ⌜ jobOf (now speeds) (now weights) ≡ job ⌝ }
+    requires { λ job. ⌜ Valid job ⌝ }
+    ensures { λ job r. ⌜ r ≡ difference job ⌝ }
+{
+    let heaviest = wide(greatest_of(weights));
+    let fastest = wide(greatest_of(speeds));
+    let slowest = wide(least_of(speeds));
+    heaviest * (fastest * fastest) / slowest
+}
+
+// The allowance of a method. Inner: the job is within the limits.
+pub fn allowance_of(method: Method, speeds: &[u32], weights: &[u32]) -> u32
+    ghost { Job }
+    requires { λ job. ⌜ jobOf (now speeds) (now weights) ≡ job ⌝ }
+    requires { λ job. ⌜ Valid job ⌝ }
+    ensures { λ job r. ⌜ r ≡ allowance method job ⌝ }
+{
+    let most = (speeds.len() - 1) * weights.len();
+    match method {
+        Method::Table => most as u32,
+        Method::Bidding => (most + 1) as u32,
+        Method::Bisection => 1 + (64 - u64::leading_zeros(difference_of(speeds, weights))),
+    }
+}

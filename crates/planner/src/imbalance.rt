@@ -1,0 +1,23 @@
+// The imbalance of a plan.
+ghost use mathlib.Core.Path.{_≡_};
+ghost use Rattle.bound.specs.Order.{_≼_};
+ghost use Rattle.chain.specs.Lists.{sum};
+ghost use Rattle.chain.specs.Ranges.{Small};
+ghost use Rattle.chain.specs.Job.{Job, jobOf, Valid, ideal};
+ghost use Rattle.chain.specs.Plan.{imbalance};
+use bound::Bound;
+
+// The imbalance of a bottleneck in thousandths of the ideal. Inner: the bottleneck is no less than the ideal.
+pub fn imbalance_of(speeds: &[u32], weights: &[u32], total: u64, bottleneck: Bound) -> u64
+    ghost { Job }
+    requires { λ job. ⌜ jobOf (now speeds) (now weights) ≡ job ⌝ }
+    requires { λ job. ⌜ Valid job ⌝ }
+    requires { λ job. ⌜ (total ≡ sum (now weights)) × Small bottleneck × (ideal job ≼ bottleneck) ⌝ }
+    ensures { λ job r. ⌜ r ≡ imbalance job bottleneck ⌝ }
+{
+    if total == 0 {
+        return 0;
+    }
+    let ideal = total * bottleneck.speed;
+    1000 * (bottleneck.load * parts::total(speeds) - ideal) / ideal
+}
