@@ -15,7 +15,7 @@ use Rattle.bound.proofs.Order.{le-trans, eq-sym}
 use Rattle.chain.specs.Job.{Job, tasks, processors, last, at, Partition, bottleneck, Within}
 use Rattle.chain.specs.Probe.{walk, fits}
 use Rattle.chain.specs.Plan.{Best}
-use Rattle.chain.proofs.Parts.{Proper}
+use Rattle.chain.proofs.Parts.{Proper, separator-below}
 use Rattle.chain.proofs.Bottleneck.{processors-last, bottleneck-real, bottleneck-le, within-bottleneck, le-bottleneck}
 use Rattle.chain.proofs.Walk.{walk-partition, walk-within, walk-at, walk-end, walk-alike, partition-fits, partition-covers, furthest}
 
@@ -53,15 +53,11 @@ module _ {job : Job} (ok : Proper job) where
             omega (
               arith,
               walk-at job B p l,
-              furthest ok B r p (at s p) (partition-covers ok pa w p (omega (arith, ok .some))) (inside (processors job - p) p (omega (arith, ok .some))),
+              furthest ok B r p (at s p) (partition-covers ok pa w p (omega (arith, ok .some))) (separator-below pa p (omega (arith, ok .some))),
             )
         | no l ↦ past l
       ]
     where
-      inside : (d p : ℕ) → p + d ≡ processors job → at s p ≤ tasks job
-      inside zero p e = omega (arith, pa .end, ap (at s) (let f : p ≡ processors job = omega arith in f))
-      inside (suc d) p e = omega (arith, pa .grows p (omega arith), inside d (suc p) (omega arith))
-
       past : (p ≤ last job → ⊥) → at s p ≤ at (walk job B) p
       past l =
           elim (decLe p (processors job)) [

@@ -5,42 +5,23 @@ use mathlib.Core.Path.{_≡_, refl, sym, ap, subst, _∙_}
 use mathlib.Core.Bool.{not}
 use native.Mathlib.Omega.{arith}
 use native.Mathlib.Decide.{decLe}
+use native.Mathlib.Nat.{mul-le-mul-right}
 use lib.Dec.{T, T-not}
 use Rattle.bound.specs.declared.Bound.{Bound}
 use Rattle.bound.specs.Order.{_≼_, _≺_, Real}
 use Rattle.bound.proofs.Order.{make-le, lt-le, not-both}
 use Rattle.chain.specs.Lists.{sumTo, isFirst}
-use Rattle.chain.specs.Job.{Job, tasks, last, speedOf, partLoad, totalWeight, totalSpeed, partBound, ideal}
+use Rattle.chain.specs.Job.{Job, tasks, last, speedOf, totalWeight, totalSpeed, partBound, ideal}
 use Rattle.chain.specs.Probe.{separator, fits, bid, nextBid}
 use Rattle.chain.specs.Bidding.{bidding}
-use Rattle.chain.proofs.Parts.{Proper, part-left, weight-all}
+use Rattle.chain.proofs.Sums.{sum-mono-at, sum-below}
+use Rattle.chain.proofs.Parts.{Proper, part-left, weight-all, load-le}
 use Rattle.chain.proofs.Indices.{first-holds, first-fails, first-exists}
 use Rattle.chain.proofs.Bottleneck.{processors-last}
 use Rattle.chain.proofs.Walk.{separator-to, separator-grows, separator-past, growing, walk-partition, walk-within, le-fits}
 use Rattle.chain.proofs.NextBid.{bid-before, bid-last, next-cases, next-real, fails-before-end, next-above, next-least}
 use Rattle.chain.proofs.Best.{Least}
 use Rattle.chain.proofs.Ideal.{total-speed-is, ideal-real, ideal-within}
-
--- A sum of greater or equal summands, one of them greater, is greater.
-sum-grows : (f g : ℕ → ℕ) → ((p : ℕ) → f p ≤ g p) → (n : ℕ) → sumTo f n ≤ sumTo g n
-unfolding sumTo
-sum-grows f g h zero = omega arith
-sum-grows f g h (suc n) = omega (arith, sum-grows f g h n, h n)
-
-sum-grows-at : (f g : ℕ → ℕ) → ((p : ℕ) → f p ≤ g p) → (n i : ℕ) → i < n → f i < g i → sumTo f n < sumTo g n
-unfolding sumTo
-sum-grows-at f g h zero i l m = absurd (let z : ⊥ = omega arith in z)
-sum-grows-at f g h (suc n) i l m =
-    elim (decLe (suc i) n) [
-      | yes x ↦ omega (arith, sum-grows-at f g h n i x m, h n)
-      | no x ↦ omega (arith, sum-grows f g h n, ap f (let e : n ≡ i = omega arith in e), ap g (let e : n ≡ i = omega arith in e))
-    ]
-
--- Summands below m: the sum and their number are at most the number times m.
-sum-below : (f : ℕ → ℕ) (m n : ℕ) → ((p : ℕ) → p < n → f p < m) → sumTo f n + n ≤ n * m
-unfolding sumTo
-sum-below f m zero h = omega arith
-sum-below f m (suc n) h = omega (arith, sum-below f m n (λ p l. h p (omega arith)), h n (omega arith))
 
 module _ {job : Job} (ok : Proper job) where
   -- The ideal is at most every bound that fits.
@@ -98,7 +79,7 @@ module _ {job : Job} (ok : Proper job) where
 
           before : p < last job → sumTo (λ p. separator job B (suc p)) (last job) < sumTo (λ p. separator job C (suc p)) (last job)
           before l =
-              sum-grows-at (λ p. separator job B (suc p)) (λ p. separator job C (suc p)) (λ i. ahead (suc i)) (last job) p l moved
+              sum-mono-at (λ p. separator job B (suc p)) (λ p. separator job C (suc p)) (λ i. ahead (suc i)) (last job) p l moved
             where
               k : ℕ
               k = suc (separator job B (suc p))
@@ -119,13 +100,14 @@ module _ {job : Job} (ok : Proper job) where
 
   -- On a single processor the trial at the ideal fits.
   pub single-fits : last job ≡ 0 → T (fits job (ideal job))
-  unfolding ideal partBound partLoad separator sumTo
+  unfolding ideal partBound separator sumTo
   single-fits e =
       le-fits ok (ideal job)
       (subst (λ (q : ℕ). partBound job q (separator job (ideal job) q) (tasks job) ≼ ideal job) (sym e)
       (make-le
       (omega (
         arith,
+        mul-le-mul-right (totalSpeed job) (load-le job 0 (tasks job)),
         ap (λ (w : ℕ). w * totalSpeed job) (weight-all job),
         ap (λ (v : ℕ). totalWeight job * v) (total-speed-is job ∙ ap (sumTo (speedOf job)) (processors-last ok ∙ ap suc e)),
       ))))

@@ -16,5 +16,6 @@ pub mod NextBid
 pub mod Parts
 pub mod Ranges
 pub mod Refusals
+pub mod Sums
 pub mod Table
 pub mod Walk

@@ -14,21 +14,11 @@ use Rattle.chain.specs.Job.{Job, tasks, last, partBound}
 use Rattle.chain.specs.Dynamic.{candidate, crossingOf, lesserAt, tableValue, crossing, movesTo, moves}
 use Rattle.chain.specs.Plan.{allowance}
 use Rattle.chain.specs.declared.Method.the-variants.{Table}
+use Rattle.chain.proofs.Sums.{sum-same, sum-le}
 use Rattle.chain.proofs.Indices.{Smallest, smallest-is}
 use Rattle.chain.proofs.Parts.{Proper, part-empty, part-right, part-left, part-real}
 use Rattle.chain.proofs.Cover.{Cover}
 use Rattle.chain.proofs.CoverLaws.{cover-down}
-
--- Equal summands have equal sums; summands of at most m have a sum of at most n times m.
-sum-same : {f g : ℕ → ℕ} → ((p : ℕ) → f p ≡ g p) → (n : ℕ) → sumTo f n ≡ sumTo g n
-unfolding sumTo
-sum-same h zero = refl
-sum-same h (suc n) = omega (arith, sum-same h n, h n)
-
-sum-le : {f : ℕ → ℕ} (m : ℕ) → ((p : ℕ) → f p ≤ m) → (n : ℕ) → sumTo f n ≤ n * m
-unfolding sumTo
-sum-le m h zero = omega arith
-sum-le m h (suc n) = omega (arith, sum-le m h n, h n)
 
 -- A row that grows against parts that fall, the last of which is at most everything.
 record Against (f g : ℕ → Bound) (i : ℕ) : Type 0 where

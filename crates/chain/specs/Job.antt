@@ -43,9 +43,13 @@ pub record Valid (job : Job) : Type 0 where
   pub speeds-positive : (p : ℕ) → 1 ≤ speedOf job p
   pub speeds-limit : (p : ℕ) → speedOf job p ≤ maxSpeed
 
+-- The weights of the tasks of the part from a to b, none if a ≥ b.
+unfoldable pub partOf : Job → ℕ → ℕ → List ℕ
+partOf job a b = take (b - a) (drop a (job .weights))
+
 -- "W(a,b) is the total weight of tiles a to b, 0 if a > b." Here the tasks of the part from a to b: W(a + 1, b).
 unfoldable pub partWeight : Job → ℕ → ℕ → ℕ
-partWeight job a b = sum (take (b - a) (drop a (job .weights)))
+partWeight job a b = sum (partOf job a b)
 
 -- The load of a part: its weight.
 unfoldable pub partLoad : Job → ℕ → ℕ → ℕ
