@@ -16,6 +16,7 @@ use Rattle.chain.specs.Heuristic.{miss, nearest, heuristic}
 use Rattle.chain.proofs.Sums.{sum-grows}
 use Rattle.chain.proofs.Parts.{Proper, weight-split, weight-empty, weight-all, load-le}
 use Rattle.chain.proofs.Indices.{SmallestLeast, smallest-least-is, length-tabulate, at-tabulate, after-tabulate}
+use Rattle.chain.proofs.Within.{parts-within}
 use Rattle.chain.proofs.Bottleneck.{processors-last, bottleneck-le}
 use Rattle.chain.proofs.Extremes.{weight-step, speed-slowest}
 use Rattle.chain.proofs.Ideal.{total-speed-is}
@@ -185,12 +186,11 @@ module _ {job : Job} (ok : Proper job) where
   pub heuristic-close : Within job (heuristic job) (plus (ideal job) (over (heaviest job) (slowest job)))
   unfolding boundAt partBound ideal
   heuristic-close =
-      record {
-        each = λ p h.
-            make-le
-            (cross (partLoad job (at (heuristic job) p) (at (heuristic job) (suc p))) (totalSpeed job) (totalWeight job)
-            (speedOf job p) (heaviest job) (slowest job) (load-close p h) (speed-slowest job p h));
-      }
+      parts-within job heuristic-partition
+      (λ p h.
+      make-le
+      (cross (partLoad job (at (heuristic job) p) (at (heuristic job) (suc p))) (totalSpeed job) (totalWeight job)
+      (speedOf job p) (heaviest job) (slowest job) (load-close p h) (speed-slowest job p h)))
 
   -- So is its bottleneck.
   pub heuristic-bound : bottleneck job (heuristic job) ≼ plus (ideal job) (over (heaviest job) (slowest job))

@@ -1,18 +1,19 @@
--- The ideal is a real fraction and at most every bound that some partition stays within, every bottleneck among them: the
+-- The ideal is a number and at most every bound that some partition stays within, every bottleneck among them: the
 -- loads of all parts add up to at least the weight of all tasks.
 -- Assumes nothing.
-use Prim.Native.Nat.{ℕ, zero, suc, _+_, _*_, _≤_, _<_}
-use mathlib.Core.Path.{_≡_}
+use Prim.Native.Nat.{ℕ, zero, suc, _*_, _≤_, _<_}
+use mathlib.Core.Path.{_≡_, ap, _∙_}
 use mathlib.Core.List.{List}
 use native.Mathlib.Omega.{arith}
 use native.Mathlib.Nat.{mul-le-mul-right}
 use Rattle.bound.specs.declared.Bound.{Bound}
-use Rattle.bound.specs.Order.{_≼_, Real}
-use Rattle.bound.proofs.Order.{open-le, make-le, speed-real}
+use Rattle.bound.specs.Order.{_≼_, Finite}
+use Rattle.bound.proofs.Order.{open-le, make-le}
 use Rattle.chain.specs.Lists.{sumTo}
-use Rattle.chain.specs.Job.{Job, processors, last, speedOf, partWeight, totalSpeed, partBound, at, Partition, boundAt, bottleneck, ideal, Within}
+use Rattle.chain.specs.Job.{Job, tasks, processors, last, speedOf, partWeight, totalWeight, totalSpeed, partBound, at, Partition, boundAt, bottleneck, ideal, Within}
 use Rattle.chain.proofs.Sums.{sum-is-sumTo}
-use Rattle.chain.proofs.Parts.{Proper, weight-split, weight-empty, weight-all, weight-le-load}
+use Rattle.chain.proofs.Parts.{Proper, weight-split, weight-empty, weight-all, load-le, weight-le-load}
+use Rattle.chain.proofs.Within.{bounds-within}
 use Rattle.chain.proofs.Bottleneck.{processors-last, within-bottleneck}
 
 -- All speed is the sum of the speeds of the processors.
@@ -34,10 +35,22 @@ module _ {job : Job} (ok : Proper job) where
   total-speed-positive =
       rw (total-speed-is job, processors-last ok) (omega (arith, ok .positive (last job)))
 
-  -- So the ideal is a real fraction.
-  pub ideal-real : Real (ideal job)
+  -- So the ideal is a number.
+  pub ideal-finite : Finite (ideal job)
   unfolding ideal
-  ideal-real = speed-real total-speed-positive
+  ideal-finite = record { speed-positive = total-speed-positive }
+
+  -- A single processor's part of all tasks is within it.
+  pub ideal-single : last job ≡ 0 → partBound job 0 0 (tasks job) ≼ ideal job
+  unfolding ideal partBound sumTo
+  ideal-single e =
+      make-le
+      (omega (
+        arith,
+        mul-le-mul-right (totalSpeed job) (load-le job 0 (tasks job)),
+        ap (λ (w : ℕ). w * totalSpeed job) (weight-all job),
+        ap (λ (v : ℕ). totalWeight job * v) (total-speed-is job ∙ ap (sumTo (speedOf job)) (processors-last ok ∙ ap suc e)),
+      ))
 
   module _ {s : List ℕ} {B : Bound} (part : Partition job s) (w : Within job s B) where
     -- What the first processors' parts weigh together.
@@ -46,7 +59,7 @@ module _ {job : Job} (ok : Proper job) where
     first-parts zero h = rw (part .first, weight-empty job 0) (omega arith)
     first-parts (suc p) h =
         rw (weight-split job 0 (at s p) (at s (suc p)) (omega arith) (part .grows p h))
-        (omega (arith, first-parts p (omega arith), part-le job s p (w .each p h)))
+        (omega (arith, first-parts p (omega arith), part-le job s p (bounds-within job w p h)))
 
     -- The ideal is at most every bound that some partition stays within.
     pub ideal-within : ideal job ≼ B
@@ -56,4 +69,4 @@ module _ {job : Job} (ok : Proper job) where
 
   -- The ideal is at most every bottleneck.
   pub ideal-least : (s : List ℕ) → Partition job s → ideal job ≼ bottleneck job s
-  ideal-least s part = ideal-within part (within-bottleneck ok s)
+  ideal-least s part = ideal-within part (within-bottleneck ok part)

@@ -19,3 +19,4 @@ pub mod Refusals
 pub mod Sums
 pub mod Table
 pub mod Walk
+pub mod Within

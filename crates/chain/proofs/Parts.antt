@@ -3,7 +3,7 @@
 -- Assumes nothing.
 use Prim.Native.Nat.{ℕ, zero, suc, _+_, _-_, _≤_, _<_}
 use mathlib.Core.Path.{_≡_, refl, sym, ap, _∙_}
-use mathlib.Core.List.{List, [], _∷_, _++_}
+use mathlib.Core.List.{List, [], _++_}
 use native.Mathlib.Omega.{arith}
 use native.Mathlib.Nat.{mul-le-mul-right, le-trans}
 use lib.ListN.{take, drop, length-drop}
@@ -22,6 +22,13 @@ pub record Proper (job : Job) : Type 0 where
 
 pub valid-proper : {job : Job} → Valid job → Proper job
 valid-proper v = record { some = v .some-processor; positive = v .speeds-positive }
+
+-- What those ask that need a partition to exist.
+pub record Plannable (job : Job) : Type 0 where
+  pub proper : Proper job
+
+pub valid-plannable : {job : Job} → Valid job → Plannable job
+valid-plannable v = record { proper = valid-proper v }
 
 module _ (job : Job) where
   -- The tasks of a part: of two parts side by side, of none, and past the last task.

@@ -2,6 +2,7 @@
 -- Only the lemmas of the first part open the limits; the others cite them by name.
 -- Assumes nothing.
 use Prim.Native.Nat.{ℕ, zero, suc, _+_, _-_, _*_, _^_, _≤_, _<_}
+use mathlib.Core.Path.{sym, subst}
 use mathlib.Core.Bool.{Bool, true, false, _&&_}
 use mathlib.Core.List.{List}
 use native.Mathlib.Omega.{arith}
@@ -13,11 +14,12 @@ use Rattle.bound.proofs.Order.{lesser-cases}
 use Rattle.chain.specs.Limits.{maxTasks, maxWeight, maxLoad, maxProcessors, maxSpeed, maxBoundLoad, maxBoundSpeed}
 use Rattle.chain.specs.Ranges.{Small, Lendable, Narrow}
 use Rattle.chain.specs.Lists.{sumTo}
-use Rattle.chain.specs.Job.{Job, tasks, processors, last, speedOf, Valid, partWeight, partLoad, totalWeight, totalSpeed, heaviest, fastest, partBound, at, boundAt, bottleneck, ideal}
+use Rattle.chain.specs.Job.{Job, tasks, processors, last, speedOf, Valid, partWeight, partLoad, totalWeight, totalSpeed, heaviest, fastest, partBound, offer, at, boundAt, bottleneck, ideal}
 use Rattle.chain.specs.Probe.{separator, bid, leastBidTo, nextBid}
 use Rattle.chain.specs.Refusal.{boundTest}
 use Rattle.chain.proofs.Sums.{sum-le, sum-limit}
 use Rattle.chain.proofs.Parts.{valid-proper, weight-le-total, load-le}
+use Rattle.chain.proofs.Within.{offer-part}
 use Rattle.chain.proofs.Extremes.{default-le, greatest-cases}
 use Rattle.chain.proofs.Ideal as ideals
 use Rattle.chain.proofs.Bottleneck.{bottleneck-cases}
@@ -154,6 +156,10 @@ module _ {job : Job} (v : Valid job) where
   pub bottleneck-small : (s : List ℕ) → Small (bottleneck job s)
   bottleneck-small s = bottleneck-cases (valid-proper v) Small s (λ p h. bound-small s p)
 
+  -- Every offer is small.
+  pub offer-small : (p a b : ℕ) → Small (offer job p a b)
+  offer-small p a b = subst Small (sym (offer-part job p a b)) (part-small p a b)
+
   -- Every bid is small.
   pub bid-small : (B : Bound) (p : ℕ) → Small (bid job B p)
   unfolding bid
@@ -162,9 +168,9 @@ module _ {job : Job} (v : Valid job) where
       a : ℕ
       a = separator job B p
 
-      go : (t : Bool) → Small (pick t (partBound job p a (suc (separator job B (suc p)))) (partBound job p a (tasks job)))
-      go true = part-small p a (suc (separator job B (suc p)))
-      go false = part-small p a (tasks job)
+      go : (t : Bool) → Small (pick t (offer job p a (suc (separator job B (suc p)))) (offer job p a (tasks job)))
+      go true = offer-small p a (suc (separator job B (suc p)))
+      go false = offer-small p a (tasks job)
 
   least-bid-small : (B : Bound) (p : ℕ) → Small (leastBidTo job B p)
   unfolding leastBidTo
