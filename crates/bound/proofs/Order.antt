@@ -5,10 +5,11 @@ use mathlib.Core.Path.{_≡_, refl, sym, ap, subst}
 use mathlib.Core.Bool.{Bool, true, false, not}
 use mathlib.Core.Logic.{_⊎_, inl, inr}
 use native.Mathlib.Omega.{arith}
-use native.Mathlib.Nat.{mul-le-mul-right, le-of-mul-le-mul-right}
+use native.Mathlib.Decide.{decLe}
+use native.Mathlib.Nat.{mul-le-mul-right, le-of-mul-le-mul-right, one-le-mul}
 use lib.Dec.{T, leb, leb→le, le→leb, nleb→lt, T-not, not-T}
 use Rattle.bound.specs.declared.Bound.{Bound}
-use Rattle.bound.specs.Order.{nought, infinite, le, _≼_, _≺_, _≈_, pick, greater, lesser, Real}
+use Rattle.bound.specs.Order.{nought, infinite, le, _≼_, _≺_, _≈_, pick, greater, lesser, Real, Finite}
 
 -- What the order says of the products, and back.
 pub open-le : {B C : Bound} → B ≼ C → B .load * C .speed ≤ C .load * B .speed
@@ -98,6 +99,25 @@ zero-load-le {B} C e = make-le (subst (λ (n : ℕ). n * C .speed ≤ C .load * 
 
 pub speed-real : {B : Bound} → 0 < B .speed → Real B
 speed-real h = record { positive = omega arith }
+
+-- A bound either has a speed or is at least every bound.
+pub finite-real : {B : Bound} → Finite B → Real B
+finite-real h = speed-real (h .speed-positive)
+
+pub finite-or-not : (B : Bound) → (Finite B) ⊎ (B .speed ≡ 0)
+finite-or-not B = elim (decLe 1 (B .speed)) [ yes h ↦ inl (record { speed-positive = h }) | no h ↦ inr (omega arith) ]
+
+pub le-speedless : (B : Bound) {C : Bound} → C .speed ≡ 0 → B ≼ C
+le-speedless B {C} e = make-le (subst (λ (n : ℕ). B .load * n ≤ C .load * B .speed) (sym e) (omega arith))
+
+-- What is at most a number is a number.
+pub finite-below : {B C : Bound} → Real B → B ≼ C → Finite C → Finite B
+finite-below {B} {C} r h f = elim (finite-or-not B) [ inl x ↦ x | inr e ↦ absurd (impossible e (open-le h)) ]
+  where
+    impossible : B .speed ≡ 0 → B .load * C .speed ≤ C .load * B .speed → ⊥
+    impossible e k =
+        let z : C .load * B .speed ≡ C .load * 0 = ap (λ (n : ℕ). C .load * n) e in
+        omega (arith, one-le-mul {a = B .load} {b = C .speed} (omega (arith, r .positive)) (f .speed-positive))
 
 -- Equal as bounds.
 pub eq-refl : (B : Bound) → B ≈ B

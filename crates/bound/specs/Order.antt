@@ -68,3 +68,7 @@ middle B C = half (plus B C)
 -- A bound that is a number or above all numbers: any but 0/0.
 pub record Real (B : Bound) : Type 0 where
   pub positive : 0 < B .load + B .speed
+
+-- A bound that is a number: it has a speed.
+pub record Finite (B : Bound) : Type 0 where
+  pub speed-positive : 0 < B .speed

@@ -1,7 +1,7 @@
 -- The one thing that every method must reach: a bound that fits and is at most every bound that fits. The walk at any such
 -- bound is the best partition, and there is only one best partition.
 -- Assumes nothing.
-use Prim.Native.Nat.{ℕ, zero, suc, _+_, _-_, _≤_}
+use Prim.Native.Nat.{ℕ, suc, _-_, _≤_}
 use mathlib.Core.Path.{_≡_, sym, ap, subst, _∙_}
 use mathlib.Core.List.{List}
 use native.Mathlib.Omega.{arith}
@@ -10,58 +10,53 @@ use lib.Dec.{T}
 use lib.ListN.{List·getD-eq-default}
 use lib.Seq.{ext-getD}
 use Rattle.bound.specs.declared.Bound.{Bound}
-use Rattle.bound.specs.Order.{_≼_, _≈_, Real}
-use Rattle.bound.proofs.Order.{le-trans, eq-sym}
-use Rattle.chain.specs.Job.{Job, tasks, processors, last, at, Partition, bottleneck, Within}
+use Rattle.bound.specs.Order.{_≼_, _≈_, Finite}
+use Rattle.bound.proofs.Order.{finite-real, le-trans, eq-sym}
+use Rattle.chain.specs.Job.{Job, processors, last, at, Partition, bottleneck, Within}
 use Rattle.chain.specs.Probe.{walk, fits}
 use Rattle.chain.specs.Plan.{Best}
-use Rattle.chain.proofs.Parts.{Proper}
-use Rattle.chain.proofs.Bottleneck.{processors-last, bottleneck-real, bottleneck-le, within-bottleneck, le-bottleneck}
-use Rattle.chain.proofs.Walk.{walk-partition, walk-within, walk-at, walk-end, walk-alike, partition-fits, partition-covers, furthest}
+use Rattle.chain.proofs.Parts.{Proper, separator-below}
+use Rattle.chain.proofs.Bottleneck.{processors-last, bottleneck-real, bottleneck-le, le-bottleneck}
+use Rattle.chain.proofs.Walk.{walk-partition, walk-within, walk-at, walk-end, walk-alike, bottleneck-fits, partition-covers, furthest}
 
 -- A bound that fits, and is at most every bound that fits.
 pub record Least (job : Job) (B : Bound) : Type 0 where
-  pub real : Real B
+  pub finite : Finite B
   pub fitting : T (fits job B)
-  pub least : (C : Bound) → Real C → T (fits job C) → B ≼ C
+  pub least : (C : Bound) → T (fits job C) → B ≼ C
+
+-- Two least bounds are equal as bounds, and walk alike.
+pub least-equal : {job : Job} {B C : Bound} → Least job B → Least job C → B ≈ C
+least-equal {job} {B} {C} b c = record { to = b .least C (c .fitting); from = c .least B (b .fitting) }
+
+pub least-alike : {job : Job} {B C : Bound} → Least job B → Least job C → walk job B ≡ walk job C
+least-alike {job} b c = walk-alike job (finite-real (b .finite)) (finite-real (c .finite)) (least-equal b c)
 
 module _ {job : Job} (ok : Proper job) where
-  -- A partition's bottleneck is a bound that fits.
-  pub bottleneck-fits : (s : List ℕ) → Partition job s → T (fits job (bottleneck job s))
-  bottleneck-fits s pa = partition-fits ok (bottleneck-real ok s) pa (within-bottleneck ok s)
-
-  -- Two least bounds are equal as bounds, and walk alike.
-  pub least-equal : {B C : Bound} → Least job B → Least job C → B ≈ C
-  least-equal {B} {C} b c = record { to = b .least C (c .real) (c .fitting); from = c .least B (b .real) (b .fitting) }
-
-  pub least-alike : {B C : Bound} → Least job B → Least job C → walk job B ≡ walk job C
-  least-alike b c = walk-alike ok (b .real) (c .real) (least-equal b c)
-
   -- No partition has a smaller bottleneck, and the walk's is equal.
   pub least-below : {B : Bound} → Least job B → (s : List ℕ) → Partition job s → B ≼ bottleneck job s
-  least-below b s pa = b .least (bottleneck job s) (bottleneck-real ok s) (bottleneck-fits s pa)
+  least-below b s pa = b .least (bottleneck job s) (bottleneck-fits ok pa)
 
   pub least-met : {B : Bound} → Least job B → bottleneck job (walk job B) ≈ B
   least-met {B} b =
-      record { to = bottleneck-le ok (walk-within ok B (b .fitting)); from = least-below b (walk job B) (walk-partition ok B) }
+      record {
+        to = bottleneck-le ok (walk-within job B (b .fitting));
+        from = least-below b (walk job B) (walk-partition ok B (b .fitting));
+      }
 
   -- A partition within the bound is nowhere ahead of the walk.
-  pub nowhere-ahead : {B : Bound} → Real B → {s : List ℕ} → Partition job s → Within job s B → (p : ℕ) → at s p ≤ at (walk job B) p
-  nowhere-ahead {B} r {s} pa w p =
+  pub nowhere-ahead : {B : Bound} {s : List ℕ} → Partition job s → Within job s B → (p : ℕ) → at s p ≤ at (walk job B) p
+  nowhere-ahead {B} {s} pa w p =
       elim (decLe p (last job)) [
         | yes l ↦
             omega (
               arith,
               walk-at job B p l,
-              furthest ok B r p (at s p) (partition-covers ok pa w p (omega (arith, ok .some))) (inside (processors job - p) p (omega (arith, ok .some))),
+              furthest job B p (at s p) (partition-covers job pa w p (omega (arith, ok .some))) (separator-below pa p (omega (arith, ok .some))),
             )
         | no l ↦ past l
       ]
     where
-      inside : (d p : ℕ) → p + d ≡ processors job → at s p ≤ tasks job
-      inside zero p e = omega (arith, pa .end, ap (at s) (let f : p ≡ processors job = omega arith in f))
-      inside (suc d) p e = omega (arith, pa .grows p (omega arith), inside d (suc p) (omega arith))
-
       past : (p ≤ last job → ⊥) → at s p ≤ at (walk job B) p
       past l =
           elim (decLe p (processors job)) [
@@ -75,9 +70,9 @@ module _ {job : Job} (ok : Proper job) where
   pub least-best : {B : Bound} → Least job B → Best job (walk job B)
   least-best {B} b =
       record {
-        partition = walk-partition ok B;
-        least = λ t pa. le-trans (b .real) ((least-met b) .to) (least-below b t pa);
-        furthest = λ t pa e. nowhere-ahead (b .real) pa (le-bottleneck ok (le-trans (bottleneck-real ok (walk job B)) (e .to) ((least-met b) .to)));
+        partition = walk-partition ok B (b .fitting);
+        least = λ t pa. le-trans (finite-real (b .finite)) ((least-met b) .to) (least-below b t pa);
+        furthest = λ t pa e. nowhere-ahead pa (le-bottleneck ok pa (le-trans (bottleneck-real ok (walk job B)) (e .to) ((least-met b) .to)));
       }
 
 -- There is at most one best partition.

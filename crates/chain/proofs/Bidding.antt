@@ -7,65 +7,45 @@ use native.Mathlib.Omega.{arith}
 use native.Mathlib.Decide.{decLe}
 use lib.Dec.{T, T-not}
 use Rattle.bound.specs.declared.Bound.{Bound}
-use Rattle.bound.specs.Order.{_≼_, _≺_, Real}
-use Rattle.bound.proofs.Order.{make-le, lt-le, not-both}
+use Rattle.bound.specs.Order.{_≼_, _≺_, Finite}
+use Rattle.bound.proofs.Order.{finite-real, le-refl, lt-le}
 use Rattle.chain.specs.Lists.{sumTo, isFirst}
-use Rattle.chain.specs.Job.{Job, tasks, last, speedOf, partLoad, totalWeight, totalSpeed, partBound, ideal}
+use Rattle.chain.specs.Job.{Job, tasks, last, within, offer, ideal}
 use Rattle.chain.specs.Probe.{separator, fits, bid, nextBid}
 use Rattle.chain.specs.Bidding.{bidding}
-use Rattle.chain.proofs.Parts.{Proper, part-left, weight-all}
+use Rattle.chain.proofs.Sums.{sum-mono-at, sum-below}
+use Rattle.chain.proofs.Parts.{Plannable}
+use Rattle.chain.proofs.Within.{within-of, within-shrink, offer-within}
 use Rattle.chain.proofs.Indices.{first-holds, first-fails, first-exists}
-use Rattle.chain.proofs.Bottleneck.{processors-last}
-use Rattle.chain.proofs.Walk.{separator-to, separator-grows, separator-past, growing, walk-partition, walk-within, le-fits}
-use Rattle.chain.proofs.NextBid.{bid-before, bid-last, next-cases, next-real, fails-before-end, next-above, next-least}
+use Rattle.chain.proofs.Walk.{separator-to, separator-grows, separator-past, growing, walk-partition, walk-within, last-fits, fails-finite}
+use Rattle.chain.proofs.NextBid.{bid-before, bid-last, next-cases, fails-before-end, next-above, next-finite, next-least}
 use Rattle.chain.proofs.Best.{Least}
-use Rattle.chain.proofs.Ideal.{total-speed-is, ideal-real, ideal-within}
+use Rattle.chain.proofs.Ideal.{ideal-finite, ideal-single, ideal-within}
 
--- A sum of greater or equal summands, one of them greater, is greater.
-sum-grows : (f g : ℕ → ℕ) → ((p : ℕ) → f p ≤ g p) → (n : ℕ) → sumTo f n ≤ sumTo g n
-unfolding sumTo
-sum-grows f g h zero = omega arith
-sum-grows f g h (suc n) = omega (arith, sum-grows f g h n, h n)
-
-sum-grows-at : (f g : ℕ → ℕ) → ((p : ℕ) → f p ≤ g p) → (n i : ℕ) → i < n → f i < g i → sumTo f n < sumTo g n
-unfolding sumTo
-sum-grows-at f g h zero i l m = absurd (let z : ⊥ = omega arith in z)
-sum-grows-at f g h (suc n) i l m =
-    elim (decLe (suc i) n) [
-      | yes x ↦ omega (arith, sum-grows-at f g h n i x m, h n)
-      | no x ↦ omega (arith, sum-grows f g h n, ap f (let e : n ≡ i = omega arith in e), ap g (let e : n ≡ i = omega arith in e))
-    ]
-
--- Summands below m: the sum and their number are at most the number times m.
-sum-below : (f : ℕ → ℕ) (m n : ℕ) → ((p : ℕ) → p < n → f p < m) → sumTo f n + n ≤ n * m
-unfolding sumTo
-sum-below f m zero h = omega arith
-sum-below f m (suc n) h = omega (arith, sum-below f m n (λ p l. h p (omega arith)), h n (omega arith))
-
-module _ {job : Job} (ok : Proper job) where
+module _ {job : Job} (can : Plannable job) where
   -- The ideal is at most every bound that fits.
   pub ideal-below : (C : Bound) → T (fits job C) → ideal job ≼ C
-  ideal-below C t = ideal-within ok (walk-partition ok C) (walk-within ok C t)
-
-  pub bidding-real : (k : ℕ) → Real (bidding job k)
-  unfolding bidding
-  bidding-real zero = ideal-real ok
-  bidding-real (suc k) = next-real ok (bidding job k)
+  ideal-below C t = ideal-within (can .proper) (walk-partition (can .proper) C t) (walk-within job C t)
 
   abbrev Failing : ℕ → Type 0
   Failing k = (j : ℕ) → j < k → T (not (fits job (bidding job j)))
 
-  -- As long as every trial before fails, the bound tried is at most every bound that fits.
-  pub bidding-below : (k : ℕ) → Failing k → (C : Bound) → Real C → T (fits job C) → bidding job k ≼ C
+  -- As long as every trial before fails, the bound tried is a number, and at most every bound that fits.
+  pub bidding-finite : (k : ℕ) → Failing k → Finite (bidding job k)
   unfolding bidding
-  bidding-below zero h C r t = ideal-below C t
-  bidding-below (suc k) h C r t = next-least ok (bidding job k) C (h k (omega arith)) r t
+  bidding-finite zero h = ideal-finite (can .proper)
+  bidding-finite (suc k) h = next-finite can (bidding job k) (h k (omega arith))
+
+  pub bidding-below : (k : ℕ) → Failing k → (C : Bound) → T (fits job C) → bidding job k ≼ C
+  unfolding bidding
+  bidding-below zero h C t = ideal-below C t
+  bidding-below (suc k) h C t = next-least (can .proper) (bidding job k) C (h k (omega arith)) t
 
   -- Bidding ends at the least bound that fits.
   pub bidding-least : (k : ℕ) → T (isFirst (λ j. fits job (bidding job j)) k) → Least job (bidding job k)
   bidding-least k t =
       record {
-        real = bidding-real k;
+        finite = bidding-finite k (first-fails (λ j. fits job (bidding job j)) k t);
         fitting = first-holds (λ j. fits job (bidding job j)) k t;
         least = bidding-below k (first-fails (λ j. fits job (bidding job j)) k t);
       }
@@ -75,60 +55,55 @@ module _ {job : Job} (ok : Proper job) where
   advance B = sumTo (λ p. separator job B (suc p)) (last job)
 
   -- Where a bid and the trial at it both fail, the walk is further on.
-  pub next-advances : (B : Bound) → Real B → T (not (fits job B)) → T (not (fits job (nextBid job B))) → advance B < advance (nextBid job B)
+  pub next-advances : (B : Bound) → T (not (fits job B)) → T (not (fits job (nextBid job B))) → advance B < advance (nextBid job B)
   unfolding advance
-  next-advances B r t u = go (nextBid job B) (next-real ok B) (next-above ok B t) u taken
+  next-advances B t u = go (nextBid job B) (next-finite can B t) (next-above can B t) u taken
     where
       taken : (p : ℕ) × (p ≤ last job) × (nextBid job B ≡ bid job B p)
       taken = next-cases job B (λ C. (p : ℕ) × (p ≤ last job) × (C ≡ bid job B p)) (λ p h. (p, h, refl))
 
-      go : (C : Bound) → Real C → B ≺ C → T (not (fits job C)) → (p : ℕ) × (p ≤ last job) × (C ≡ bid job B p)
+      go : (C : Bound) → Finite C → B ≺ C → T (not (fits job C)) → (p : ℕ) × (p ≤ last job) × (C ≡ bid job B p)
           → sumTo (λ p. separator job B (suc p)) (last job) < sumTo (λ p. separator job C (suc p)) (last job)
-      go C rc up uc (p, h, e) = elim (decLe (suc p) (last job)) [ yes l ↦ before l | no l ↦ absurd (T-not (fits job C) uc (le-fits ok C (at-last l))) ]
+      go C f up uc (p, h, e) = elim (decLe (suc p) (last job)) [ yes l ↦ before l | no l ↦ absurd (T-not (fits job C) uc (last-fits job C (at-last l))) ]
         where
           ahead : (i : ℕ) → separator job B i ≤ separator job C i
-          ahead i = growing ok r rc (lt-le up) i
+          ahead i = growing job (finite-real (fails-finite can B t)) (lt-le up) i
 
-          at-last : (suc p ≤ last job → ⊥) → partBound job (last job) (separator job C (last job)) (tasks job) ≼ C
+          -- The part that was bid for is within the bid, and so is what is left of it.
+          taken-within : (q a b : ℕ) → C ≡ offer job q a b → T (within job q a b C)
+          taken-within q a b e = offer-within job q a b f (subst (λ (D : Bound). D ≼ C) e (le-refl C))
+
+          at-last : (suc p ≤ last job → ⊥) → T (within job (last job) (separator job C (last job)) (tasks job) C)
           at-last l =
-              subst (λ (D : Bound). partBound job (last job) (separator job C (last job)) (tasks job) ≼ D)
-              (sym (e ∙ ap (bid job B) (let f : p ≡ last job = omega arith in f) ∙ bid-last job B))
-              (part-left job (last job) (separator job B (last job)) (separator job C (last job)) (tasks job) (ahead (last job))
-              (separator-to job C (last job)))
+              within-shrink job (last job) (separator job B (last job)) (separator job C (last job)) (tasks job) (tasks job) C
+              (ahead (last job)) (separator-to job C (last job)) (omega arith)
+              (taken-within (last job) (separator job B (last job)) (tasks job)
+              (e ∙ ap (bid job B) (let f : p ≡ last job = omega arith in f) ∙ bid-last job B))
 
           before : p < last job → sumTo (λ p. separator job B (suc p)) (last job) < sumTo (λ p. separator job C (suc p)) (last job)
           before l =
-              sum-grows-at (λ p. separator job B (suc p)) (λ p. separator job C (suc p)) (λ i. ahead (suc i)) (last job) p l moved
+              sum-mono-at (λ p. separator job B (suc p)) (λ p. separator job C (suc p)) (λ i. ahead (suc i)) (last job) p l moved
             where
-              k : ℕ
-              k = suc (separator job B (suc p))
-
               moved : separator job B (suc p) < separator job C (suc p)
               moved =
                   elim (decLe (suc (separator job B (suc p))) (separator job C (suc p))) [
                     | yes x ↦ x
                     | no x ↦
                         absurd
-                        (not-both
-                        (separator-past job C p (suc (separator job B (suc p))) (omega arith) (fails-before-end ok B t (suc p) l))
-                        (subst (λ (D : Bound). partBound job p (separator job C p) (suc (separator job B (suc p))) ≼ D)
-                        (sym (e ∙ bid-before job B p l))
-                        (part-left job p (separator job B p) (separator job C p) (suc (separator job B (suc p))) (ahead p)
-                        (omega (arith, separator-grows job C p)))))
+                        (T-not (within job p (separator job C p) (suc (separator job B (suc p))) C)
+                        (separator-past job C p (suc (separator job B (suc p))) (omega arith) (fails-before-end job B t (suc p) l))
+                        (within-shrink job p (separator job B p) (separator job C p) (suc (separator job B (suc p))) (suc (separator job B (suc p))) C
+                        (ahead p) (omega (arith, separator-grows job C p)) (omega arith)
+                        (taken-within p (separator job B p) (suc (separator job B (suc p))) (e ∙ bid-before job B p l))))
                   ]
 
   -- On a single processor the trial at the ideal fits.
   pub single-fits : last job ≡ 0 → T (fits job (ideal job))
-  unfolding ideal partBound partLoad separator sumTo
+  unfolding separator
   single-fits e =
-      le-fits ok (ideal job)
-      (subst (λ (q : ℕ). partBound job q (separator job (ideal job) q) (tasks job) ≼ ideal job) (sym e)
-      (make-le
-      (omega (
-        arith,
-        ap (λ (w : ℕ). w * totalSpeed job) (weight-all job),
-        ap (λ (v : ℕ). totalWeight job * v) (total-speed-is job ∙ ap (sumTo (speedOf job)) (processors-last ok ∙ ap suc e)),
-      ))))
+      last-fits job (ideal job)
+      (subst (λ (q : ℕ). T (within job q (separator job (ideal job) q) (tasks job) (ideal job))) (sym e)
+      (within-of job 0 0 (tasks job) (ideal-single (can .proper) e)))
 
   pub advance-counts : (k : ℕ) → Failing (suc k) → k ≤ advance (bidding job k)
   unfolding bidding
@@ -137,7 +112,7 @@ module _ {job : Job} (ok : Proper job) where
       omega (
         arith,
         advance-counts k (λ j l. h j (omega arith)),
-        next-advances (bidding job k) (bidding-real k) (h k (omega arith)) (h (suc k) (omega arith)),
+        next-advances (bidding job k) (h k (omega arith)) (h (suc k) (omega arith)),
       )
 
   -- As long as all trials up to k failed, k is below (P − 1) · N.
@@ -148,7 +123,7 @@ module _ {job : Job} (ok : Proper job) where
       room : advance (bidding job k) + last job ≤ last job * tasks job
       room =
           sum-below (λ p. separator job (bidding job k) (suc p)) (tasks job) (last job)
-          (λ p l. fails-before-end ok (bidding job k) (h k (omega arith)) (suc p) l)
+          (λ p l. fails-before-end job (bidding job k) (h k (omega arith)) (suc p) l)
 
       go : (q : ℕ) → last job ≡ q → k < last job * tasks job
       go zero e = absurd (T-not (fits job (ideal job)) (h 0 (omega arith)) (single-fits e))

@@ -9,22 +9,23 @@ use native.Mathlib.Omega.{arith}
 use native.Mathlib.Nat.{mul-le-mul, mul-le-mul-right, mul-le-mul-left, le-of-mul-le-mul-right, one-le-mul, le-div-iff-mul-le}
 use lib.Dec.{T, ltb}
 use Rattle.bound.specs.declared.Bound.{Bound}
-use Rattle.bound.specs.Order.{over, le, _≼_, _≺_, plus, times, middle, pick, Real}
-use Rattle.bound.proofs.Order.{open-le, make-le, open-lt, lt-le, le-trans, speed-real}
+use Rattle.bound.specs.Order.{over, le, _≼_, _≺_, plus, times, middle, pick, Finite}
+use Rattle.bound.proofs.Order.{open-le, make-le, open-lt, lt-le, le-trans, speed-real, finite-real}
 use Rattle.bound.proofs.Algebra.{plus-mono}
 use Rattle.chain.specs.Lists.{isFirst, digits}
-use Rattle.chain.specs.Job.{Job, tasks, processors, last, heaviest, fastest, slowest, partBound, boundAt, bottleneck, ideal}
+use Rattle.chain.specs.Job.{Job, tasks, processors, last, heaviest, fastest, slowest, partBound, offer, boundAt, bottleneck, ideal}
 use Rattle.chain.specs.Probe.{separator, walk, fits, bid, nextBid}
 use Rattle.chain.specs.Heuristic.{heuristic}
 use Rattle.chain.specs.declared.Ends.{Ends}
 use Rattle.chain.specs.Bisection.{firstEnds, nextEnds, ends, meet}
 use Rattle.chain.specs.Plan.{difference}
-use Rattle.chain.proofs.Parts.{Proper}
+use Rattle.chain.proofs.Parts.{Proper, Plannable}
+use Rattle.chain.proofs.Within.{offer-limited}
 use Rattle.chain.proofs.Indices.{first-fails, first-exists}
-use Rattle.chain.proofs.Bottleneck.{bottleneck-le, bottleneck-cases}
-use Rattle.chain.proofs.Walk.{walk-partition, walk-within, fits-raise}
-use Rattle.chain.proofs.NextBid.{next-cases, next-above, next-least}
-use Rattle.chain.proofs.Best.{Least, bottleneck-fits}
+use Rattle.chain.proofs.Bottleneck.{bottleneck-finite, bottleneck-le, bottleneck-cases}
+use Rattle.chain.proofs.Walk.{walk-partition, walk-within, bottleneck-fits, fits-raise}
+use Rattle.chain.proofs.NextBid.{next-cases, next-above, next-finite, next-least}
+use Rattle.chain.proofs.Best.{Least}
 use Rattle.chain.proofs.Extremes.{slowest-positive, speed-fastest}
 use Rattle.chain.proofs.Ideal.{total-speed-positive}
 use Rattle.chain.proofs.Heuristic.{heuristic-partition, heuristic-bound}
@@ -73,50 +74,56 @@ gap-apart {n} {h} {s} {f} {low} {high} p q l g =
     omega
     (arith, mul-le-mul-right (n * s) (open-lt l), open-le (g .closes), mul-le-mul-left h (mul-le-mul p q))
 
--- A bound with the speed of a processor.
+-- A number with the speed of a processor.
 pub record OfProcessor (job : Job) (B : Bound) : Type 0 where
-  pub positive : 0 < B .speed
+  pub finite : Finite B
   pub limited : B .speed ≤ fastest job
 
 -- What holds of the ends: they are bounds of parts, low is at most every bound that fits, high fits, and the gap.
 pub record Bracket (job : Job) (n : ℕ) (E : Ends) : Type 0 where
   pub low-speed : OfProcessor job (E .low)
   pub high-speed : OfProcessor job (E .high)
-  pub low-below : (C : Bound) → Real C → T (fits job C) → E .low ≼ C
+  pub low-below : (C : Bound) → T (fits job C) → E .low ≼ C
   pub high-fits : T (fits job (E .high))
   pub gap : Gap n (E .low) (E .high) (over (heaviest job) (slowest job))
 
-module _ {job : Job} (ok : Proper job) where
-  part-speed : (p a b : ℕ) → p < processors job → OfProcessor job (partBound job p a b)
-  unfolding partBound
-  part-speed p a b h = record { positive = ok .positive p; limited = speed-fastest job p h }
+pub bottleneck-speed : {job : Job} → Proper job → (s : List ℕ) → OfProcessor job (bottleneck job s)
+unfolding boundAt partBound
+bottleneck-speed {job} ok s =
+    record {
+      finite = bottleneck-finite ok s;
+      limited = bottleneck-cases ok (λ B. B .speed ≤ fastest job) s (λ p h. speed-fastest job p h);
+    }
 
-  pub bottleneck-speed : (s : List ℕ) → OfProcessor job (bottleneck job s)
-  unfolding boundAt
-  bottleneck-speed s = bottleneck-cases ok (OfProcessor job) s (λ p h. part-speed p _ _ h)
-
-  pub next-speed : (B : Bound) → OfProcessor job (nextBid job B)
+module _ {job : Job} (can : Plannable job) where
+  pub next-speed : (B : Bound) → T (not (fits job B)) → OfProcessor job (nextBid job B)
   unfolding bid
-  next-speed B = next-cases job B (OfProcessor job) (λ p h. go p (omega (arith, ok .some)) (ltb p (last job)))
+  next-speed B t =
+      record {
+        finite = next-finite can B t;
+        limited = next-cases job B (λ C. C .speed ≤ fastest job) (λ p h. go p (omega (arith, can .proper .some)) (ltb p (last job)));
+      }
     where
       go : (p : ℕ) → p < processors job → (t : Bool)
-          → OfProcessor job (pick t (partBound job p (separator job B p) (suc (separator job B (suc p)))) (partBound job p (separator job B p) (tasks job)))
-      go p h true = part-speed p _ _ h
-      go p h false = part-speed p _ _ h
+          → pick t (offer job p (separator job B p) (suc (separator job B (suc p)))) (offer job p (separator job B p) (tasks job)) .speed ≤ fastest job
+      go p h true = offer-limited job p _ _ h
+      go p h false = offer-limited job p _ _ h
 
   -- The ends never cross.
   pub low-high : {n : ℕ} {E : Ends} → Bracket job n E → E .low ≼ E .high
-  low-high {n} {E} b = b .low-below (E .high) (speed-real ((b .high-speed) .positive)) (b .high-fits)
+  low-high {n} {E} b = b .low-below (E .high) (b .high-fits)
 
   pub bracket-start : T (not (fits job (ideal job))) → Bracket job 1 (firstEnds job)
   unfolding firstEnds ideal
   bracket-start t =
       record {
-        low-speed = next-speed (ideal job);
-        high-speed = bottleneck-speed (heuristic job);
-        low-below = λ C r f. next-least ok (ideal job) C t r f;
-        high-fits = bottleneck-fits ok (heuristic job) (heuristic-partition ok);
-        gap = gap-start (total-speed-positive ok) (slowest-positive job ok) (lt-le (next-above ok (ideal job) t)) (heuristic-bound ok);
+        low-speed = next-speed (ideal job) t;
+        high-speed = bottleneck-speed (can .proper) (heuristic job);
+        low-below = λ C f. next-least (can .proper) (ideal job) C t f;
+        high-fits = bottleneck-fits (can .proper) (heuristic-partition (can .proper));
+        gap =
+            gap-start (total-speed-positive (can .proper)) (slowest-positive job (can .proper)) (lt-le (next-above can (ideal job) t))
+            (heuristic-bound (can .proper));
       }
 
   -- A round keeps all that, and halves the gap.
@@ -127,9 +134,6 @@ module _ {job : Job} (ok : Proper job) where
       M : Bound
       M = middle (E .low) (E .high)
 
-      real : Real M
-      real = speed-real (one-le-mul {a = 2} (omega arith) (one-le-mul ((b .low-speed) .positive) ((b .high-speed) .positive)))
-
       go : (t : Bool) → fits job M ≡ t
           → Bracket job (2 * n)
           (elim t
@@ -138,20 +142,23 @@ module _ {job : Job} (ok : Proper job) where
           let f : T (fits job M) = subst T (sym e) tt in
           record {
             low-speed = b .low-speed;
-            high-speed = bottleneck-speed (walk job M);
+            high-speed = bottleneck-speed (can .proper) (walk job M);
             low-below = b .low-below;
-            high-fits = bottleneck-fits ok (walk job M) (walk-partition ok M);
+            high-fits = bottleneck-fits (can .proper) (walk-partition (can .proper) M f);
             gap =
-                gap-high ((b .low-speed) .positive) ((b .high-speed) .positive) (bottleneck-le ok (walk-within ok M f)) (b .gap);
+                gap-high (b .low-speed .finite .speed-positive) (b .high-speed .finite .speed-positive)
+                (bottleneck-le (can .proper) (walk-within job M f)) (b .gap);
           }
       go false e =
           let f : T (not (fits job M)) = subst (λ (x : Bool). T (not x)) (sym e) tt in
           record {
-            low-speed = next-speed M;
+            low-speed = next-speed M f;
             high-speed = b .high-speed;
-            low-below = λ C r g. next-least ok M C f r g;
+            low-below = λ C g. next-least (can .proper) M C f g;
             high-fits = b .high-fits;
-            gap = gap-low ((b .low-speed) .positive) ((b .high-speed) .positive) (lt-le (next-above ok M f)) (b .gap);
+            gap =
+                gap-low (b .low-speed .finite .speed-positive) (b .high-speed .finite .speed-positive) (lt-le (next-above can M f))
+                (b .gap);
           }
 
   pub bracket-after : T (not (fits job (ideal job))) → (k : ℕ) → Bracket job (2 ^ k) (ends job k)
@@ -184,7 +191,7 @@ module _ {job : Job} (ok : Proper job) where
   rounds-below t k m =
       let b : Bracket job (2 ^ k) (ends job k) = bracket-after t k in
       digits-least (difference job) k
-      ((le-div-iff-mul-le (slowest-positive job ok)) .1
+      ((le-div-iff-mul-le (slowest-positive job (can .proper))) .1
       (gap-apart ((b .low-speed) .limited) ((b .high-speed) .limited) (apart b m) (b .gap)))
 
   -- Bisection ends, within digits(D) rounds.
@@ -204,7 +211,7 @@ module _ {job : Job} (ok : Proper job) where
   bisection-least t k m =
       let b : Bracket job (2 ^ k) (ends job k) = bracket-after t k in
       record {
-        real = speed-real ((b .low-speed) .positive);
-        fitting = fits-raise ok (speed-real ((b .high-speed) .positive)) (speed-real ((b .low-speed) .positive)) (met m) (b .high-fits);
+        finite = b .low-speed .finite;
+        fitting = fits-raise job (finite-real (b .high-speed .finite)) (met m) (b .high-fits);
         least = b .low-below;
       }

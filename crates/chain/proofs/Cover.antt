@@ -2,11 +2,11 @@
 -- Assumes nothing.
 use Prim.Native.Nat.{ℕ, zero, suc, _≤_}
 use mathlib.Core.Path.{_≡_}
+use lib.Dec.{T}
 use Rattle.bound.specs.declared.Bound.{Bound}
-use Rattle.bound.specs.Order.{_≼_}
-use Rattle.chain.specs.Job.{Job, partBound}
+use Rattle.chain.specs.Job.{Job, within}
 
 -- The first i tasks can go to the processors below p, in order, with every part within the bound.
 abbrev pub Cover : Job → Bound → ℕ → ℕ → Type 0
 Cover job B zero i = i ≡ 0
-Cover job B (suc p) i = (j : ℕ) × (j ≤ i) × Cover job B p j × (partBound job p j i ≼ B)
+Cover job B (suc p) i = (j : ℕ) × (j ≤ i) × Cover job B p j × T (within job p j i B)

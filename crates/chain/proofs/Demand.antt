@@ -4,14 +4,13 @@
 use Prim.Native.Nat.{ℕ, suc, _+_, _*_, _≤_}
 use mathlib.Core.Path.{_≡_, refl, sym, ap, subst, _∙_}
 use mathlib.Core.Bool.{Bool, true, false, not}
-use mathlib.Core.List.{List}
 use native.Mathlib.Omega.{arith}
 use lib.Dec.{T, T-not}
 use Rattle.bound.specs.declared.Bound.{Bound}
-use Rattle.bound.specs.Order.{_≼_, _≈_, Real}
-use Rattle.bound.proofs.Order.{le-refl, le-trans}
+use Rattle.bound.specs.Order.{_≼_, _≈_, Finite}
+use Rattle.bound.proofs.Order.{finite-below, le-refl, le-trans}
 use Rattle.chain.specs.Lists.{digits}
-use Rattle.chain.specs.Job.{Job, tasks, last, Partition, bottleneck, ideal}
+use Rattle.chain.specs.Job.{Job, tasks, last, bottleneck, ideal}
 use Rattle.chain.specs.Probe.{walk, fits}
 use Rattle.chain.specs.Dynamic.{tableValue, moves}
 use Rattle.chain.specs.Bidding.{bidding}
@@ -19,83 +18,90 @@ use Rattle.chain.specs.Bisection.{ends, meet}
 use Rattle.chain.specs.declared.Method.{Method}
 use Rattle.chain.specs.declared.Method.the-variants.{Table, Bidding, Bisection}
 use Rattle.chain.specs.Plan.{leastBottleneck, planOf, Best, BisectionEnds, at-once, after, MethodEnds, difference, allowance, imbalance, Plan, PlanBy}
-use Rattle.chain.proofs.Parts.{Proper}
+use Rattle.chain.proofs.Parts.{Proper, Plannable}
 use Rattle.chain.proofs.Indices.{first-holds, first-unique}
-use Rattle.chain.proofs.Bottleneck.{bottleneck-real, bottleneck-le, within-bottleneck}
-use Rattle.chain.proofs.Walk.{fits-cover, cover-fits, walk-partition, walk-within, partition-fits}
-use Rattle.chain.proofs.Best.{Least, least-best, least-alike, best-unique}
+use Rattle.chain.proofs.Bottleneck.{bottleneck-finite, bottleneck-real, bottleneck-le}
+use Rattle.chain.proofs.Walk.{fits-cover, cover-fits, walk-partition, walk-within, bottleneck-fits, some-fits}
+use Rattle.chain.proofs.Best.{Least, least-equal, least-alike, least-best, best-unique}
 use Rattle.chain.proofs.Table.{table-real, table-cover, moves-allowed}
-use Rattle.chain.proofs.Ideal.{ideal-real}
+use Rattle.chain.proofs.Ideal.{ideal-finite}
 use Rattle.chain.proofs.Bidding.{ideal-below, bidding-least, bidding-allowed, bidding-ends}
 use Rattle.chain.proofs.Bisection.{bisection-least, bisection-allowed, bisection-ends}
-use Rattle.chain.proofs.Enumeration.{least-is-least, least-attained, least-real}
+use Rattle.chain.proofs.Enumeration.{least-is-least, least-attained}
 
-module _ {job : Job} (ok : Proper job) where
+module _ {job : Job} (can : Plannable job) where
   -- The least bottleneck of all partitions is the least bound that fits.
   pub least-bottleneck : Least job (leastBottleneck job)
   least-bottleneck =
-      record { real = least-real ok; fitting = attained (least-attained ok); least = least }
+      let a = least-attained can in
+      record {
+        finite = subst Finite (sym (a .2)) (bottleneck-finite (can .proper) (a .0));
+        fitting = subst (λ (B : Bound). T (fits job B)) (sym (a .2)) (bottleneck-fits (can .proper) (a .1));
+        least = least;
+      }
     where
-      attained : (s : List ℕ) × Partition job s × (leastBottleneck job ≡ bottleneck job s) → T (fits job (leastBottleneck job))
-      attained (s, pa, e) =
-          subst (λ (B : Bound). T (fits job B)) (sym e) (partition-fits ok (bottleneck-real ok s) pa (within-bottleneck ok s))
-
-      least : (C : Bound) → Real C → T (fits job C) → leastBottleneck job ≼ C
-      least C r t =
-          le-trans (bottleneck-real ok (walk job C)) (least-is-least ok (walk job C) (walk-partition ok C))
-          (bottleneck-le ok (walk-within ok C t))
+      least : (C : Bound) → T (fits job C) → leastBottleneck job ≼ C
+      least C t =
+          le-trans (bottleneck-real (can .proper) (walk job C)) (least-is-least (can .proper) (walk job C) (walk-partition (can .proper) C t))
+          (bottleneck-le (can .proper) (walk-within job C t))
 
   -- The table ends at the least bound that fits: B(P,N) is the least bottleneck.
   pub table-least-bound : Least job (tableValue job (last job) (tasks job))
   table-least-bound =
-      record {
-        real = table-real ok (last job) (tasks job);
-        fitting =
-            cover-fits ok value (table-real ok (last job) (tasks job)) ((table-cover ok (last job) (tasks job) value) .0 (le-refl value));
-        least = λ C r t. (table-cover ok (last job) (tasks job) C) .1 (fits-cover ok C t);
-      }
+      record { finite = finite; fitting = cover-fits job value (table-cover ok (last job) (tasks job) value .0 finite (le-refl value)); least = below }
     where
+      ok : Proper job
+      ok = can .proper
+
       value : Bound
       value = tableValue job (last job) (tasks job)
 
+      below : (C : Bound) → T (fits job C) → value ≼ C
+      below C t = table-cover ok (last job) (tasks job) C .1 (fits-cover job C t)
+
+      finite : Finite value
+      finite =
+          let c = some-fits can in
+          finite-below (table-real ok (last job) (tasks job)) (below (c .0) (c .2)) (c .1)
+
   -- Where the trial at the ideal fits, the ideal is the least bound.
   pub ideal-least-bound : T (fits job (ideal job)) → Least job (ideal job)
-  ideal-least-bound t = record { real = ideal-real ok; fitting = t; least = λ C r u. ideal-below ok C u }
+  ideal-least-bound t = record { finite = ideal-finite (can .proper); fitting = t; least = λ C u. ideal-below can C u }
 
   -- Every method ends at the least bound that fits.
   pub method-least : (m : Method) (n : ℕ) (B : Bound) → MethodEnds m job n B → Least job B
   method-least Table n B x = subst (Least job) (sym (x .yields)) table-least-bound
-  method-least Bidding n B x = subst (Least job) (sym (x .yields)) (bidding-least ok (x .failures) (x .first-fit))
+  method-least Bidding n B x = subst (Least job) (sym (x .yields)) (bidding-least can (x .failures) (x .first-fit))
   method-least Bisection n B x = bisection-bound x
     where
       bisection-bound : {n : ℕ} {B : Bound} → BisectionEnds job n B → Least job B
       bisection-bound (at-once t c e) = subst (Least job) (sym e) (ideal-least-bound t)
       bisection-bound (after k t f c e) =
-          subst (Least job) (sym e) (bisection-least ok t k (first-holds (λ j. meet (ends job j)) k f))
+          subst (Least job) (sym e) (bisection-least can t k (first-holds (λ j. meet (ends job j)) k f))
 
   -- So the bottleneck found is the least bottleneck of all partitions.
   pub method-finds : (m : Method) (n : ℕ) (B : Bound) → MethodEnds m job n B → B ≈ leastBottleneck job
   method-finds m n B x =
       let b : Least job B = method-least m n B x in
       let l : Least job (leastBottleneck job) = least-bottleneck in
-      record { to = b .least (leastBottleneck job) (l .real) (l .fitting); from = l .least B (b .real) (b .fitting) }
+      least-equal b l
 
   -- Every method's count is within its allowance.
   pub method-allowed : (m : Method) (n : ℕ) (B : Bound) → MethodEnds m job n B → n ≤ allowance m job
   unfolding allowance
-  method-allowed Table n B x = subst (λ (n : ℕ). n ≤ last job * tasks job) (sym (x .counted)) (moves-allowed ok)
-  method-allowed Bidding n B x = omega (arith, x .counted, bidding-allowed ok (x .failures) (x .first-fit))
+  method-allowed Table n B x = subst (λ (n : ℕ). n ≤ last job * tasks job) (sym (x .counted)) (moves-allowed (can .proper))
+  method-allowed Bidding n B x = omega (arith, x .counted, bidding-allowed can (x .failures) (x .first-fit))
   method-allowed Bisection n B x = bisection-count x
     where
       bisection-count : {n : ℕ} {B : Bound} → BisectionEnds job n B → n ≤ 1 + digits (difference job)
       bisection-count (at-once t c e) = omega arith
-      bisection-count (after k t f c e) = omega (arith, bisection-allowed ok t k f)
+      bisection-count (after k t f c e) = omega (arith, bisection-allowed can t k f)
 
   -- Every method ends.
   pub method-ends : (m : Method) → (n : ℕ) × (B : Bound) × MethodEnds m job n B
   method-ends Table = (moves job, tableValue job (last job) (tasks job), record { counted = refl; yields = refl })
   method-ends Bidding =
-      let e = bidding-ends ok in
+      let e = bidding-ends can in
       (suc (e .0), bidding job (e .0), record { failures = e .0; first-fit = e .2; counted = refl; yields = refl })
   method-ends Bisection = go (fits job (ideal job)) refl
     where
@@ -103,7 +109,7 @@ module _ {job : Job} (ok : Proper job) where
       go true e = (1, ideal job, at-once (subst T (sym e) tt) refl refl)
       go false e =
           let t : T (not (fits job (ideal job))) = subst (λ (x : Bool). T (not x)) (sym e) tt in
-          let r = bisection-ends ok t in
+          let r = bisection-ends can t in
           (suc (r .0), ends job (r .0) .low, after (r .0) t (r .2) refl refl)
 
   -- The count of a method is one number.
@@ -122,11 +128,11 @@ module _ {job : Job} (ok : Proper job) where
   -- Every plan has the separators of the definition, which is the best partition.
   pub plan-separators : (m : Method) {plan : Plan} → PlanBy m job plan → plan .separators ≡ planOf job
   unfolding planOf
-  plan-separators m {plan} x = x .walked ∙ least-alike ok (method-least m (plan .count) (x .found) (x .ended)) least-bottleneck
+  plan-separators m {plan} x = x .walked ∙ least-alike (method-least m (plan .count) (x .found) (x .ended)) least-bottleneck
 
   pub plan-of-best : Best job (planOf job)
   unfolding planOf
-  plan-of-best = least-best ok least-bottleneck
+  plan-of-best = least-best (can .proper) least-bottleneck
 
   -- No partition has a smaller bottleneck; of an equal one each separator is at or before the plan's.
   pub plan-best : (m : Method) {plan : Plan} → PlanBy m job plan → Best job (plan .separators)

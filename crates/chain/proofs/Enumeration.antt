@@ -12,8 +12,9 @@ use Rattle.bound.specs.Order.{lesser, _≼_, Real}
 use Rattle.bound.proofs.Order.{le-refl, le-trans, lesser-cases, lesser-left, lesser-right}
 use Rattle.chain.specs.Job.{Job, tasks, last, at, Partition, bottleneck}
 use Rattle.chain.specs.Plan.{spread, onward, partitions, leastBound, leastBottleneck}
-use Rattle.chain.proofs.Parts.{Proper}
+use Rattle.chain.proofs.Parts.{Proper, Plannable}
 use Rattle.chain.proofs.Bottleneck.{processors-last, bottleneck-real}
+use Rattle.chain.proofs.Walk.{some-partition}
 
 -- The rest of a partition from separator a on: q separators between a and the end, n.
 pub record Onward (n q a : ℕ) (t : List ℕ) : Type 0 where
@@ -103,14 +104,6 @@ onward-complete n (suc q) a (b ∷ t) w =
     let l : b ≤ n = onward-le n q b t (onward-tail w) in
     spread-complete (onward n q) a (n - a) b t (w .grows 0 (omega arith)) (omega arith) (onward-complete n q b t (onward-tail w))
 
--- There is always one.
-some-onward : (n q a : ℕ) → (t : List ℕ) × List·Memᴰ t (onward n q a)
-unfolding onward
-some-onward n zero a = (n ∷ [], List·Memᴰ·head refl)
-some-onward n (suc q) a =
-    let r = some-onward n q a in
-    (a ∷ r .0, spread-complete (onward n q) a (n - a) a (r .0) (omega arith) (omega arith) (r .1))
-
 -- The least of a list of real bounds is real, at most each, and one of them.
 module _ (f : List ℕ → Bound) (real : (s : List ℕ) → Real (f s)) where
   least-of-real : (l : List (List ℕ)) → Real (leastBound (map f l))
@@ -173,26 +166,15 @@ module _ {job : Job} (ok : Proper job) where
   partitions-complete (a ∷ t) w =
       Memᴰ·cast (ap (λ (x : ℕ). x ∷ t) (w .first)) (Memᴰ·map (λ s. 0 ∷ s) (onward-complete (tasks job) (last job) 0 t (subst (λ (x : ℕ). Onward (tasks job) (last job) x t) (w .first) (to-onward a t w))))
 
-  some-partition : (s : List ℕ) × List·Memᴰ s (partitions job)
-  unfolding partitions
-  some-partition =
-      let r = some-onward (tasks job) (last job) 0 in
-      (0 ∷ r .0, Memᴰ·map (λ s. 0 ∷ s) (r .1))
-
   -- No partition has a bottleneck below the least.
   pub least-is-least : (s : List ℕ) → Partition job s → leastBottleneck job ≼ bottleneck job s
   unfolding leastBottleneck
   least-is-least s w = least-of-le (bottleneck job) (bottleneck-real ok) (partitions job) s (partitions-complete s w)
 
-  -- Some partition has the least bottleneck, as the same pair.
-  pub least-attained : (s : List ℕ) × Partition job s × (leastBottleneck job ≡ bottleneck job s)
-  unfolding leastBottleneck
-  least-attained =
-      let m = some-partition in
-      let r = least-of-attained (bottleneck job) (bottleneck-real ok) (partitions job) (m .0) (m .1) in
-      (r .0, partitions-sound (r .0) (r .1), r .2)
-
-  -- The least bottleneck is not 0/0.
-  pub least-real : Real (leastBottleneck job)
-  unfolding leastBottleneck
-  least-real = least-of-real (bottleneck job) (bottleneck-real ok) (partitions job)
+-- Some partition has the least bottleneck, as the same pair.
+pub least-attained : {job : Job} → Plannable job → (s : List ℕ) × Partition job s × (leastBottleneck job ≡ bottleneck job s)
+unfolding leastBottleneck
+least-attained {job} can =
+    let m = some-partition can in
+    let r = least-of-attained (bottleneck job) (bottleneck-real (can .proper)) (partitions job) (m .0) (partitions-complete (can .proper) (m .0) (m .1)) in
+    (r .0, partitions-sound (can .proper) (r .0) (r .1), r .2)

@@ -10,7 +10,7 @@ use lib.Dec.{leb}
 use lib.ListN.{length, getD, take, drop}
 use borrow.Author.Tests.{leb-true, leb-false}
 use Rattle.chain.specs.Lists.{sum, greatestOf, leastOf}
-use Rattle.chain.specs.Job.{Job, processors, speedOf, partWeight, heaviest, fastest, slowestOf, slowest}
+use Rattle.chain.specs.Job.{Job, processors, speedOf, partOf, partWeight, heaviest, fastest, slowestOf, slowest}
 use Rattle.chain.proofs.Parts.{Proper, weight-split}
 
 -- What holds of both numbers holds of the picked one; picked by their order it is at least, or at most, each.
@@ -37,6 +37,12 @@ same-default : (xs : List ℕ) (i a b : ℕ) → i < length xs → getD xs i a �
 same-default [] i a b h = absurd (let z : ⊥ = omega arith in z)
 same-default (x ∷ xs) zero a b h = refl
 same-default (x ∷ xs) (suc i) a b h = same-default xs i a b (omega arith)
+
+-- 0 past the end is the least that can be read.
+pub default-le : (xs : List ℕ) (i d : ℕ) → getD xs i 0 ≤ getD xs i d
+default-le [] i d = omega arith
+default-le (x ∷ xs) zero d = omega arith
+default-le (x ∷ xs) (suc i) d = default-le xs i d
 
 -- Every number of a list is at most the greatest.
 pub greatest-of-le : (xs : List ℕ) (i : ℕ) → getD xs i 0 ≤ greatestOf xs
@@ -81,7 +87,7 @@ sum-one (x ∷ xs) (suc i) = sum-one xs i
 module _ (job : Job) where
   -- The part of one task weighs what the task weighs.
   pub weight-one : (i : ℕ) → partWeight job i (suc i) ≡ getD (job .weights) i 0
-  unfolding partWeight
+  unfolding partWeight partOf
   weight-one i =
       ap (λ (n : ℕ). sum (take n (drop i (job .weights)))) (let e : suc i - i ≡ 1 = omega arith in e) ∙ sum-one (job .weights) i
 

@@ -6,18 +6,20 @@ use mathlib.Core.Path.{_≡_, refl, sym, ap, _∙_}
 use mathlib.Core.List.{[], _∷_}
 use native.Mathlib.Omega.{arith}
 use native.Mathlib.Decide.{decLe}
-use native.Mathlib.Nat.{mul-le-mul-right, mul-le-mul-left}
+use native.Mathlib.Nat.{le-trans, mul-le-mul-right, mul-le-mul-left}
 use lib.ListN.{length, length-append}
 use Rattle.bound.specs.Order.{over, _≼_, plus}
 use Rattle.bound.proofs.Order.{make-le}
 use Rattle.chain.specs.Lists.{tabulate, sumTo, distance}
 use Rattle.chain.specs.Job.{Job, tasks, processors, last, speedOf, partWeight, partLoad, totalWeight, totalSpeed, heaviest, slowest, partBound, at, Partition, boundAt, bottleneck, ideal, Within}
 use Rattle.chain.specs.Heuristic.{miss, nearest, heuristic}
-use Rattle.chain.proofs.Parts.{Proper, weight-split, weight-empty, weight-all}
+use Rattle.chain.proofs.Sums.{sum-grows}
+use Rattle.chain.proofs.Parts.{Proper, weight-split, weight-empty, weight-all, load-le}
 use Rattle.chain.proofs.Indices.{SmallestLeast, smallest-least-is, length-tabulate, at-tabulate, after-tabulate}
+use Rattle.chain.proofs.Within.{parts-within}
 use Rattle.chain.proofs.Bottleneck.{processors-last, bottleneck-le}
 use Rattle.chain.proofs.Extremes.{weight-step, speed-slowest}
-use Rattle.chain.proofs.Ideal.{total-speed-is, sum-grows}
+use Rattle.chain.proofs.Ideal.{total-speed-is}
 
 -- Of x ≤ y, y is nearer to t exactly when t lies past their middle.
 past-middle : (x y t : ℕ) → x ≤ y → distance y t < distance x t → (x < y) × (x + y < 2 * t)
@@ -174,16 +176,21 @@ module _ {job : Job} (ok : Proper job) where
         ap (λ (n : ℕ). n * totalSpeed job) (weight-split job 0 a b (omega arith) (grows p h)),
       )
 
+  load-close : (p : ℕ) → p < processors job
+      → partLoad job (at (heuristic job) p) (at (heuristic job) (suc p)) * totalSpeed job
+      ≤ totalWeight job * speedOf job p + heaviest job * totalSpeed job
+  load-close p h =
+      le-trans (mul-le-mul-right (totalSpeed job) (load-le job (at (heuristic job) p) (at (heuristic job) (suc p)))) (weight-close p h)
+
   -- Every part of the heuristic is within the sum of the ideal and heaviest/slowest.
   pub heuristic-close : Within job (heuristic job) (plus (ideal job) (over (heaviest job) (slowest job)))
-  unfolding boundAt partBound partLoad ideal
+  unfolding boundAt partBound ideal
   heuristic-close =
-      record {
-        each = λ p h.
-            make-le
-            (cross (partLoad job (at (heuristic job) p) (at (heuristic job) (suc p))) (totalSpeed job) (totalWeight job)
-            (speedOf job p) (heaviest job) (slowest job) (weight-close p h) (speed-slowest job p h));
-      }
+      parts-within job heuristic-partition
+      (λ p h.
+      make-le
+      (cross (partLoad job (at (heuristic job) p) (at (heuristic job) (suc p))) (totalSpeed job) (totalWeight job)
+      (speedOf job p) (heaviest job) (slowest job) (load-close p h) (speed-slowest job p h)))
 
   -- So is its bottleneck.
   pub heuristic-bound : bottleneck job (heuristic job) ≼ plus (ideal job) (over (heaviest job) (slowest job))

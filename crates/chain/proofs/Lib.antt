@@ -16,6 +16,8 @@ pub mod NextBid
 pub mod Parts
 pub mod Ranges
 pub mod Refusals
+pub mod Sums
 pub mod Table
 pub mod Walk
 pub mod Counts
+pub mod Within

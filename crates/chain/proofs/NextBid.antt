@@ -10,30 +10,31 @@ use native.Mathlib.Decide.{decLe}
 use lib.Dec.{T, ltb, T-not}
 use borrow.Author.Tests.{lt-ltb, le-ltb}
 use Rattle.bound.specs.declared.Bound.{Bound}
-use Rattle.bound.specs.Order.{_≼_, _≺_, pick, lesser, Real}
-use Rattle.bound.proofs.Order.{le-refl, le-trans, le-or-lt, lt-le-trans, not-both, lesser-cases, lesser-left, lesser-right}
-use Rattle.chain.specs.Job.{Job, tasks, last, partBound}
+use Rattle.bound.specs.Order.{_≼_, _≺_, pick, lesser, Real, Finite}
+use Rattle.bound.proofs.Order.{finite-below, le-refl, le-trans, le-or-lt, lt-le-trans, not-both, lesser-cases, lesser-left, lesser-right}
+use Rattle.chain.specs.Job.{Job, tasks, last, within, offer}
 use Rattle.chain.specs.Probe.{separator, fits, bid, leastBidTo, nextBid}
-use Rattle.chain.proofs.Parts.{Proper, part-empty, part-left, part-right, part-real}
-use Rattle.chain.proofs.Walk.{separator-to, separator-grows, separator-mono, separator-within, separator-past, growing, fits-le, le-fits, fails-lt}
+use Rattle.chain.proofs.Parts.{Proper, Plannable}
+use Rattle.chain.proofs.Within.{within-empty, within-shrink, within-offer, past-offer, offer-real}
+use Rattle.chain.proofs.Walk.{separator-to, separator-grows, separator-mono, separator-within, separator-past, growing, fits-last, last-fits, fails-last, fails-finite, some-fits}
 
 module _ (job : Job) (B : Bound) where
   -- The bids of the processors before the last, and of the last.
-  pub bid-before : (p : ℕ) → p < last job → bid job B p ≡ partBound job p (separator job B p) (suc (separator job B (suc p)))
+  pub bid-before : (p : ℕ) → p < last job → bid job B p ≡ offer job p (separator job B p) (suc (separator job B (suc p)))
   unfolding bid
   bid-before p h =
       ap
       (λ (t : Bool).
-      pick t (partBound job p (separator job B p) (suc (separator job B (suc p)))) (partBound job p (separator job B p) (tasks job)))
+      pick t (offer job p (separator job B p) (suc (separator job B (suc p)))) (offer job p (separator job B p) (tasks job)))
       (lt-ltb p (last job) h)
 
-  pub bid-last : bid job B (last job) ≡ partBound job (last job) (separator job B (last job)) (tasks job)
+  pub bid-last : bid job B (last job) ≡ offer job (last job) (separator job B (last job)) (tasks job)
   unfolding bid
   bid-last =
       ap
       (λ (t : Bool).
-      pick t (partBound job (last job) (separator job B (last job)) (suc (separator job B (suc (last job)))))
-      (partBound job (last job) (separator job B (last job)) (tasks job)))
+      pick t (offer job (last job) (separator job B (last job)) (suc (separator job B (suc (last job)))))
+      (offer job (last job) (separator job B (last job)) (tasks job)))
       (le-ltb (last job) (last job) (omega arith))
 
   -- A property of every bid is the next bid's.
@@ -47,14 +48,70 @@ module _ (job : Job) (B : Bound) where
   unfolding nextBid
   next-cases Q h = bids-to Q (last job) h
 
+  -- In a probe that fails every separator before the end is before the last task.
+  pub fails-before-end : T (not (fits job B)) → (p : ℕ) → p ≤ last job → separator job B p < tasks job
+  fails-before-end t p h =
+      elim (decLe (suc (separator job B p)) (tasks job)) [ yes x ↦ x | no x ↦ absurd (T-not (fits job B) t (last-fits job B (last-empty x))) ]
+    where
+      last-empty : (suc (separator job B p) ≤ tasks job → ⊥) → T (within job (last job) (separator job B (last job)) (tasks job) B)
+      last-empty x =
+          subst (λ (a : ℕ). T (within job (last job) a (tasks job) B))
+          (let e : tasks job ≡ separator job B (last job) =
+          omega (
+            arith,
+            separator-to job B (last job),
+            separator-mono job B p (last job - p),
+            ap (separator job B) (let f : p + (last job - p) ≡ last job = omega arith in f),
+          ) in
+          e)
+          (within-empty job (last job) (tasks job) B)
+
+module _ (job : Job) where
+  -- A bound below the bids of the processors before p walks no further up to p.
+  behind : (B C : Bound) (p : ℕ) → p ≤ last job → ((q : ℕ) → q < p → C ≺ bid job B q) → separator job C p ≤ separator job B p
+  unfolding separator
+  behind B C zero l h = omega arith
+  behind B C (suc p) l h = step (behind B C p (omega arith) (λ q k. h q (omega arith)))
+    where
+      step : separator job C p ≤ separator job B p → separator job C (suc p) ≤ separator job B (suc p)
+      step m =
+          elim (decLe (separator job C (suc p)) (separator job B (suc p))) [
+            | yes x ↦ x
+            | no x ↦
+                absurd
+                (not-both (h p (omega arith))
+                (subst (λ (D : Bound). D ≼ C) (sym (bid-before job B p l))
+                (within-offer job p (separator job B p) (suc (separator job B (suc p)))
+                (within-shrink job p (separator job C p) (separator job B p) (suc (separator job B (suc p))) (separator job C (suc p)) C m
+                (omega (arith, separator-grows job B p)) (omega arith) (separator-within job C p)))))
+          ]
+
+  -- So a greater bound that is below those bids walks just as far up to p: each separator stays,
+  module _ {B C : Bound} (b : Real B) (m : B ≼ C) (p : ℕ) (l : p ≤ last job) (h : (q : ℕ) → q < p → C ≺ bid job B q) where
+    pub separator-stays : (q : ℕ) → q ≤ p → separator job C q ≡ separator job B q
+    separator-stays q k = omega (arith, behind B C q (omega arith) (λ i n. h i (omega arith)), growing job b m q)
+
+    -- and so does each bid before p,
+    bid-stays : (q : ℕ) → q < p → bid job C q ≡ bid job B q
+    bid-stays q k =
+        bid-before job C q (omega arith)
+        ∙ ap₂ (λ (i j : ℕ). offer job q i (suc j)) (separator-stays q (omega arith)) (separator-stays (suc q) k)
+        ∙ sym (bid-before job B q (omega arith))
+
+    -- and the least of them.
+    pub least-stays : (q : ℕ) → q < p → leastBidTo job C q ≡ leastBidTo job B q
+    unfolding leastBidTo
+    least-stays zero k = bid-stays 0 k
+    least-stays (suc q) k = ap₂ lesser (least-stays q (omega arith)) (bid-stays (suc q) k)
+
 module _ {job : Job} (ok : Proper job) where
   pub bid-real : (B : Bound) (p : ℕ) → Real (bid job B p)
   unfolding bid
   bid-real B p = go (ltb p (last job))
     where
-      go : (t : Bool) → Real (pick t (partBound job p (separator job B p) (suc (separator job B (suc p)))) (partBound job p (separator job B p) (tasks job)))
-      go true = part-real job ok p _ _
-      go false = part-real job ok p _ _
+      go : (t : Bool) → Real (pick t (offer job p (separator job B p) (suc (separator job B (suc p)))) (offer job p (separator job B p) (tasks job)))
+      go true = offer-real job ok p _ _
+      go false = offer-real job ok p _ _
 
   pub next-real : (B : Bound) → Real (nextBid job B)
   next-real B = next-cases job B Real (λ p h. bid-real B p)
@@ -78,90 +135,46 @@ module _ {job : Job} (ok : Proper job) where
   unfolding nextBid
   next-le-bid B p h = least-le B (last job) p h
 
-  -- In a probe that fails every separator before the end is before the last task.
-  pub fails-before-end : (B : Bound) → T (not (fits job B)) → (p : ℕ) → p ≤ last job → separator job B p < tasks job
-  fails-before-end B t p h =
-      elim (decLe (suc (separator job B p)) (tasks job)) [ yes x ↦ x | no x ↦ absurd (T-not (fits job B) t (le-fits ok B (last-empty x))) ]
-    where
-      last-empty : (suc (separator job B p) ≤ tasks job → ⊥) → partBound job (last job) (separator job B (last job)) (tasks job) ≼ B
-      last-empty x =
-          subst (λ (a : ℕ). partBound job (last job) a (tasks job) ≼ B)
-          (let e : tasks job ≡ separator job B (last job) =
-          omega (
-            arith,
-            separator-to job B (last job),
-            separator-mono job B p (last job - p),
-            ap (separator job B) (let f : p + (last job - p) ≡ last job = omega arith in f),
-          ) in
-          e)
-          (part-empty job (last job) (tasks job) B)
-
-  -- Every bid of a probe that fails is above its bound.
-  pub bid-above : (B : Bound) → T (not (fits job B)) → (p : ℕ) → p ≤ last job → B ≺ bid job B p
-  bid-above B t p h =
-      elim (decLe (suc p) (last job)) [
-        | yes l ↦
-            subst (λ (C : Bound). B ≺ C) (sym (bid-before job B p l))
-            (separator-past job B p (suc (separator job B (suc p))) (omega arith) (fails-before-end B t (suc p) l))
-        | no l ↦
-            subst (λ (i : ℕ). B ≺ bid job B i) (let e : last job ≡ p = omega arith in e)
-            (subst (λ (C : Bound). B ≺ C) (sym (bid-last job B)) (fails-lt ok B t))
-      ]
-
-  -- The next bid is greater than the bound.
-  pub next-above : (B : Bound) → T (not (fits job B)) → B ≺ nextBid job B
-  next-above B t = next-cases job B (λ C. B ≺ C) (bid-above B t)
-
-  -- A bound below the bids of the processors before p walks no further up to p.
-  behind : (B C : Bound) (p : ℕ) → p ≤ last job → ((q : ℕ) → q < p → C ≺ bid job B q) → separator job C p ≤ separator job B p
-  unfolding separator
-  behind B C zero l h = omega arith
-  behind B C (suc p) l h = step (behind B C p (omega arith) (λ q k. h q (omega arith)))
-    where
-      step : separator job C p ≤ separator job B p → separator job C (suc p) ≤ separator job B (suc p)
-      step m =
-          elim (decLe (separator job C (suc p)) (separator job B (suc p))) [
-            | yes x ↦ x
-            | no x ↦
-                absurd
-                (not-both (h p (omega arith))
-                (subst (λ (D : Bound). D ≼ C) (sym (bid-before job B p l))
-                (le-trans (part-real job ok p (separator job C p) (suc (separator job B (suc p))))
-                (part-left job p (separator job C p) (separator job B p) (suc (separator job B (suc p))) m (omega (arith, separator-grows job B p)))
-                (le-trans (part-real job ok p (separator job C p) (separator job C (suc p)))
-                (part-right job p (separator job C p) (suc (separator job B (suc p))) (separator job C (suc p))
-                (omega (arith, separator-grows job B p)) (omega arith)) (separator-within job C p)))))
-          ]
-
-  -- So a greater bound that is below those bids walks just as far up to p: each separator stays,
-  module _ {B C : Bound} (b : Real B) (c : Real C) (m : B ≼ C) (p : ℕ) (l : p ≤ last job) (h : (q : ℕ) → q < p → C ≺ bid job B q) where
-    pub separator-stays : (q : ℕ) → q ≤ p → separator job C q ≡ separator job B q
-    separator-stays q k = omega (arith, behind B C q (omega arith) (λ i n. h i (omega arith)), growing ok b c m q)
-
-    -- and so does each bid before p,
-    bid-stays : (q : ℕ) → q < p → bid job C q ≡ bid job B q
-    bid-stays q k =
-        bid-before job C q (omega arith)
-        ∙ ap₂ (λ (i j : ℕ). partBound job q i (suc j)) (separator-stays q (omega arith)) (separator-stays (suc q) k)
-        ∙ sym (bid-before job B q (omega arith))
-
-    -- and the least of them.
-    pub least-stays : (q : ℕ) → q < p → leastBidTo job C q ≡ leastBidTo job B q
-    unfolding leastBidTo
-    least-stays zero k = bid-stays 0 k
-    least-stays (suc q) k = ap₂ lesser (least-stays q (omega arith)) (bid-stays (suc q) k)
-
   -- The next bid is at most every bound that fits.
-  pub next-least : (B C : Bound) → T (not (fits job B)) → Real C → T (fits job C) → nextBid job B ≼ C
-  next-least B C t r f = elim (le-or-lt (nextBid job B) C) [ inl x ↦ x | inr x ↦ absurd (below x) ]
+  pub next-least : (B C : Bound) → T (not (fits job B)) → T (fits job C) → nextBid job B ≼ C
+  next-least B C t f = elim (le-or-lt (nextBid job B) C) [ inl x ↦ x | inr x ↦ absurd (below x) ]
     where
       below : C ≺ nextBid job B → ⊥
       below x =
           not-both (each (last job) (omega arith))
           (subst (λ (D : Bound). D ≼ C) (sym (bid-last job B))
-          (le-trans (part-real job ok (last job) (separator job C (last job)) (tasks job))
-          (part-left job (last job) (separator job C (last job)) (separator job B (last job)) (tasks job)
-          (behind B C (last job) (omega arith) (λ q k. each q (omega arith))) (separator-to job B (last job))) (fits-le ok C f)))
+          (within-offer job (last job) (separator job B (last job)) (tasks job)
+          (within-shrink job (last job) (separator job C (last job)) (separator job B (last job)) (tasks job) (tasks job) C
+          (behind job B C (last job) (omega arith) (λ q k. each q (omega arith))) (separator-to job B (last job)) (omega arith)
+          (fits-last job C f))))
         where
           each : (p : ℕ) → p ≤ last job → C ≺ bid job B p
           each p h = lt-le-trans (bid-real B p) x (next-le-bid B p h)
+
+module _ {job : Job} (can : Plannable job) where
+  -- Every bid of a probe that fails is above its bound,
+  pub bid-above : (B : Bound) → T (not (fits job B)) → (p : ℕ) → p ≤ last job → B ≺ bid job B p
+  bid-above B t p h =
+      elim (decLe (suc p) (last job)) [
+        | yes l ↦
+            subst (λ (C : Bound). B ≺ C) (sym (bid-before job B p l))
+            (past-offer job p (separator job B p) (suc (separator job B (suc p))) finite
+            (separator-past job B p (suc (separator job B (suc p))) (omega arith) (fails-before-end job B t (suc p) l)))
+        | no l ↦
+            subst (λ (i : ℕ). B ≺ bid job B i) (let e : last job ≡ p = omega arith in e)
+            (subst (λ (C : Bound). B ≺ C) (sym (bid-last job B))
+            (past-offer job (last job) (separator job B (last job)) (tasks job) finite (fails-last job B t)))
+      ]
+    where
+      finite : Finite B
+      finite = fails-finite can B t
+
+  -- so the next bid is greater than the bound;
+  pub next-above : (B : Bound) → T (not (fits job B)) → B ≺ nextBid job B
+  next-above B t = next-cases job B (λ C. B ≺ C) (bid-above B t)
+
+  -- and it is a number.
+  pub next-finite : (B : Bound) → T (not (fits job B)) → Finite (nextBid job B)
+  next-finite B t =
+      let c = some-fits can in
+      finite-below (next-real (can .proper) B) (next-least (can .proper) B (c .0) t (c .2)) (c .1)

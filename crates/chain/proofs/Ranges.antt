@@ -2,30 +2,37 @@
 -- Only the lemmas of the first part open the limits; the others cite them by name.
 -- Assumes nothing.
 use Prim.Native.Nat.{ℕ, zero, suc, _+_, _-_, _*_, _^_, _≤_, _<_}
-use mathlib.Core.Path.{ap}
-use mathlib.Core.Bool.{Bool, true, false, cond, _&&_}
-use mathlib.Core.List.{List, [], _∷_}
+use mathlib.Core.Path.{sym, subst}
+use mathlib.Core.Bool.{Bool, true, false, _&&_}
+use mathlib.Core.List.{List}
 use native.Mathlib.Omega.{arith}
 use native.Mathlib.Nat.{le-trans, lt-of-le-of-lt, mul-le-mul, mul-le-mul-left, mul-le-mul-right, one-le-mul, add-le-add}
 use lib.Dec.{T, leb, ltb, leb→le, le→leb, lit<, lit≤}
-use lib.ListN.{length, getD, take, drop, take-append-drop}
 use Rattle.bound.specs.declared.Bound.{Bound}
 use Rattle.bound.specs.Order.{infinite, pick, lesser, middle}
 use Rattle.bound.proofs.Order.{lesser-cases}
-use Rattle.chain.specs.Limits.{maxTasks, maxWeight, maxProcessors, maxSpeed, maxBoundLoad, maxBoundSpeed}
+use Rattle.chain.specs.Limits.{maxTasks, maxWeight, maxLoad, maxProcessors, maxSpeed, maxBoundLoad, maxBoundSpeed}
 use Rattle.chain.specs.Ranges.{Small, Lendable, Narrow}
-use Rattle.chain.specs.Lists.{sum, greatestOf, leastOf, sumTo}
-use Rattle.chain.specs.Job.{Job, tasks, processors, last, speedOf, Valid, partWeight, partLoad, totalWeight, totalSpeed, heaviest, fastest, slowestOf, slowest, partBound, at, boundAt, bottleneck, ideal}
+use Rattle.chain.specs.Lists.{sumTo}
+use Rattle.chain.specs.Job.{Job, tasks, processors, last, speedOf, Valid, partWeight, partLoad, totalWeight, totalSpeed, heaviest, fastest, partBound, offer, at, boundAt, bottleneck, ideal}
 use Rattle.chain.specs.Probe.{separator, bid, leastBidTo, nextBid}
 use Rattle.chain.specs.Refusal.{boundTest}
-use Rattle.chain.proofs.Parts.{valid-proper, sum-append}
+use Rattle.chain.proofs.Sums.{sum-le, sum-limit}
+use Rattle.chain.proofs.Parts.{valid-proper, weight-le-total, load-le}
+use Rattle.chain.proofs.Within.{offer-part}
+use Rattle.chain.proofs.Extremes.{default-le, greatest-cases}
+use Rattle.chain.proofs.Ideal as ideals
 use Rattle.chain.proofs.Bottleneck.{bottleneck-cases}
 use Rattle.chain.proofs.Refusals.{and-left, and-right, and-both}
 
 -- The limits: what their numbers come to. Loads fit 32 bits,
-pub loads-fit : maxTasks * maxWeight < 2 ^ 32
-unfolding maxTasks maxWeight
+pub loads-fit : maxLoad < 2 ^ 32
+unfolding maxLoad maxTasks maxWeight
 loads-fit = lit< tt
+
+weights-loads : maxTasks * maxWeight ≤ maxLoad
+unfolding maxLoad
+weights-loads = omega arith
 
 -- and so do indices,
 tasks-fit : maxTasks < 2 ^ 32
@@ -53,8 +60,8 @@ lent-speed-fits : maxBoundSpeed < 2 ^ 64
 unfolding maxBoundSpeed
 lent-speed-fits = lit< tt
 
-load-lendable : maxTasks * maxWeight ≤ maxBoundLoad
-unfolding maxTasks maxWeight maxBoundLoad
+load-lendable : maxLoad ≤ maxBoundLoad
+unfolding maxLoad maxTasks maxWeight maxBoundLoad
 load-lendable = lit≤ tt
 
 speed-lendable : maxSpeed ≤ maxBoundSpeed
@@ -65,126 +72,75 @@ total-speed-lendable : maxProcessors * maxSpeed ≤ maxBoundSpeed
 unfolding maxProcessors maxSpeed maxBoundSpeed
 total-speed-lendable = lit≤ tt
 
-middle-load-lendable : maxTasks * maxWeight * maxSpeed + maxTasks * maxWeight * maxSpeed ≤ maxBoundLoad
-unfolding maxTasks maxWeight maxSpeed maxBoundLoad
+middle-load-lendable : maxLoad * maxSpeed + maxLoad * maxSpeed ≤ maxBoundLoad
+unfolding maxLoad maxTasks maxWeight maxSpeed maxBoundLoad
 middle-load-lendable = lit≤ tt
 
 middle-speed-lendable : 2 * (maxSpeed * maxSpeed) ≤ maxBoundSpeed
 unfolding maxSpeed maxBoundSpeed
 middle-speed-lendable = lit≤ tt
 
-load-by-lent-speed : maxTasks * maxWeight * maxBoundSpeed < 2 ^ 64
-unfolding maxTasks maxWeight maxBoundSpeed
+load-by-lent-speed : maxLoad * maxBoundSpeed < 2 ^ 64
+unfolding maxLoad maxTasks maxWeight maxBoundSpeed
 load-by-lent-speed = lit< tt
 
 lent-load-by-speed : maxBoundLoad * maxSpeed < 2 ^ 64
 unfolding maxBoundLoad maxSpeed
 lent-load-by-speed = lit< tt
 
-load-by-speed : maxTasks * maxWeight * maxSpeed < 2 ^ 64
-unfolding maxTasks maxWeight maxSpeed
+load-by-speed : maxLoad * maxSpeed < 2 ^ 64
+unfolding maxLoad maxTasks maxWeight maxSpeed
 load-by-speed = lit< tt
 
-load-by-total-speed : maxTasks * maxWeight * (maxProcessors * maxSpeed) < 2 ^ 64
-unfolding maxTasks maxWeight maxProcessors maxSpeed
+load-by-total-speed : maxLoad * (maxProcessors * maxSpeed) < 2 ^ 64
+unfolding maxLoad maxTasks maxWeight maxProcessors maxSpeed
 load-by-total-speed = lit< tt
 
-thousand-loads : 1000 * (maxTasks * maxWeight * (maxProcessors * maxSpeed)) < 2 ^ 64
-unfolding maxTasks maxWeight maxProcessors maxSpeed
+thousand-loads : 1000 * (maxLoad * (maxProcessors * maxSpeed)) < 2 ^ 64
+unfolding maxLoad maxTasks maxWeight maxProcessors maxSpeed
 thousand-loads = lit< tt
 
 weight-by-speeds : maxWeight * (maxSpeed * maxSpeed) < 2 ^ 64
 unfolding maxWeight maxSpeed
 weight-by-speeds = lit< tt
 
--- Lists whose entries have a limit.
-sum-limit : (m d : ℕ) (xs : List ℕ) → ((i : ℕ) → getD xs i d ≤ m) → sum xs ≤ length xs * m
-unfolding sum
-sum-limit m d [] h = omega arith
-sum-limit m d (x ∷ xs) h = omega (arith, h 0, sum-limit m d xs (λ i. h (suc i)))
-
-sum-to-limit : (m : ℕ) (f : ℕ → ℕ) (n : ℕ) → ((i : ℕ) → f i ≤ m) → sumTo f n ≤ n * m
-unfolding sumTo
-sum-to-limit m f zero h = omega arith
-sum-to-limit m f (suc n) h = omega (arith, h n, sum-to-limit m f n h)
-
-sum-take : (n : ℕ) (xs : List ℕ) → sum (take n xs) ≤ sum xs
-sum-take n xs = omega (arith, sum-append (take n xs) (drop n xs), ap sum (take-append-drop n xs))
-
-sum-drop : (n : ℕ) (xs : List ℕ) → sum (drop n xs) ≤ sum xs
-sum-drop n xs = omega (arith, sum-append (take n xs) (drop n xs), ap sum (take-append-drop n xs))
-
-greatest-limit : (m d : ℕ) (xs : List ℕ) → ((i : ℕ) → getD xs i d ≤ m) → greatestOf xs ≤ m
-unfolding greatestOf
-greatest-limit m d [] h = omega arith
-greatest-limit m d (x ∷ xs) h = go (leb (greatestOf xs) x) (h 0) (greatest-limit m d xs (λ i. h (suc i)))
-  where
-    go : (t : Bool) → x ≤ m → greatestOf xs ≤ m → cond t x (greatestOf xs) ≤ m
-    go true k l = k
-    go false k l = l
-
-least-positive : (x : ℕ) (xs : List ℕ) → 1 ≤ x → ((i : ℕ) → 1 ≤ getD xs i 1) → 1 ≤ leastOf x xs
-unfolding leastOf
-least-positive x [] h k = h
-least-positive x (y ∷ ys) h k = go (leb x (leastOf y ys)) (least-positive y ys (k 0) (λ i. k (suc i)))
-  where
-    go : (t : Bool) → 1 ≤ leastOf y ys → 1 ≤ cond t x (leastOf y ys)
-    go true l = h
-    go false l = l
-
-slowest-positive-of : (xs : List ℕ) → ((i : ℕ) → 1 ≤ getD xs i 1) → 1 ≤ slowestOf xs
-unfolding slowestOf
-slowest-positive-of [] h = omega arith
-slowest-positive-of (x ∷ xs) h = least-positive x xs (h 0) (λ i. h (suc i))
-
-sum-positive : (xs : List ℕ) → 1 ≤ length xs → ((i : ℕ) → 1 ≤ getD xs i 1) → 1 ≤ sum xs
-unfolding sum
-sum-positive [] l h = absurd (let z : ⊥ = omega arith in z)
-sum-positive (x ∷ xs) l h = omega (arith, h 0)
-
 module _ {job : Job} (v : Valid job) where
   -- All weight is within the limit of a load.
-  pub total-weight-limit : totalWeight job ≤ maxTasks * maxWeight
-  total-weight-limit = le-trans (sum-limit maxWeight 0 (job .weights) (v .weights-limit)) (mul-le-mul-right maxWeight (v .tasks-limit))
+  pub total-weight-limit : totalWeight job ≤ maxLoad
+  total-weight-limit =
+      le-trans (sum-limit (job .weights) 0 maxWeight (v .weights-limit)) (le-trans (mul-le-mul-right maxWeight (v .tasks-limit)) weights-loads)
 
   -- No part weighs more than all tasks.
   pub weight-limit : (a b : ℕ) → partWeight job a b ≤ totalWeight job
-  unfolding partWeight
-  weight-limit a b = le-trans (sum-take (b - a) (drop a (job .weights))) (sum-drop a (job .weights))
+  weight-limit a b = weight-le-total job a b
 
   -- Every load is within the limit of a load.
-  pub load-limit : (a b : ℕ) → partLoad job a b ≤ maxTasks * maxWeight
-  unfolding partLoad
-  load-limit a b = le-trans (weight-limit a b) total-weight-limit
+  pub load-limit : (a b : ℕ) → partLoad job a b ≤ maxLoad
+  load-limit a b = le-trans (load-le job a b) (le-trans (weight-limit a b) total-weight-limit)
 
   -- All speed is within its limit.
   pub total-speed-limit : totalSpeed job ≤ maxProcessors * maxSpeed
   unfolding speedOf
-  total-speed-limit = le-trans (sum-limit maxSpeed 1 (job .speeds) (v .speeds-limit)) (mul-le-mul-right maxSpeed (v .processors-limit))
+  total-speed-limit = le-trans (sum-limit (job .speeds) 1 maxSpeed (v .speeds-limit)) (mul-le-mul-right maxSpeed (v .processors-limit))
 
   -- All speed is above 0.
   pub total-speed-positive : 1 ≤ totalSpeed job
-  unfolding speedOf
-  total-speed-positive = sum-positive (job .speeds) (v .some-processor) (v .speeds-positive)
+  total-speed-positive = ideals.total-speed-positive (valid-proper v)
 
   -- The speeds of the first p processors together.
   pub speeds-to-limit : (p : ℕ) → p ≤ processors job → sumTo (speedOf job) p ≤ maxProcessors * maxSpeed
   speeds-to-limit p h =
-      le-trans (sum-to-limit maxSpeed (speedOf job) p (v .speeds-limit)) (mul-le-mul-right maxSpeed (le-trans h (v .processors-limit)))
+      le-trans (sum-le {f = speedOf job} maxSpeed (v .speeds-limit) p) (mul-le-mul-right maxSpeed (le-trans h (v .processors-limit)))
 
   -- The heaviest task is within the limit of a weight.
   pub heaviest-limit : heaviest job ≤ maxWeight
-  heaviest-limit = greatest-limit maxWeight 0 (job .weights) (v .weights-limit)
+  heaviest-limit = greatest-cases (λ w. w ≤ maxWeight) (job .weights) (v .weights-limit)
 
   -- The fastest processor is within the limit of a speed.
   pub fastest-limit : fastest job ≤ maxSpeed
   unfolding speedOf
-  fastest-limit = greatest-limit maxSpeed 1 (job .speeds) (v .speeds-limit)
-
-  -- The slowest speed is above 0.
-  pub slowest-positive : 1 ≤ slowest job
-  unfolding speedOf
-  slowest-positive = slowest-positive-of (job .speeds) (v .speeds-positive)
+  fastest-limit =
+      greatest-cases (λ e. e ≤ maxSpeed) (job .speeds) (λ p. le-trans (default-le (job .speeds) p 1) (v .speeds-limit p))
 
   -- Every part's bound is small.
   pub part-small : (p a b : ℕ) → Small (partBound job p a b)
@@ -200,6 +156,10 @@ module _ {job : Job} (v : Valid job) where
   pub bottleneck-small : (s : List ℕ) → Small (bottleneck job s)
   bottleneck-small s = bottleneck-cases (valid-proper v) Small s (λ p h. bound-small s p)
 
+  -- Every offer is small.
+  pub offer-small : (p a b : ℕ) → Small (offer job p a b)
+  offer-small p a b = subst Small (sym (offer-part job p a b)) (part-small p a b)
+
   -- Every bid is small.
   pub bid-small : (B : Bound) (p : ℕ) → Small (bid job B p)
   unfolding bid
@@ -208,9 +168,9 @@ module _ {job : Job} (v : Valid job) where
       a : ℕ
       a = separator job B p
 
-      go : (t : Bool) → Small (pick t (partBound job p a (suc (separator job B (suc p)))) (partBound job p a (tasks job)))
-      go true = part-small p a (suc (separator job B (suc p)))
-      go false = part-small p a (tasks job)
+      go : (t : Bool) → Small (pick t (offer job p a (suc (separator job B (suc p)))) (offer job p a (tasks job)))
+      go true = offer-small p a (suc (separator job B (suc p)))
+      go false = offer-small p a (tasks job)
 
   least-bid-small : (B : Bound) (p : ℕ) → Small (leastBidTo job B p)
   unfolding leastBidTo

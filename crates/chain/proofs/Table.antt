@@ -1,34 +1,25 @@
 -- The table holds what it should: each value is the least over every last part, and is at most a bound exactly when the
 -- first processors can take the tasks within it. The crossings grow, so the pointer's moves are the crossings at the end.
 -- Assumes nothing.
-use Prim.Native.Nat.{ℕ, zero, suc, _-_, _*_, _≤_, _<_}
+use Prim.Native.Nat.{ℕ, zero, suc, _-_, _≤_, _<_}
 use mathlib.Core.Path.{_≡_, refl, subst}
 use mathlib.Core.Logic.{inl, inr}
 use native.Mathlib.Omega.{arith}
 use native.Mathlib.Decide.{decLe}
 use Rattle.bound.specs.declared.Bound.{Bound}
-use Rattle.bound.specs.Order.{le, _≼_, _≺_, greater, Real}
-use Rattle.bound.proofs.Order.{le-refl, le-trans, lt-le, lt-le-trans, not-both, true-le, false-lt, greater-cases, greater-left, greater-right, greater-le, le-greater-left, le-greater-right, lesser-cases, lesser-left, lesser-right}
+use Rattle.bound.specs.Order.{le, _≼_, _≺_, greater, Real, Finite}
+use Rattle.bound.proofs.Order.{finite-or-not, le-speedless, le-refl, le-trans, lt-le, lt-le-trans, not-both, true-le, false-lt, greater-cases, greater-left, greater-right, greater-le, le-greater-left, le-greater-right, lesser-cases, lesser-left, lesser-right}
 use Rattle.chain.specs.Lists.{sumTo}
-use Rattle.chain.specs.Job.{Job, tasks, last, partBound}
+use Rattle.chain.specs.Job.{Job, tasks, last, offer}
 use Rattle.chain.specs.Dynamic.{candidate, crossingOf, lesserAt, tableValue, crossing, movesTo, moves}
 use Rattle.chain.specs.Plan.{allowance}
 use Rattle.chain.specs.declared.Method.the-variants.{Table}
+use Rattle.chain.proofs.Sums.{sum-same, sum-le}
 use Rattle.chain.proofs.Indices.{Smallest, smallest-is}
-use Rattle.chain.proofs.Parts.{Proper, part-empty, part-right, part-left, part-real}
+use Rattle.chain.proofs.Parts.{Proper}
+use Rattle.chain.proofs.Within.{within-offer, offer-within, offer-empty, offer-right, offer-left, offer-real}
 use Rattle.chain.proofs.Cover.{Cover}
 use Rattle.chain.proofs.CoverLaws.{cover-down}
-
--- Equal summands have equal sums; summands of at most m have a sum of at most n times m.
-sum-same : {f g : ℕ → ℕ} → ((p : ℕ) → f p ≡ g p) → (n : ℕ) → sumTo f n ≡ sumTo g n
-unfolding sumTo
-sum-same h zero = refl
-sum-same h (suc n) = omega (arith, sum-same h n, h n)
-
-sum-le : {f : ℕ → ℕ} (m : ℕ) → ((p : ℕ) → f p ≤ m) → (n : ℕ) → sumTo f n ≤ n * m
-unfolding sumTo
-sum-le m h zero = omega arith
-sum-le m h (suc n) = omega (arith, sum-le m h n, h n)
 
 -- A row that grows against parts that fall, the last of which is at most everything.
 record Against (f g : ℕ → Bound) (i : ℕ) : Type 0 where
@@ -90,19 +81,19 @@ module _ {f g : ℕ → Bound} {i : ℕ} (w : Against f g i) where
 module _ {job : Job} (ok : Proper job) where
   candidate-real : (p i j : ℕ) → Real (tableValue job p j) → Real (candidate job (tableValue job p) (suc p) i j)
   unfolding candidate
-  candidate-real p i j r = greater-cases Real (tableValue job p j) (partBound job (suc p) j i) r (part-real job ok (suc p) j i)
+  candidate-real p i j r = greater-cases Real (tableValue job p j) (offer job (suc p) j i) r (offer-real job ok (suc p) j i)
 
   -- Every value is a real fraction.
   pub table-real : (p i : ℕ) → Real (tableValue job p i)
   unfolding tableValue
-  table-real zero i = part-real job ok 0 0 i
+  table-real zero i = offer-real job ok 0 0 i
   table-real (suc p) i =
       lesser-at-cases Real (candidate job (tableValue job p) (suc p) i) (crossingOf job (tableValue job p) (suc p) i)
       (λ j h. candidate-real p i j (table-real p j))
 
-  crossing-is : (p i : ℕ) → Smallest (λ j. le (partBound job (suc p) j i) (tableValue job p j)) 0 i (crossing job p i)
+  crossing-is : (p i : ℕ) → Smallest (λ j. le (offer job (suc p) j i) (tableValue job p j)) 0 i (crossing job p i)
   unfolding crossing crossingOf
-  crossing-is p i = smallest-is (λ j. le (partBound job (suc p) j i) (tableValue job p j)) 0 i
+  crossing-is p i = smallest-is (λ j. le (offer job (suc p) j i) (tableValue job p j)) 0 i
 
   -- The crossing is an index up to i.
   pub crossing-le : (p i : ℕ) → crossing job p i ≤ i
@@ -116,11 +107,11 @@ module _ {job : Job} (ok : Proper job) where
       impossible m =
           let c : ℕ = crossing job p k in
           let l : c < i = omega (arith, crossing-le p i) in
-          let x : tableValue job p c ≺ partBound job (suc p) c i = false-lt (crossing-is p i .before c (omega arith) (omega arith)) in
-          let y : partBound job (suc p) c i ≼ partBound job (suc p) c k = part-right job (suc p) c i k (omega arith) h in
+          let x : tableValue job p c ≺ offer job (suc p) c i = false-lt (crossing-is p i .before c (omega arith) (omega arith)) in
+          let y : offer job (suc p) c i ≼ offer job (suc p) c k = offer-right job (suc p) c i k (omega arith) h in
           elim (crossing-is p k .found) [
             | inl e ↦ omega arith
-            | inr e ↦ not-both (lt-le-trans (part-real job ok (suc p) c k) x y) (true-le e)
+            | inr e ↦ not-both (lt-le-trans (offer-real job ok (suc p) c k) x y) (true-le e)
           ]
 
   -- The value is one of the candidates.
@@ -136,52 +127,56 @@ module _ {job : Job} (ok : Proper job) where
   unfolding tableValue crossing candidate top
   least-from p up i j h = least-at against (crossing job p i) (crossing-is p i) j h
     where
-      against : Against (tableValue job p) (λ j. partBound job (suc p) j i) i
+      against : Against (tableValue job p) (λ j. offer job (suc p) j i) i
       against =
           record {
             grows = up;
-            falls = λ j k h l. part-left job (suc p) j k i h l;
-            ends = λ B. part-empty job (suc p) i B;
+            falls = λ j k h l. offer-left job (suc p) j k i h l;
+            ends = λ B. offer-empty job (suc p) i B;
             row-real = table-real p;
-            part-is-real = λ j. part-real job ok (suc p) j i;
+            part-is-real = λ j. offer-real job ok (suc p) j i;
           }
 
   -- A row is known by covers: its value is at most B exactly when the first i tasks can go to the processors 0 to p within B.
   abbrev ByCover : ℕ → ℕ → Bound → Type 0
-  ByCover p i B = (tableValue job p i ≼ B → Cover job B (suc p) i) × (Cover job B (suc p) i → tableValue job p i ≼ B)
+  ByCover p i B = (Finite B → tableValue job p i ≼ B → Cover job B (suc p) i) × (Cover job B (suc p) i → tableValue job p i ≼ B)
 
   -- Such a row grows.
   grows-from : (p : ℕ) → ((i : ℕ) (B : Bound) → ByCover p i B) → (i k : ℕ) → i ≤ k → tableValue job p i ≼ tableValue job p k
   grows-from p row i k h =
       let B : Bound = tableValue job p k in
-      row i B .1 (cover-down ok B (suc p) k i (row k B .0 (le-refl B)) h)
+      elim (finite-or-not B) [
+        | inl f ↦ row i B .1 (cover-down job B (suc p) k i (row k B .0 f (le-refl B)) h)
+        | inr e ↦ le-speedless (tableValue job p i) e
+      ]
 
   -- After such a row comes another.
   cover-next : (p : ℕ) → ((i : ℕ) (B : Bound) → ByCover p i B) → (i : ℕ) (B : Bound) → ByCover (suc p) i B
   unfolding candidate
-  cover-next p row i B = (λ h. forth (table-attained p i) h, back)
+  cover-next p row i B = (λ f h. forth f (table-attained p i) h, back)
     where
-      forth : (j : ℕ) × (j ≤ i) × (tableValue job (suc p) i ≡ candidate job (tableValue job p) (suc p) i j)
+      forth : Finite B → (j : ℕ) × (j ≤ i) × (tableValue job (suc p) i ≡ candidate job (tableValue job p) (suc p) i j)
           → tableValue job (suc p) i ≼ B → Cover job B (suc (suc p)) i
-      forth (j, l, e) h =
+      forth f (j, l, e) h =
           let a : Bound = tableValue job p j in
-          let b : Bound = partBound job (suc p) j i in
+          let b : Bound = offer job (suc p) j i in
           let r : Real (greater a b) = candidate-real p i j (table-real p j) in
           let k : greater a b ≼ B = subst (λ C. C ≼ B) e h in
-          (j, l, row j B .0 (le-greater-left a b r k), le-greater-right a b r k)
+          (j, l, row j B .0 f (le-greater-left a b r k), offer-within job (suc p) j i f (le-greater-right a b r k))
 
       back : Cover job B (suc (suc p)) i → tableValue job (suc p) i ≼ B
-      back (j, l, c, b) =
-          le-trans (candidate-real p i j (table-real p j)) (least-from p (grows-from p row) i j l) (greater-le (row j B .1 c) b)
+      back (j, l, c, t) =
+          le-trans (candidate-real p i j (table-real p j)) (least-from p (grows-from p row) i j l)
+          (greater-le (row j B .1 c) (within-offer job (suc p) j i t))
 
-  -- The value is at most B exactly when the first i tasks can go to the processors 0 to p within B.
+  -- The value is at most B, a number, exactly when the first i tasks can go to the processors 0 to p within B.
   pub table-cover : (p i : ℕ) (B : Bound)
-      → (tableValue job p i ≼ B → Cover job B (suc p) i) × (Cover job B (suc p) i → tableValue job p i ≼ B)
+      → (Finite B → tableValue job p i ≼ B → Cover job B (suc p) i) × (Cover job B (suc p) i → tableValue job p i ≼ B)
   unfolding tableValue
-  table-cover zero i B = (λ h. (0, omega arith, refl, h), back)
+  table-cover zero i B = (λ f h. (0, omega arith, refl, offer-within job 0 0 i f h), back)
     where
-      back : Cover job B 1 i → partBound job 0 0 i ≼ B
-      back (j, l, e, b) = subst (λ (n : ℕ). partBound job 0 n i ≼ B) e b
+      back : Cover job B 1 i → offer job 0 0 i ≼ B
+      back (j, l, e, t) = subst (λ (n : ℕ). offer job 0 n i ≼ B) e (within-offer job 0 j i t)
   table-cover (suc p) i B = cover-next p (table-cover p) i B
 
   -- Each row grows with the index.

@@ -3,15 +3,15 @@ use Prim.Native.Nat.{ℕ, zero, suc, _+_, _-_}
 use Rattle.bound.specs.declared.Bound.{Bound}
 use Rattle.bound.specs.Order.{le, greater, lesser}
 use Rattle.chain.specs.Lists.{sumTo, smallestFrom}
-use Rattle.chain.specs.Job.{Job, tasks, last, partBound}
+use Rattle.chain.specs.Job.{Job, tasks, last, offer}
 
 -- "max(B(p−1,j), W(j+1,i)/ep)", for the row before, given as a function of j, and processor p.
 unfoldable pub candidate : Job → (ℕ → Bound) → ℕ → ℕ → ℕ → Bound
-candidate job before p i j = greater (before j) (partBound job p j i)
+candidate job before p i j = greater (before j) (offer job p j i)
 
 -- "the crossing of (p,i) is the smallest j ≤ i with B(p−1,j) ≥ W(j+1,i)/ep"
 unfoldable pub crossingOf : Job → (ℕ → Bound) → ℕ → ℕ → ℕ
-crossingOf job before p i = smallestFrom (λ j. le (partBound job p j i) (before j)) 0 i
+crossingOf job before p i = smallestFrom (λ j. le (offer job p j i) (before j)) 0 i
 
 -- "the lesser of max(..) at the crossing and, if the crossing is above 0, at the index before it"
 unfoldable pub lesserAt : (ℕ → Bound) → ℕ → Bound
@@ -20,7 +20,7 @@ lesserAt f (suc j) = lesser (f (suc j)) (f j)
 
 -- "B(1,i) = W(1,i)/e1. For p ≥ 2 .."
 unfoldable pub tableValue : Job → ℕ → ℕ → Bound
-tableValue job zero i = partBound job 0 0 i
+tableValue job zero i = offer job 0 0 i
 tableValue job (suc p) i =
     lesserAt (candidate job (tableValue job p) (suc p) i) (crossingOf job (tableValue job p) (suc p) i)
 

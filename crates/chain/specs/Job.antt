@@ -4,9 +4,10 @@ use Prim.Native.Nat.{ℕ, zero, suc, _-_, _≤_, _<_}
 use mathlib.Core.Path.{_≡_}
 use mathlib.Core.Bool.{Bool}
 use mathlib.Core.List.{List, [], _∷_}
+use lib.Dec.{T}
 use lib.ListN.{length, getD, take, drop}
 use Rattle.bound.specs.declared.Bound.{Bound}
-use Rattle.bound.specs.Order.{over, le, greater, _≼_}
+use Rattle.bound.specs.Order.{over, le, greater}
 use Rattle.chain.specs.Limits.{maxTasks, maxWeight, maxProcessors, maxSpeed}
 use Rattle.chain.specs.Lists.{sum, greatestOf, leastOf}
 
@@ -43,9 +44,13 @@ pub record Valid (job : Job) : Type 0 where
   pub speeds-positive : (p : ℕ) → 1 ≤ speedOf job p
   pub speeds-limit : (p : ℕ) → speedOf job p ≤ maxSpeed
 
+-- The weights of the tasks of the part from a to b, none if a ≥ b.
+unfoldable pub partOf : Job → ℕ → ℕ → List ℕ
+partOf job a b = take (b - a) (drop a (job .weights))
+
 -- "W(a,b) is the total weight of tiles a to b, 0 if a > b." Here the tasks of the part from a to b: W(a + 1, b).
 unfoldable pub partWeight : Job → ℕ → ℕ → ℕ
-partWeight job a b = sum (take (b - a) (drop a (job .weights)))
+partWeight job a b = sum (partOf job a b)
 
 -- The load of a part: its weight.
 unfoldable pub partLoad : Job → ℕ → ℕ → ℕ
@@ -81,6 +86,10 @@ partBound job p a b = over (partLoad job a b) (speedOf job p)
 unfoldable pub within : Job → ℕ → ℕ → ℕ → Bound → Bool
 within job p a b B = le (partBound job p a b) B
 
+-- What a processor bids for the part from a to b, and what the table enters for it: the part's bound.
+unfoldable pub offer : Job → ℕ → ℕ → ℕ → Bound
+offer job p a b = partBound job p a b
+
 -- The separator at index p of a list.
 abbrev pub at : List ℕ → ℕ → ℕ
 at s p = getD s p 0
@@ -112,4 +121,4 @@ ideal job = over (totalWeight job) (totalSpeed job)
 
 -- Every part of the partition is within the bound.
 pub record Within (job : Job) (s : List ℕ) (B : Bound) : Type 0 where
-  pub each : (p : ℕ) → p < processors job → boundAt job s p ≼ B
+  pub each : (p : ℕ) → p < processors job → T (within job p (at s p) (at s (suc p)) B)

@@ -1,5 +1,5 @@
 -- The limits of document 01, each by its name.
-use Prim.Native.Nat.{ℕ}
+use Prim.Native.Nat.{ℕ, _*_}
 
 -- "N tiles, 0 to 2,048"
 unfoldable pub maxTasks : ℕ
@@ -8,6 +8,10 @@ maxTasks = 2048
 -- "weights w of 0 to 1,000,000"
 unfoldable pub maxWeight : ℕ
 maxWeight = 1000000
+
+-- The greatest load that a part can have.
+unfoldable pub maxLoad : ℕ
+maxLoad = maxTasks * maxWeight
 
 -- "P machines, 1 to 256"
 unfoldable pub maxProcessors : ℕ

@@ -8,7 +8,7 @@ use Rattle.bound.specs.Order.{pick, lesser}
 use Rattle.chain.specs.declared.Outcome.{Outcome}
 use Rattle.chain.specs.declared.Outcome.the-variants.{Fits, Fails}
 use Rattle.chain.specs.Lists.{tabulate, greatestFrom}
-use Rattle.chain.specs.Job.{Job, tasks, last, partBound, within}
+use Rattle.chain.specs.Job.{Job, tasks, last, within, offer}
 
 -- "sp is the greatest index from s(p−1) to N whose share is within the bound"
 unfoldable pub reach : Job → ℕ → ℕ → Bound → ℕ
@@ -31,7 +31,7 @@ fits job B = within job (last job) (separator job B (last job)) (tasks job) B
 unfoldable pub bid : Job → Bound → ℕ → Bound
 bid job B p =
     let a = separator job B p in
-    pick (ltb p (last job)) (partBound job p a (suc (separator job B (suc p)))) (partBound job p a (tasks job))
+    pick (ltb p (last job)) (offer job p a (suc (separator job B (suc p)))) (offer job p a (tasks job))
 
 -- "Least ties go to the lowest machine." The least bid of the processors 0 to p.
 unfoldable pub leastBidTo : Job → Bound → ℕ → Bound

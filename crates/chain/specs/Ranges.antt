@@ -1,11 +1,11 @@
 -- How large the bounds are that the code meets.
-use Prim.Native.Nat.{_*_, _≤_, _<_, _^_}
+use Prim.Native.Nat.{_≤_, _<_, _^_}
 use Rattle.bound.specs.declared.Bound.{Bound}
-use Rattle.chain.specs.Limits.{maxTasks, maxWeight, maxSpeed, maxBoundLoad, maxBoundSpeed}
+use Rattle.chain.specs.Limits.{maxLoad, maxSpeed, maxBoundLoad, maxBoundSpeed}
 
 -- A bound as parts, bottlenecks and bids have it.
 pub record Small (B : Bound) : Type 0 where
-  pub load-small : B .load ≤ maxTasks * maxWeight
+  pub load-small : B .load ≤ maxLoad
   pub speed-positive : 1 ≤ B .speed
   pub speed-small : B .speed ≤ maxSpeed
 
