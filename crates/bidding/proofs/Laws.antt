@@ -12,7 +12,7 @@ use Rattle.chain.specs.Job.{Job, Valid, tasks, last, ideal}
 use Rattle.chain.specs.Probe.{fits, nextBid}
 use Rattle.chain.specs.Bidding.{bidding}
 use Rattle.chain.specs.Plan.{BiddingEnds}
-use Rattle.chain.proofs.Parts.{valid-proper}
+use Rattle.chain.proofs.Parts.{valid-plannable}
 use Rattle.chain.proofs.Indices.{first-of}
 use Rattle.chain.proofs.Bidding.{failures-below}
 use Rattle.chain.proofs.Ranges.{small-lendable, ideal-lendable, next-bid-small}
@@ -32,14 +32,14 @@ bidden-start {job} v e =
 -- One more failure is below (P − 1) · N.
 pub bidden-room : {job : Job} {bound : Bound} {count : ℕ} → Valid job → Bidden job bound count → T (not (fits job bound)) → count < last job * tasks job
 bidden-room {job} {bound} {count} v b t =
-    failures-below (valid-proper v) count
+    failures-below (valid-plannable v) count
     (below-next {Q = λ j. T (not (fits job (bidding job j)))} (b .failed) (subst (λ (B : Bound). T (not (fits job B))) (b .is) t))
 
 -- The count of failures is at most (P − 1) · N, so that one more fits 32 bits.
 pub bidden-fits : {job : Job} {bound : Bound} (count : ℕ) → Valid job → Bidden job bound count → count + 1 < 2 ^ 32
 bidden-fits {job} zero v b = lit< tt
 bidden-fits {job} (suc k) v b =
-    omega (arith, failures-below (valid-proper v) k (b .failed), count-fits v)
+    omega (arith, failures-below (valid-plannable v) k (b .failed), count-fits v)
 
 pub bidden-next : {job : Job} {bound : Bound} {count : ℕ} (new : Bound) → Valid job → Bidden job bound count → T (not (fits job bound)) → new ≡ nextBid job bound
     → Bidden job new (count + 1)

@@ -12,12 +12,12 @@ use lib.ListN.{length, getD, drop}
 use Rattle.bound.specs.declared.Bound.{Bound}
 use Rattle.bound.specs.Order.{infinite, _≼_, _≺_, le, lesser, Real}
 use Rattle.bound.proofs.Order.{false-lt, lt-le, speed-real}
-use Rattle.chain.specs.Job.{Job, Valid, tasks, processors, last, partBound}
+use Rattle.chain.specs.Job.{Job, Valid, tasks, processors, last, offer}
 use Rattle.chain.specs.Probe.{separator, walk, fits, bid, nextBid}
-use Rattle.chain.proofs.Parts.{valid-proper}
+use Rattle.chain.proofs.Parts.{valid-proper, valid-plannable}
 use Rattle.chain.proofs.Bottleneck.{processors-last}
 use Rattle.chain.proofs.Walk.{separator-to, separator-grows, walk-at}
-use Rattle.chain.proofs.NextBid.{bid-before, next-above, next-real, separator-stays, least-stays}
+use Rattle.chain.proofs.NextBid.{bid-before, next-above, separator-stays, least-stays}
 use Rattle.chain.specs.Ranges.{Lendable, Narrow}
 use Rattle.chain.proofs.Ranges.{next-bid-small, narrow-products, small-narrow, lesser-narrow, infinite-narrow}
 use Rattle.probe.specs.Walk.{leastBefore, Reached}
@@ -81,7 +81,7 @@ module _ {job : Job} (v : Valid job) {C : Bound} {xs : List ℕ} (f : FailedWalk
     end-inside h e = omega (arith, end-is h e, separator-to job (f .bound) (suc p))
 
     -- and one processor more whose bid is above.
-    pub parted-turn : {b : ℕ} {D E : Bound} → p < last job → b ≡ getD xs (p + 1) 0 → D ≡ partBound job p a (suc b) → Narrow D → le D C ≡ false → E ≡ lesser least D
+    pub parted-turn : {b : ℕ} {D E : Bound} → p < last job → b ≡ getD xs (p + 1) 0 → D ≡ offer job p a (suc b) → Narrow D → le D C ≡ false → E ≡ lesser least D
         → Parted job (f .bound) C (p + 1) b E
     parted-turn {b} {D} {E} h e d n t g =
         subst (λ (i : ℕ). Parted job (f .bound) C i b E) (sym (add-one p))
@@ -94,8 +94,8 @@ module _ {job : Job} (v : Valid job) {C : Bound} {xs : List ℕ} (f : FailedWalk
           above = λ q l. elim (decLe (suc q) p) [ yes m ↦ w .above q m | no m ↦ last-above q (omega arith) ];
         })
       where
-        is-part : D ≡ partBound job p (separator job (f .bound) p) (suc (separator job (f .bound) (suc p)))
-        is-part = d ∙ ap₂ (λ (i j : ℕ). partBound job p i (suc j)) (w .start-is) (end-is h e)
+        is-part : D ≡ offer job p (separator job (f .bound) p) (suc (separator job (f .bound) (suc p)))
+        is-part = d ∙ ap₂ (λ (i j : ℕ). offer job p i (suc j)) (w .start-is) (end-is h e)
 
         last-above : (q : ℕ) → p ≡ q → C ≺ bid job (f .bound) q
         last-above q x =
@@ -106,19 +106,16 @@ module _ {job : Job} (v : Valid job) {C : Bound} {xs : List ℕ} (f : FailedWalk
     real : Real (f .bound)
     real = speed-real (f .lendable .speed-positive)
 
-    next : Real C
-    next = subst Real (sym (f .rejected .bids)) (next-real (valid-proper v) (f .bound))
-
     less : f .bound ≼ C
-    less = subst (λ (F : Bound). f .bound ≼ F) (sym (f .rejected .bids)) (lt-le (next-above (valid-proper v) (f .bound) (f .rejected .failed)))
+    less = subst (λ (F : Bound). f .bound ≼ F) (sym (f .rejected .bids)) (lt-le (next-above (valid-plannable v) (f .bound) (f .rejected .failed)))
 
     stays : (q : ℕ) → q ≤ p → separator job C q ≡ separator job (f .bound) q
-    stays = separator-stays (valid-proper v) real next less p (w .to) (w .above)
+    stays = separator-stays job real less p (w .to) (w .above)
 
     least-before : (q : ℕ) → q ≤ p → leastBefore job C q ≡ leastBefore job (f .bound) q
     unfolding leastBefore
     least-before zero h = refl
-    least-before (suc q) h = least-stays (valid-proper v) real next less p (w .to) (w .above) q h
+    least-before (suc q) h = least-stays job real less p (w .to) (w .above) q h
 
     pub parted-reached : Reached job C xs (record { processor = p; start = a; least = least })
     parted-reached =

@@ -17,7 +17,7 @@ use Rattle.chain.specs.Probe.{walk, fits, nextBid}
 use Rattle.chain.specs.Heuristic.{heuristic}
 use Rattle.chain.specs.Bisection.{firstEnds, nextEnds, ends, meet}
 use Rattle.chain.specs.Plan.{BisectionEnds, at-once, after, difference}
-use Rattle.chain.proofs.Parts.{valid-proper}
+use Rattle.chain.proofs.Parts.{valid-plannable}
 use Rattle.chain.proofs.Indices.{first-of}
 use Rattle.chain.proofs.Bisection.{bracket-after, low-high, rounds-below}
 use Rattle.chain.proofs.Ranges.{bottleneck-small, next-bid-small}
@@ -101,7 +101,7 @@ module _ {job : Job} (v : Valid job) {low high : Bound} {k : ℕ} (w : Halved jo
   unfolding meet
   meets =
       ap (λ (t : Bool). t && le ((ends job k) .high) ((ends job k) .low))
-      (le-true (low-high (valid-proper v) (bracket-after (valid-proper v) (w .failed) k)))
+      (le-true (low-high (valid-plannable v) (bracket-after (valid-plannable v) (w .failed) k)))
       ∙ ap₂ le (sym (w .high-is)) (sym (w .low-is))
 
   not-met : le high low ≡ false → T (not (meet (ends job k)))
@@ -109,7 +109,7 @@ module _ {job : Job} (v : Valid job) {low high : Bound} {k : ℕ} (w : Halved jo
 
   -- One more round is below digits(D).
   pub halved-room : le high low ≡ false → k < digits (difference job)
-  halved-room e = rounds-below (valid-proper v) (w .failed) k (not-met e)
+  halved-room e = rounds-below (valid-plannable v) (w .failed) k (not-met e)
 
   -- The ends after one more round.
   pub halved-next : (E : Ends) → le high low ≡ false → E ≡ nextEnds job (record { low = low; high = high }) → Halved job (E .low) (E .high) (k + 1)
@@ -137,7 +137,7 @@ module _ {job : Job} (v : Valid job) {low high : Bound} {k : ℕ} (w : Halved jo
 pub rounds-fit : {job : Job} {low high : Bound} (k : ℕ) → Valid job → Halved job low high k → k + 1 < 2 ^ 32
 rounds-fit zero v w = lit< tt
 rounds-fit (suc k) v w =
-    omega (arith, rounds-below (valid-proper v) (w .failed) k (w .apart k (omega arith)), digits-fit v)
+    omega (arith, rounds-below (valid-plannable v) (w .failed) k (w .apart k (omega arith)), digits-fit v)
 
 -- The trial at the ideal fits: bisection ends at once.
 pub ended-at-once : {job : Job} {bound : Bound} → bound ≡ ideal job → T (fits job bound) → BisectionEnds job 1 bound

@@ -14,12 +14,13 @@ use Rattle.bound.specs.Order.{le, lesser}
 use Rattle.bound.proofs.Order.{le-true, greater-cases, greater-first, greater-second}
 use Rattle.chain.specs.Limits.{maxTasks, maxProcessors}
 use Rattle.chain.specs.Lists.{sumTo}
-use Rattle.chain.specs.Job.{Job, Valid, tasks, processors, speedOf, partBound}
+use Rattle.chain.specs.Job.{Job, Valid, tasks, processors, speedOf, offer}
 use Rattle.chain.specs.Dynamic.{candidate, crossingOf, lesserAt, tableValue, crossing, movesTo}
 use Rattle.chain.proofs.Indices.{Smallest, smallest-is}
-use Rattle.chain.proofs.Parts.{valid-proper, part-empty}
+use Rattle.chain.proofs.Parts.{valid-proper}
+use Rattle.chain.proofs.Within.{offer-empty}
 use Rattle.chain.specs.Ranges.{Small}
-use Rattle.chain.proofs.Ranges.{part-small}
+use Rattle.chain.proofs.Ranges.{offer-small}
 use Rattle.chain.proofs.Table.{crossing-le, table-attained, moves-to-crossing}
 use Rattle.parts.proofs.Laws.{speed-read}
 
@@ -44,13 +45,13 @@ module _ {job : Job} (v : Valid job) where
   -- Every value of the table is small.
   pub table-small : (p i : ℕ) → Small (tableValue job p i)
   unfolding tableValue candidate
-  table-small zero i = part-small v 0 0 i
+  table-small zero i = offer-small v 0 0 i
   table-small (suc p) i = go (table-small p) (table-attained (valid-proper v) p i)
     where
       go : ((j : ℕ) → Small (tableValue job p j)) → (j : ℕ) × (j ≤ i) × (tableValue job (suc p) i ≡ candidate job (tableValue job p) (suc p) i j)
           → Small (tableValue job (suc p) i)
       go row (j, l, e) =
-          subst Small (sym e) (greater-cases Small (tableValue job p j) (partBound job (suc p) j i) (row j) (part-small v (suc p) j i))
+          subst Small (sym e) (greater-cases Small (tableValue job p j) (offer job (suc p) j i) (row j) (offer-small v (suc p) j i))
 
   -- The moves of the first p rows, and what one row more can add, fit 32 bits.
   moves-so-far : (p : ℕ) → sumTo (λ q. movesTo job q (tasks job)) p ≤ p * tasks job
@@ -67,7 +68,7 @@ module _ {job : Job} (v : Valid job) where
 module _ (job : Job) (p i : ℕ) where
   -- The test by which the pointer stops at k.
   abbrev pub stops : ℕ → Bool
-  stops k = le (partBound job (suc p) k i) (tableValue job p k)
+  stops k = le (offer job (suc p) k i) (tableValue job p k)
 
   crossing-is : Smallest stops 0 i (crossing job p i)
   unfolding crossing crossingOf
@@ -76,7 +77,7 @@ module _ (job : Job) (p i : ℕ) where
   -- It holds at the crossing,
   crossing-stops : stops (crossing job p i) ≡ true
   crossing-stops =
-      elim (crossing-is .found) [ inl e ↦ subst (λ (k : ℕ). stops k ≡ true) (let z : i ≡ crossing job p i = omega arith in z) (le-true (part-empty job (suc p) i (tableValue job p i))) | inr e ↦ e ]
+      elim (crossing-is .found) [ inl e ↦ subst (λ (k : ℕ). stops k ≡ true) (let z : i ≡ crossing job p i = omega arith in z) (le-true (offer-empty job (suc p) i (tableValue job p i))) | inr e ↦ e ]
 
   -- so a pointer at or before the crossing that stops is there,
   pub crossing-here : (k : ℕ) → k ≤ crossing job p i → stops k ≡ true → k ≡ crossing job p i
@@ -99,19 +100,19 @@ module _ (job : Job) (p i : ℕ) where
   pub value-first : crossing job p i ≡ 0 → tableValue job p 0 ≡ tableValue job (suc p) i
   unfolding tableValue crossing lesserAt candidate
   value-first e =
-      sym (ap (lesserAt (candidate job (tableValue job p) (suc p) i)) e ∙ sym (greater-first (tableValue job p 0) (partBound job (suc p) 0 i) (subst (λ (k : ℕ). stops k ≡ true) e crossing-stops)))
+      sym (ap (lesserAt (candidate job (tableValue job p) (suc p) i)) e ∙ sym (greater-first (tableValue job p 0) (offer job (suc p) 0 i) (subst (λ (k : ℕ). stops k ≡ true) e crossing-stops)))
 
   value-later : (c : ℕ) → crossing job p i ≡ suc c
-      → tableValue job (suc p) i ≡ lesser (tableValue job p (suc c)) (partBound job (suc p) c i)
+      → tableValue job (suc p) i ≡ lesser (tableValue job p (suc c)) (offer job (suc p) c i)
   unfolding tableValue crossing lesserAt candidate
   value-later c e =
       ap (lesserAt (candidate job (tableValue job p) (suc p) i)) e
       ∙ ap₂ lesser
-      (sym (greater-first (tableValue job p (suc c)) (partBound job (suc p) (suc c) i) (subst (λ (k : ℕ). stops k ≡ true) e crossing-stops)))
-      (sym (greater-second (tableValue job p c) (partBound job (suc p) c i) (crossing-is .before c (omega arith) (omega arith))))
+      (sym (greater-first (tableValue job p (suc c)) (offer job (suc p) (suc c) i) (subst (λ (k : ℕ). stops k ≡ true) e crossing-stops)))
+      (sym (greater-second (tableValue job p c) (offer job (suc p) c i) (crossing-is .before c (omega arith) (omega arith))))
 
   pub value-here : (at : ℕ) → at ≡ crossing job p i → (at ≡ 0 → ⊥)
-      → tableValue job (suc p) i ≡ lesser (tableValue job p at) (partBound job (suc p) (at - 1) i)
+      → tableValue job (suc p) i ≡ lesser (tableValue job p at) (offer job (suc p) (at - 1) i)
   value-here at e n =
       let s : suc (at - 1) ≡ at = omega arith in
-      value-later (at - 1) (sym e ∙ sym s) ∙ ap (λ (k : ℕ). lesser (tableValue job p k) (partBound job (suc p) (at - 1) i)) s
+      value-later (at - 1) (sym e ∙ sym s) ∙ ap (λ (k : ℕ). lesser (tableValue job p k) (offer job (suc p) (at - 1) i)) s

@@ -11,7 +11,7 @@ use lib.Seq.{getD-take}
 use Rattle.bound.specs.declared.Bound.{Bound}
 use Rattle.bound.specs.Order.{le}
 use Rattle.chain.specs.Lists.{sumTo}
-use Rattle.chain.specs.Job.{Job, Valid, tasks, processors, last, partBound}
+use Rattle.chain.specs.Job.{Job, Valid, tasks, processors, last, offer}
 use Rattle.chain.specs.Dynamic.{tableValue, crossing, movesTo, moves}
 use Rattle.chain.proofs.Parts.{valid-proper}
 use Rattle.chain.specs.Ranges.{Small}
@@ -31,19 +31,19 @@ moving-start h = record { to = h; carried = omega arith }
 
 -- A pointer that does not stop is before i.
 pub moving-before : {job : Job} {p i from count at counted : ℕ} → Valid job → Moving job p i from count at counted
-    → le (partBound job (suc p) at i) (tableValue job p at) ≡ false → at < i
+    → le (offer job (suc p) at i) (tableValue job p at) ≡ false → at < i
 moving-before {job} {p} {i} {from} {count} {at} v w e =
     omega (arith, crossing-past job p i at (w .to) e, crossing-le (valid-proper v) p i)
 
 -- One move, and one more counted.
 pub moving-turn : {job : Job} {p i from count at counted at′ counted′ : ℕ} → Moving job p i from count at counted
-    → le (partBound job (suc p) at i) (tableValue job p at) ≡ false → at′ ≡ at + 1 → counted′ ≡ counted + 1
+    → le (offer job (suc p) at i) (tableValue job p at) ≡ false → at′ ≡ at + 1 → counted′ ≡ counted + 1
     → Moving job p i from count at′ counted′
 moving-turn {job} {p} {i} {from} {count} {at} {counted} w e f g =
     record { to = omega (arith, crossing-past job p i at (w .to) e); carried = omega (arith, w .carried) }
 
 pub moving-stop : {job : Job} {p i from count at counted : ℕ} → Moving job p i from count at counted
-    → le (partBound job (suc p) at i) (tableValue job p at) ≡ true → Advanced job p i from count at counted
+    → le (offer job (suc p) at i) (tableValue job p at) ≡ true → Advanced job p i from count at counted
 moving-stop {job} {p} {i} {from} {count} {at} w e = record { arrived = crossing-here job p i at (w .to) e; carried = w .carried }
 
 -- A row that is being written from o on, with i entries so far.

@@ -16,7 +16,8 @@ use Rattle.chain.specs.Job.{Job, tasks, processors, speedOf, partWeight, totalW
 use Rattle.chain.specs.Heuristic.{miss, nearest}
 use Rattle.chain.proofs.Parts.{weight-split, weight-empty}
 use Rattle.chain.proofs.Indices.{Smallest, smallest-is, SmallestLeast, smallest-least-is}
-use Rattle.chain.proofs.Ideal.{total-speed-is, sum-grows}
+use Rattle.chain.proofs.Ideal.{total-speed-is}
+use Rattle.chain.proofs.Sums.{sum-grows}
 use Rattle.chain.proofs.Ranges.{total-speed-positive}
 use Rattle.parts.specs.Prefix.{Ready}
 use Rattle.parts.specs.Rising.{LastAtMost}

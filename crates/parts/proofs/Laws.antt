@@ -7,16 +7,16 @@ use native.Mathlib.Omega.{arith}
 use native.Mathlib.Numerals.{add-one}
 use native.Mathlib.Nat.{le-trans, lt-of-le-of-lt}
 use lib.Dec.{lit<}
-use lib.ListN.{length, getD, set, length-append, length-set, take, drop, take-append-drop}
+use lib.ListN.{length, getD, set, length-append, length-set, take, drop}
 use lib.Seq.{getD-set-same, drop-set-lt}
 use Rattle.bound.specs.declared.Bound.{Bound}
 use Rattle.bound.specs.Order.{over}
 use Rattle.chain.specs.Lists.{sum, sumTo, tabulate}
-use Rattle.chain.specs.Job.{Job, Valid, tasks, processors, speedOf, partWeight, partLoad, totalWeight, totalSpeed, partBound}
-use Rattle.chain.proofs.Parts.{sum-append, weight-split}
+use Rattle.chain.specs.Job.{Job, Valid, tasks, processors, speedOf, partOf, partWeight, partLoad, totalWeight, totalSpeed, partBound}
+use Rattle.chain.proofs.Sums.{sum-take, sum-is-sumTo, sum-grows}
+use Rattle.chain.proofs.Parts.{weight-split, weight-le-total, load-weight}
 use Rattle.chain.proofs.Indices.{length-tabulate, at-tabulate}
-use Rattle.chain.proofs.Ideal.{sum-is-sumTo, sum-grows}
-use Rattle.chain.proofs.Ranges.{weight-limit, total-weight-limit, total-speed-limit, total-speed-fits, loads-fit}
+use Rattle.chain.proofs.Ranges.{total-weight-limit, total-speed-limit, total-speed-fits, loads-fit}
 use Rattle.parts.specs.Prefix.{prefixes, loadBetween, Prefix, Ready}
 use Rattle.parts.specs.Rising.{Rising}
 use Rattle.parts.proofs.Front.{Front, front-store, front-end}
@@ -33,9 +33,8 @@ unfolding speedOf
 speed-read job p h = entry-is (job .speeds) p 0 1 h
 
 module _ {job : Job} {xs : List ℕ} (r : Prefix job xs) where
-  -- Prefix sums grow, and their difference is the load of the part between.
-  pub prefix-split : (a b : ℕ) → a ≤ b → b ≤ tasks job → getD xs b 0 ≡ getD xs a 0 + partLoad job a b
-  unfolding partLoad
+  -- Prefix sums grow, and their difference is the weight of the part between, which is its load.
+  pub prefix-split : (a b : ℕ) → a ≤ b → b ≤ tasks job → getD xs b 0 ≡ getD xs a 0 + partWeight job a b
   prefix-split a b h k =
       omega (arith, r .sums a (omega arith), r .sums b k, weight-split job 0 a b (omega arith) h)
 
@@ -47,7 +46,7 @@ module _ {job : Job} {xs : List ℕ} (r : Prefix job xs) where
 
   pub prefix-load : (a b : ℕ) → a ≤ b → b ≤ tasks job → loadBetween xs a b ≡ partLoad job a b
   unfolding loadBetween
-  prefix-load a b h k = omega (arith, prefix-split a b h k)
+  prefix-load a b h k = omega (arith, prefix-split a b h k, load-weight job a b)
 
   -- So the bound read off them is the part's.
   pub speed-bound : {e : ℕ} {B : Bound} (p a b : ℕ) → a ≤ b → b ≤ tasks job → e ≡ speedOf job p → B ≡ over (loadBetween xs a b) e
@@ -68,7 +67,7 @@ prefix-to r h = rising-to h (prefix-rising (r .prefix))
 
 -- A prefix sum by its list.
 weight-front : (job : Job) (i : ℕ) → sum (take i (job .weights)) ≡ partWeight job 0 i
-unfolding partWeight
+unfolding partWeight partOf
 weight-front job i = ap (λ (n : ℕ). sum (take n (job .weights))) (let e : i ≡ i - 0 = omega arith in e)
 
 -- The prefix sums in front of any list are prefix sums.
@@ -83,7 +82,7 @@ prefixes-are job l =
 
 -- A prefix sum fits 32 bits, and so does all weight; all speed fits 64.
 pub prefix-fits : {job : Job} → Valid job → (i : ℕ) → partWeight job 0 i < 2 ^ 32
-prefix-fits v i = omega (arith, weight-limit v 0 i, total-weight-limit v, loads-fit)
+prefix-fits {job} v i = omega (arith, weight-le-total job 0 i, total-weight-limit v, loads-fit)
 
 pub weights-fit : {job : Job} → Valid job → totalWeight job < 2 ^ 32
 weights-fit v = lt-of-le-of-lt (total-weight-limit v) loads-fit
@@ -98,9 +97,6 @@ prefix-next [] zero = refl
 prefix-next [] (suc i) = refl
 prefix-next (x ∷ ws) zero = omega arith
 prefix-next (x ∷ ws) (suc i) = omega (arith, prefix-next ws i)
-
-prefix-below : (ws : List ℕ) (i : ℕ) → sum (take i ws) ≤ sum ws
-prefix-below ws i = omega (arith, sum-append (take i ws) (drop i ws), ap sum (take-append-drop i ws))
 
 -- What the loop keeps: the sum so far, and the list with the sums up to it in front.
 pub record Summed (ws before now : List ℕ) (i total : ℕ) : Type 0 where
@@ -119,7 +115,7 @@ summed-start ws xs h =
         subst (λ (i : ℕ). getD (set xs 0 0) i 0 ≡ sum (take i ws)) (let e : 0 ≡ k = omega arith in e) (getD-set-same xs 0 0 0 h)
 
 pub summed-fits : {ws xs ys : List ℕ} {i total m : ℕ} → sum ws < m → Summed ws xs ys i total → total + getD ws i 0 < m
-summed-fits {ws} {i = i} h w = omega (arith, w .is, prefix-next ws i, prefix-below ws (suc i))
+summed-fits {ws} {i = i} h w = omega (arith, w .is, prefix-next ws i, sum-take (suc i) ws)
 
 pub summed-turn : {ws xs ys : List ℕ} {i total : ℕ} → length ws < length xs → Summed ws xs ys i total → i < length ws
     → Summed ws xs (set ys (i + 1) (total + getD ws i 0)) (i + 1) (total + getD ws i 0)

@@ -56,8 +56,8 @@ module _ {job : Job} (v : Valid job) (B : Bound) where
   pub written-at : (l : List ℕ) (p : ℕ) → p ≤ processors job → getD (walk job B ++ l) p 0 ≡ at (walk job B) p
   written-at l p h = List·getD-append (walk job B) l 0 p (omega (arith, walk-count))
 
-  pub written-partition : (l : List ℕ) → Partition job (take (suc (processors job)) (walk job B ++ l))
-  written-partition l = subst (Partition job) (sym (written-take l)) (walk-partition (valid-proper v) B)
+  pub written-partition : T (fits job B) → (l : List ℕ) → Partition job (take (suc (processors job)) (walk job B ++ l))
+  written-partition f l = subst (Partition job) (sym (written-take l)) (walk-partition (valid-proper v) B f)
 
   -- the others are what was there,
   pub written-drop : (l : List ℕ) → drop (suc (processors job)) (walk job B ++ l) ≡ l

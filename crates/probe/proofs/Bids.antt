@@ -11,41 +11,27 @@ use lib.ListN.{List·getD-eq-default}
 use Rattle.bound.specs.declared.Bound.{Bound}
 use Rattle.bound.specs.Order.{over, le, pick, lesser}
 use Rattle.bound.proofs.Order.{lesser-infinite}
-use Rattle.chain.specs.Job.{Job, Valid, tasks, last, speedOf, partLoad, partBound}
+use Rattle.chain.specs.Job.{Job, Valid, tasks, last, partBound, offer}
 use Rattle.chain.specs.Probe.{separator, bid, leastBidTo, nextBid}
-use Rattle.chain.proofs.Parts.{weight-split}
-use Rattle.chain.proofs.Extremes.{weight-one}
+use Rattle.chain.proofs.Parts.{part-past}
+use Rattle.chain.proofs.Within.{offer-part}
 use Rattle.chain.proofs.NextBid.{bid-before, bid-last}
 use Rattle.chain.specs.Ranges.{Narrow}
-use Rattle.chain.proofs.Ranges.{part-small, small-narrow}
+use Rattle.chain.proofs.Ranges.{part-small, offer-small, small-narrow}
 use Rattle.probe.specs.Walk.{OneMore, leastBefore}
 
 module _ (job : Job) where
-  -- A part gains nothing past the last task.
-  load-past : (a : ℕ) → a ≤ tasks job → partLoad job a (suc (tasks job)) ≡ partLoad job a (tasks job)
-  unfolding partLoad
-  load-past a h =
-      omega (
-        arith,
-        weight-split job a (tasks job) (suc (tasks job)) h (omega arith),
-        weight-one job (tasks job),
-        List·getD-eq-default (job .weights) 0 {n = tasks job} (omega arith),
-      )
-
-  pub part-past : (p a : ℕ) → a ≤ tasks job → partBound job p a (suc (tasks job)) ≡ partBound job p a (tasks job)
-  unfolding partBound
-  part-past p a h = ap (λ (n : ℕ). over n (speedOf job p)) (load-past a h)
-
-  -- So a bid stops at the last task.
-  pub bid-stops : (p : ℕ) {a i r : ℕ} {C : Bound} → a ≤ i → i ≤ tasks job → OneMore i (tasks job) r → C ≡ partBound job p a r → C ≡ partBound job p a (suc i)
-  bid-stops p {a} {i} {r} h k w e =
+  -- A part gains nothing past the last task, so a bid stops there.
+  pub bid-stops : (p a : ℕ) {i r : ℕ} {C : Bound} → i ≤ tasks job → OneMore i (tasks job) r → C ≡ partBound job p a r → C ≡ offer job p a (suc i)
+  bid-stops p a {i} {r} k w e =
       e
       ∙ elim (decLe (suc i) (tasks job)) [
         | yes x ↦ ap (partBound job p a) (w .next x)
         | no x ↦
-            ap (partBound job p a) (let f : r ≡ tasks job = omega (arith, w .from, w .to) in f) ∙ sym (part-past p a (omega arith))
-            ∙ ap (λ (j : ℕ). partBound job p a (suc j)) (let f : tasks job ≡ i = omega arith in f)
+            ap (partBound job p a) (let f : r ≡ tasks job = omega (arith, w .from, w .to) in f)
+            ∙ sym (part-past job p a (suc i) (let f : tasks job ≤ suc i = omega arith in f))
       ]
+      ∙ sym (offer-part job p a (suc i))
 
 -- The bound of a part is narrow.
 pub part-narrow : {job : Job} {C : Bound} (p a b : ℕ) → Valid job → C ≡ partBound job p a b → Narrow C
@@ -59,19 +45,19 @@ module _ {job : Job} (v : Valid job) (B : Bound) where
 
   -- One processor more, before the last,
   pub least-turn : (p : ℕ) → p < last job
-      → lesser (leastBefore job B p) (partBound job p (separator job B p) (suc (separator job B (suc p)))) ≡ leastBefore job B (suc p)
+      → lesser (leastBefore job B p) (offer job p (separator job B p) (suc (separator job B (suc p)))) ≡ leastBefore job B (suc p)
   unfolding leastBefore
   least-turn p h =
       ap (lesser (leastBefore job B p)) (sym (bid-before job B p h))
       ∙ least-next p
       (subst (λ (C : Bound). 1 ≤ C .speed) (sym (bid-before job B p h))
-      (part-small v p (separator job B p) (suc (separator job B (suc p))) .speed-positive))
+      (offer-small v p (separator job B p) (suc (separator job B (suc p))) .speed-positive))
 
   -- and the last.
-  pub least-end : lesser (leastBefore job B (last job)) (partBound job (last job) (separator job B (last job)) (tasks job)) ≡ nextBid job B
+  pub least-end : lesser (leastBefore job B (last job)) (offer job (last job) (separator job B (last job)) (tasks job)) ≡ nextBid job B
   unfolding nextBid
   least-end =
       ap (lesser (leastBefore job B (last job))) (sym (bid-last job B))
       ∙ least-next (last job)
       (subst (λ (C : Bound). 1 ≤ C .speed) (sym (bid-last job B))
-      (part-small v (last job) (separator job B (last job)) (tasks job) .speed-positive))
+      (offer-small v (last job) (separator job B (last job)) (tasks job) .speed-positive))

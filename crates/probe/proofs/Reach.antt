@@ -2,51 +2,40 @@
 -- Assumes nothing.
 use Prim.Native.Nat.{ℕ, suc, _+_, _-_, _*_, _/_, _^_, _≤_, _<_}
 use mathlib.Core.Path.{_≡_, sym, ap, subst, _∙_}
+use mathlib.Core.Bool.{not}
 use mathlib.Core.List.{List}
 use mathlib.Core.Logic.{inl, inr}
 use native.Mathlib.Omega.{arith}
 use native.Mathlib.Decide.{decLe}
 use native.Mathlib.Nat.{le-div-iff-mul-le}
+use lib.Dec.{T}
 use lib.ListN.{getD}
 use Rattle.bound.specs.declared.Bound.{Bound}
 use Rattle.bound.specs.Order.{_≼_, _≺_}
 use Rattle.bound.proofs.Order.{open-le, make-le, le-or-lt, le-trans, not-both}
-use Rattle.chain.specs.Job.{Job, Valid, tasks, processors, speedOf, partLoad, partBound}
+use Rattle.chain.specs.Job.{Job, Valid, tasks, processors, speedOf, partLoad, partBound, within}
 use Rattle.chain.specs.Probe.{reach}
-use Rattle.chain.proofs.Parts.{Proper, valid-proper, part-right, part-real}
-use Rattle.chain.proofs.Walk.{reach-to, reach-within, reach-past}
+use Rattle.chain.proofs.Within.{within-of, within-bound, past-of}
+use Rattle.chain.proofs.Walk.{reach-unique}
 use Rattle.chain.specs.Ranges.{Lendable}
 use Rattle.chain.proofs.Ranges.{part-small, probe-products}
 use Rattle.parts.specs.Prefix.{loadBetween, Ready}
 use Rattle.parts.proofs.Laws.{speed-read, prefix-split, prefix-load, prefix-fits}
 use Rattle.parts.specs.Rising.{LastAtMost}
 
--- An index whose part is within the bound, while the part with one more task is not, is as far as the part reaches.
-pub reach-unique : {job : Job} → Proper job → (p a r : ℕ) (B : Bound) → a ≤ r → r ≤ tasks job → partBound job p a r ≼ B
-    → (r < tasks job → B ≺ partBound job p a (suc r)) → r ≡ reach job p a B
-reach-unique {job} ok p a r B h k w f =
-    elim (decLe (suc (reach job p a B)) r) [
-      | yes x ↦ absurd (not-both (reach-past job p a B (omega arith) r x k) w)
-      | no x ↦ elim (decLe (suc r) (reach job p a B)) [ yes y ↦ absurd (further y) | no y ↦ omega arith ]
-    ]
-  where
-    further : suc r ≤ reach job p a B → ⊥
-    further y =
-        not-both (f (omega (arith, reach-to job p a B (omega arith))))
-        (le-trans (part-real job ok p a (reach job p a B)) (part-right job p a (suc r) (reach job p a B) (omega arith) y) (reach-within job p a B))
-
-module _ (job : Job) (p a b : ℕ) {B : Bound} (s : 1 ≤ B .speed) where
+module _ (job : Job) (p a b : ℕ) (B : Bound) (s : 1 ≤ B .speed) where
   -- A part is within the bound exactly when its load is at most the limit, a whole number.
-  pub limit-within : partLoad job a b ≤ B .load * speedOf job p / B .speed → partBound job p a b ≼ B
+  pub limit-within : partLoad job a b ≤ B .load * speedOf job p / B .speed → T (within job p a b B)
   unfolding partBound
-  limit-within h = make-le (le-div-iff-mul-le s .0 h)
+  limit-within h = within-of job p a b (make-le (le-div-iff-mul-le s .0 h))
 
-  pub within-limit : partBound job p a b ≼ B → partLoad job a b ≤ B .load * speedOf job p / B .speed
+  within-limit : partBound job p a b ≼ B → partLoad job a b ≤ B .load * speedOf job p / B .speed
   unfolding partBound
   within-limit h = le-div-iff-mul-le s .1 (open-le h)
 
-  pub limit-past : B .load * speedOf job p / B .speed < partLoad job a b → B ≺ partBound job p a b
-  limit-past h = elim (le-or-lt (partBound job p a b) B) [ inl x ↦ absurd (let z : ⊥ = omega (arith, within-limit x) in z) | inr x ↦ x ]
+  pub limit-past : B .load * speedOf job p / B .speed < partLoad job a b → T (not (within job p a b B))
+  limit-past h =
+      past-of job p a b (elim (le-or-lt (partBound job p a b) B) [ inl x ↦ absurd (let z : ⊥ = omega (arith, within-limit x) in z) | inr x ↦ x ])
 
 -- The product before the division fits.
 pub limit-fits : {job : Job} {B : Bound} → Valid job → Lendable B → (p : ℕ) → p < processors job → B .load * getD (job .speeds) p 0 < 2 ^ 64
@@ -63,8 +52,8 @@ module _ {job : Job} {xs : List ℕ} (r : Ready job xs) {B : Bound} (l : Lendabl
   -- Where all that remains is at most the limit, the part reaches the last task.
   pub end-all : loadBetween xs a (tasks job) ≤ m → tasks job ≡ reach job p a B
   end-all x =
-      reach-unique (valid-proper (r .valid)) p a (tasks job) B h (omega arith)
-      (limit-within job p a (tasks job) (l .speed-positive)
+      reach-unique job p a (tasks job) B h (omega arith)
+      (limit-within job p a (tasks job) B (l .speed-positive)
       (omega (arith, limit-is, prefix-load (r .prefix) a (tasks job) h (omega arith))))
       (λ y. absurd (let z : ⊥ = omega arith in z))
 
@@ -75,10 +64,11 @@ module _ {job : Job} {xs : List ℕ} (r : Ready job xs) {B : Bound} (l : Lendabl
 
   -- and the last index at most that is the part's end.
   pub end-last : {c b : ℕ} → c ≡ getD xs a 0 + m → LastAtMost xs a (tasks job) c b → b ≡ reach job p a B
+  unfolding loadBetween
   end-last {c} {b} x w =
-      reach-unique (valid-proper (r .valid)) p a b B (w .from) (w .to)
-      (limit-within job p a b (l .speed-positive)
-      (omega (arith, limit-is, w .below, prefix-split (r .prefix) a b (w .from) (w .to))))
+      reach-unique job p a b B (w .from) (w .to)
+      (limit-within job p a b B (l .speed-positive)
+      (omega (arith, limit-is, w .below, prefix-load (r .prefix) a b (w .from) (w .to), w .from, r .prefix .enough)))
       (λ y.
-      limit-past job p a (suc b) (l .speed-positive)
-      (omega (arith, limit-is, w .above y, prefix-split (r .prefix) a (suc b) (omega (arith, w .from)) y)))
+      limit-past job p a (suc b) B (l .speed-positive)
+      (omega (arith, limit-is, w .above y, prefix-load (r .prefix) a (suc b) (omega (arith, w .from)) y)))

@@ -10,13 +10,14 @@ use lib.ListN.{length, set, drop}
 use Rattle.bound.specs.declared.Bound.{Bound}
 use Rattle.bound.specs.Order.{infinite, le, lesser}
 use Rattle.chain.specs.Lists.{tabulate}
-use Rattle.chain.specs.Job.{Job, Valid, tasks, processors, last, partBound, within, at}
+use Rattle.chain.specs.Job.{Job, Valid, tasks, processors, last, offer, at}
 use Rattle.chain.specs.Probe.{reach, separator, walk, fits, probe}
 use Rattle.chain.proofs.Parts.{valid-proper}
 use Rattle.chain.proofs.Bottleneck.{processors-last}
+use Rattle.chain.proofs.Within.{within-is, offer-part}
 use Rattle.chain.proofs.Walk.{reach-from, reach-to, separator-to, walk-at, walk-end}
 use Rattle.chain.specs.Ranges.{Small, Lendable, Narrow}
-use Rattle.chain.proofs.Ranges.{part-small, probe-products, small-narrow, lesser-narrow, infinite-narrow}
+use Rattle.chain.proofs.Ranges.{offer-small, probe-products, small-narrow, lesser-narrow, infinite-narrow}
 use Rattle.parts.proofs.Front.{Front, front-store, front-end}
 use Rattle.probe.specs.declared.Point.{Point}
 use Rattle.chain.specs.declared.Outcome.the-variants.{Fits, Fails}
@@ -25,9 +26,9 @@ use Rattle.probe.proofs.Bids.{least-turn, least-end}
 use Rattle.probe.proofs.Answer.{outcome-fits, outcome-fails, walk-count}
 
 -- The products of the test of the last part fit.
-pub rest-products : {job : Job} {B C : Bound} (p a b : ℕ) → Valid job → Lendable B → C ≡ partBound job p a b
+pub rest-products : {job : Job} {B C : Bound} (p a b : ℕ) → Valid job → Lendable B → C ≡ offer job p a b
     → (C .load * B .speed < 2 ^ 64) × (B .load * C .speed < 2 ^ 64)
-rest-products p a b v l e = probe-products (subst Small (sym e) (part-small v p a b)) l
+rest-products p a b v l e = probe-products (subst Small (sym e) (offer-small v p a b)) l
 
 -- A list is the table of its entries.
 tabulate-at : (l : List ℕ) → tabulate (at l) (length l) ≡ l
@@ -87,7 +88,7 @@ module _ {job : Job} (v : Valid job) {B : Bound} {xs ys : List ℕ} {p a : ℕ} 
   pub end-inside : {b : ℕ} → b ≡ reach job p a B → b ≤ tasks job
   end-inside e = omega (arith, reach-to job p a B (w .inside))
 
-  pub walked-turn : {s b : ℕ} {D C : Bound} → p < last job → s ≡ a → b ≡ reach job p a B → D ≡ partBound job p a (suc b) → C ≡ lesser best D
+  pub walked-turn : {s b : ℕ} {D C : Bound} → p < last job → s ≡ a → b ≡ reach job p a B → D ≡ offer job p a (suc b) → C ≡ lesser best D
       → Walked job B xs (set ys p s) (p + 1) b C
   unfolding separator
   walked-turn {s} {b} {D} {C} h e f d k =
@@ -98,15 +99,15 @@ module _ {job : Job} (v : Valid job) {B : Bound} {xs ys : List ℕ} {p a : ℕ} 
         inside = subst (λ (i : ℕ). i ≤ tasks job) (sym next) (separator-to job B (suc p));
         least =
             g
-            ∙ ap (λ (i : ℕ). lesser best (partBound job p i (suc b))) (w .reached)
-            ∙ ap (λ (i : ℕ). lesser best (partBound job p (separator job B p) (suc i))) next
-            ∙ ap (λ (D : Bound). lesser D (partBound job p (separator job B p) (suc (separator job B (suc p))))) (w .least)
+            ∙ ap (λ (i : ℕ). lesser best (offer job p i (suc b))) (w .reached)
+            ∙ ap (λ (i : ℕ). lesser best (offer job p (separator job B p) (suc i))) next
+            ∙ ap (λ (D : Bound). lesser D (offer job p (separator job B p) (suc (separator job B (suc p))))) (w .least)
             ∙ least-turn v B p h;
-        small = subst Narrow (sym g) (lesser-narrow (w .small) (small-narrow (part-small v p a (suc b))));
+        small = subst Narrow (sym g) (lesser-narrow (w .small) (small-narrow (offer-small v p a (suc b))));
         front = store e;
       })
     where
-      g : C ≡ lesser best (partBound job p a (suc b))
+      g : C ≡ lesser best (offer job p a (suc b))
       g = k ∙ ap (lesser best) d
 
       next : b ≡ separator job B (suc p)
@@ -126,20 +127,22 @@ module _ {job : Job} (v : Valid job) {B : Bound} {xs ys : List ℕ} {p a : ℕ} 
         (ap (tabulate (at (walk job B))) (sym (walk-count v B)) ∙ tabulate-at (walk job B))
 
     -- The last part decides,
-    rest-is : {C : Bound} → C ≡ partBound job p a (tasks job) → C ≡ partBound job (last job) (separator job B (last job)) (tasks job)
+    rest-is : {C : Bound} → C ≡ offer job p a (tasks job) → C ≡ offer job (last job) (separator job B (last job)) (tasks job)
     rest-is e =
-        e ∙ ap (λ (i : ℕ). partBound job p i (tasks job)) (w .reached)
-        ∙ ap (λ (q : ℕ). partBound job q (separator job B q) (tasks job)) at-last
+        e ∙ ap (λ (i : ℕ). offer job p i (tasks job)) (w .reached)
+        ∙ ap (λ (q : ℕ). offer job q (separator job B q) (tasks job)) at-last
 
-    fits-is : {C : Bound} → C ≡ partBound job p a (tasks job) → le C B ≡ fits job B
-    unfolding fits within
-    fits-is e = ap (λ (D : Bound). le D B) (rest-is e)
+    fits-is : {C : Bound} → C ≡ offer job p a (tasks job) → le C B ≡ fits job B
+    unfolding fits
+    fits-is e =
+        ap (λ (D : Bound). le D B) (rest-is e ∙ offer-part job (last job) (separator job B (last job)) (tasks job))
+        ∙ sym (within-is job (last job) (separator job B (last job)) (tasks job) B)
 
-    pub answer-fits : {C : Bound} → C ≡ partBound job p a (tasks job) → le C B ≡ true → Fits ≡ probe job B
+    pub answer-fits : {C : Bound} → C ≡ offer job p a (tasks job) → le C B ≡ true → Fits ≡ probe job B
     answer-fits e t = sym (outcome-fits job B (sym (fits-is e) ∙ t))
 
     -- and is the last bid.
-    pub answer-fails : {C D : Bound} → C ≡ partBound job p a (tasks job) → le C B ≡ false → D ≡ lesser best C → Fails D ≡ probe job B
+    pub answer-fails : {C D : Bound} → C ≡ offer job p a (tasks job) → le C B ≡ false → D ≡ lesser best C → Fails D ≡ probe job B
     answer-fails {C} {D} e t f =
         ap Fails
         (f ∙ ap (λ (E : Bound). lesser E C) (w .least ∙ ap (leastBefore job B) at-last) ∙ ap (lesser (leastBefore job B (last job))) (rest-is e)

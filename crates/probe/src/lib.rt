@@ -5,7 +5,7 @@ ghost use mathlib.Core.Path.{_≡_};
 ghost use mathlib.Core.List.{_++_};
 ghost use lib.ListN.{length, getD, drop};
 ghost use Rattle.chain.specs.Ranges.{Lendable, Narrow};
-ghost use Rattle.chain.specs.Job.{Job, jobOf, tasks, processors, partBound};
+ghost use Rattle.chain.specs.Job.{Job, jobOf, tasks, processors, offer};
 ghost use Rattle.chain.specs.Probe.{reach, walk, probe};
 ghost use Rattle.parts.specs.Prefix.{Ready};
 ghost use Rattle.parts.specs.Rising.{Rising, LastAtMost};
@@ -100,7 +100,7 @@ pub fn bid_of(
     requires { λ job. ⌜ jobOf (now speeds) (now weights) ≡ job ⌝ }
     requires { λ job. ⌜ Ready job (now sums) ⌝ }
     requires { λ job. ⌜ (p < processors job) × (a ≤ end) × (end ≤ tasks job) ⌝ }
-    ensures { λ job r. ⌜ r ≡ partBound job p a (suc end) ⌝ }
+    ensures { λ job r. ⌜ r ≡ offer job p a (suc end) ⌝ }
     ensures { λ job r. ⌜ Narrow r ⌝ }
 {
     let next = one_more(end, weights.len());
@@ -113,7 +113,7 @@ pub fn rest_of(speeds: &[u32], weights: &[u32], sums: &[u32], p: usize, a: usize
     requires { λ job. ⌜ jobOf (now speeds) (now weights) ≡ job ⌝ }
     requires { λ job. ⌜ Ready job (now sums) ⌝ }
     requires { λ job. ⌜ (p < processors job) × (a ≤ tasks job) ⌝ }
-    ensures { λ job r. ⌜ r ≡ partBound job p a (tasks job) ⌝ }
+    ensures { λ job r. ⌜ r ≡ offer job p a (tasks job) ⌝ }
     ensures { λ job r. ⌜ Narrow r ⌝ }
 {
     part_bound(speeds[p], sums, a, weights.len())

@@ -33,10 +33,12 @@ measure-in-requires : tie.Need-measure-in-requires
 measure-in-requires c κs =
     let s = c .before .before .before .before .before .before .before .before .before .before .before .before in
     let job : Job = jobOf (s .args .speeds .now) (s .args .weights .now) in
-    let M : Bound = c .before .before .before .before .before .before .before .midpoint .result in (
+    let M : Bound = c .before .before .before .before .before .before .before .midpoint .result in
+    let y = c .before .before .before .before .before .probe-in .ensures in
+    let f = fits-outcome job M (sym (y .0) ∙ c .before .enum-told .given .1) in (
       s .pre .0,
-      front-partition (walk job M) (drop (suc (length (s .args .speeds .now))) (s .args .separators .now)) (walk-partition (valid-proper (s .pre .0 .valid)) M)
-          (c .before .before .before .before .before .probe-in .ensures .1),
+      front-partition (walk job M) (drop (suc (length (s .args .speeds .now))) (s .args .separators .now)) (walk-partition (valid-proper (s .pre .0 .valid)) M f)
+          (y .1),
     )
 
 enum-known-answer : tie.Need-enum-known-answer
@@ -51,9 +53,10 @@ returns c =
     let job : Job = jobOf (s .args .speeds .now) (s .args .weights .now) in
     let M : Bound = c .before .before .before .before .before .before .before .before .midpoint .result in
     let l : List ℕ = drop (suc (length (s .args .speeds .now))) (s .args .separators .now) in
-    let y = c .before .before .before .before .before .before .probe-in .ensures in (
-      round-fits job (s .args .low) (s .args .high) (c .before .before .before .before .before .before .before .before .midpoint .ensures) (fits-outcome job M (sym (y .0) ∙ c .before .before .enum-told .given .1))
-          (front-bottleneck (walk job M) l (walk-partition (valid-proper (s .pre .0 .valid)) M) (y .1) (c .measure-in .ensures .1)),
+    let y = c .before .before .before .before .before .before .probe-in .ensures in
+    let f = fits-outcome job M (sym (y .0) ∙ c .before .before .enum-told .given .1) in (
+      round-fits job (s .args .low) (s .args .high) (c .before .before .before .before .before .before .before .before .midpoint .ensures) f
+          (front-bottleneck (walk job M) l (walk-partition (valid-proper (s .pre .0 .valid)) M f) (y .1) (c .measure-in .ensures .1)),
       kept-written (walk job M) _ (kept-start (suc (length (s .args .speeds .now))) (s .args .separators .now)) (s .pre .1 .0)
           (walk-count (s .pre .0 .valid) M) (y .1),
     )

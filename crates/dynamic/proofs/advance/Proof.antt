@@ -2,14 +2,15 @@
 -- Assumes nothing.
 use borrow.Author.Needs.{needs}
 use Prim.Native.Nat.{ℕ, suc, _-_, _≤_, _<_}
-use mathlib.Core.Path.{_≡_, _∙_}
+use mathlib.Core.Path.{_≡_, sym, _∙_}
 use mathlib.Core.Bool.{false}
 use native.Mathlib.Omega.{arith}
-use Rattle.chain.specs.Job.{Job, jobOf, partBound}
+use Rattle.chain.specs.Job.{Job, jobOf, offer}
 use Rattle.chain.specs.Dynamic.{tableValue}
 use Rattle.chain.proofs.Parts.{valid-proper}
-use Rattle.chain.proofs.Ranges.{part-small, small-products}
+use Rattle.chain.proofs.Ranges.{offer-small, small-products}
 use Rattle.chain.proofs.Table.{crossing-le}
+use Rattle.chain.proofs.Within.{offer-part}
 use Rattle.parts.proofs.Laws.{prefix-to, speed-bound}
 use Rattle.dynamic.proofs.Crossing.{table-small, stops, tested, small-same}
 use Rattle.dynamic.proofs.Laws.{Moving, moving-start, moving-before, moving-turn, moving-stop}
@@ -50,10 +51,11 @@ module _ (c : tie.After-entry Inv-loop μ-loop) where
   abbrev at : ℕ
   at = c .before .before .loop .at
 
-  part-is : c .before .part-bound .result ≡ partBound job (suc (start .args .p)) at (start .args .i)
+  part-is : c .before .part-bound .result ≡ offer job (suc (start .args .p)) at (start .args .i)
   part-is =
       speed-bound (start .pre .0 .ready .prefix) (suc (start .args .p)) at (start .args .i) (at-le (c .before .before)) (start .pre .1 .1 .0) (start .pre .1 .0)
       (c .before .part-bound .ensures)
+      ∙ sym (offer-part job (suc (start .args .p)) at (start .args .i))
 
   value-is : c .entry .result ≡ tableValue job (start .args .p) at
   value-is = c .entry .ensures ∙ start .pre .0 .row .entries at (omega (arith, at-le (c .before .before)))
@@ -62,7 +64,7 @@ at-most-requires : tie.Need-at-most-requires Inv-loop μ-loop
 at-most-requires c κs =
     let s = start c in
     let v = s .pre .0 .ready .valid in
-    let h = small-products (small-same (part-is c) (part-small v (suc (s .args .p)) (at c) (s .args .i))) (small-same (value-is c) (table-small v (s .args .p) (at c))) in
+    let h = small-products (small-same (part-is c) (offer-small v (suc (s .args .p)) (at c) (s .args .i))) (small-same (value-is c) (table-small v (s .args .p) (at c))) in
     search needs
 
 returns : tie.Need-returns Inv-loop μ-loop

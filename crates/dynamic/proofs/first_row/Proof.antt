@@ -1,16 +1,17 @@
 -- `first_row` meets its contract: the loop keeps `Writing`.
 -- Assumes nothing.
 use Prim.Native.Nat.{ℕ, suc, _-_, _*_, _≤_}
-use mathlib.Core.Path.{_≡_, refl}
+use mathlib.Core.Path.{_≡_, refl, sym, _∙_}
 use mathlib.Core.List.{List}
 use native.Mathlib.Omega.{arith}
 use lib.ListN.{length, getD}
 use Rattle.bound.specs.declared.Bound.{Bound}
 use Rattle.bound.specs.Order.{over}
-use Rattle.chain.specs.Job.{jobOf, partBound}
+use Rattle.chain.specs.Job.{jobOf, offer}
 use Rattle.chain.specs.Dynamic.{tableValue}
-use Rattle.chain.proofs.Ranges.{part-small, small-fits}
+use Rattle.chain.proofs.Ranges.{offer-small, small-fits}
 use Rattle.parts.specs.Prefix.{loadBetween}
+use Rattle.chain.proofs.Within.{offer-part}
 use Rattle.parts.proofs.Laws.{prefix-to, prefix-bound}
 use Rattle.dynamic.specs.Rows.{Kept}
 use Rattle.dynamic.proofs.Crossing.{small-same}
@@ -36,9 +37,10 @@ shared-slice-read-speed c = omega (arith, c .before .before .before .before .pre
 -- The part that is entered: the row so far leaves the prefix sums as they were.
 first-part : (s : tie.Start Inv-loop μ-loop) {xs : List ℕ} {i : ℕ} {B : Bound} → Kept (s .args .row) (2 * suc (length (s .args .weights .now))) (s .args .scratch .now) xs
     → i ≤ length (s .args .weights .now) → B ≡ over (loadBetween xs 0 i) (getD (s .args .speeds .now) 0 0)
-    → B ≡ partBound (jobOf (s .args .speeds .now) (s .args .weights .now)) 0 0 i
+    → B ≡ offer (jobOf (s .args .speeds .now) (s .args .weights .now)) 0 0 i
 first-part s {xs} {i} k h e =
     prefix-bound (kept-ready k (s .pre .1 .0) (s .pre .0) .prefix) 0 0 i (s .pre .0 .valid .some-processor) (omega arith) h refl e
+    ∙ sym (offer-part (jobOf (s .args .speeds .now) (s .args .weights .now)) 0 0 i)
 
 part-bound-requires : tie.Need-part-bound-requires Inv-loop μ-loop
 part-bound-requires c κs =
@@ -49,7 +51,7 @@ put-requires : tie.Need-put-requires Inv-loop μ-loop
 put-requires c κs =
     let s = c .before .before .before .before .before .before .before .before .before in
     let i = c .before .before .before .before .loop .i in
-    (omega (arith, c .before .before .before .before .loop .inv .kept .same), small-fits (small-same (first-part s (c .before .before .before .before .loop .inv .kept) (omega arith) (c .before .part-bound .ensures)) (part-small (s .pre .0 .valid) 0 0 i)))
+    (omega (arith, c .before .before .before .before .loop .inv .kept .same), small-fits (small-same (first-part s (c .before .before .before .before .loop .inv .kept) (omega arith) (c .before .part-bound .ensures)) (offer-small (s .pre .0 .valid) 0 0 i)))
 
 add-i : tie.Need-add-i Inv-loop μ-loop
 add-i c = omega arith

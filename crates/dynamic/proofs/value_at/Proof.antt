@@ -4,11 +4,12 @@ use Prim.Native.Nat.{suc, _-_, _≤_}
 use mathlib.Core.Path.{_≡_, sym, ap, ap₂, _∙_}
 use native.Mathlib.Omega.{arith}
 use Rattle.bound.specs.Order.{lesser}
-use Rattle.chain.specs.Job.{Job, jobOf, partBound}
+use Rattle.chain.specs.Job.{Job, jobOf, offer}
 use Rattle.chain.specs.Dynamic.{tableValue}
-use Rattle.chain.proofs.Ranges.{part-small, small-products}
+use Rattle.chain.proofs.Ranges.{offer-small, small-products}
 use Rattle.chain.proofs.Parts.{valid-proper}
 use Rattle.chain.proofs.Table.{crossing-le}
+use Rattle.chain.proofs.Within.{offer-part}
 use Rattle.parts.proofs.Laws.{prefix-to, speed-bound}
 use Rattle.dynamic.proofs.Crossing.{table-small, small-same, value-first, value-here}
 use borrow.Author.Needs.{needs}
@@ -53,17 +54,18 @@ module _ (c : tie.After-part-bound) where
   abbrev job : Job
   job = jobOf (start .args .speeds .now) (start .args .weights .now)
 
-  part-is : c .part-bound .result ≡ partBound job (suc (start .args .p)) (start .args .at - 1) (start .args .i)
+  part-is : c .part-bound .result ≡ offer job (suc (start .args .p)) (start .args .at - 1) (start .args .i)
   part-is =
       speed-bound (start .pre .0 .ready .prefix) (suc (start .args .p)) (start .args .at - 1) (start .args .i) (omega (arith, at-le start)) (start .pre .1 .1 .0)
       (start .pre .1 .0) (c .part-bound .ensures)
+      ∙ sym (offer-part job (suc (start .args .p)) (start .args .at - 1) (start .args .i))
 
 lesser-requires : tie.Need-lesser-requires
 lesser-requires c κs =
     let s = start c in
     let v = s .pre .0 .ready .valid in
     small-products (small-same (here-is (c .before .before)) (table-small v (s .args .p) (s .args .at)))
-    (small-same (part-is c) (part-small v (suc (s .args .p)) (s .args .at - 1) (s .args .i)))
+    (small-same (part-is c) (offer-small v (suc (s .args .p)) (s .args .at - 1) (s .args .i)))
 
 returns-2 : tie.Need-returns-2
 returns-2 c =

@@ -30,9 +30,9 @@ returns c =
     let job : Job = jobOf (s .args .speeds .now) (s .args .weights .now) in
     let m = c .before .before .one-more in
     let e : c .part-bound .result ≡ partBound job (s .args .p) (s .args .a) (m .result) =
-        prefix-bound (s .pre .0 .prefix) (s .args .p) (s .args .a) (m .result) (s .pre .1 .0) (omega (arith, m .ensures .from, s .pre .1 .1)) (m .ensures .to)
-        refl (c .part-bound .ensures) in
-    (bid-stops job (s .args .p) (s .pre .1 .1) (s .pre .1 .2) (m .ensures) e, part-narrow _ _ _ (s .pre .0 .valid) e)
+    prefix-bound (s .pre .0 .prefix) (s .args .p) (s .args .a) (m .result) (s .pre .1 .0) (omega (arith, m .ensures .from, s .pre .1 .1)) (m .ensures .to)
+    refl (c .part-bound .ensures) in
+    (bid-stops job (s .args .p) (s .args .a) (s .pre .1 .2) (m .ensures) e, part-narrow _ _ _ (s .pre .0 .valid) e)
 
 pub bid-of-spec : {M : Type 1} → statement M
 bid-of-spec =

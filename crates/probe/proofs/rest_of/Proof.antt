@@ -1,8 +1,9 @@
 -- `rest_of` meets its contract.
 -- Assumes nothing.
-use mathlib.Core.Path.{_≡_, refl}
+use mathlib.Core.Path.{_≡_, refl, sym, _∙_}
 use native.Mathlib.Omega.{arith}
 use Rattle.chain.specs.Job.{Job, jobOf, tasks, partBound}
+use Rattle.chain.proofs.Within.{offer-part}
 use Rattle.parts.proofs.Laws.{prefix-to, prefix-bound}
 use Rattle.probe.proofs.Bids.{part-narrow}
 use borrow.Author.Needs.{needs}
@@ -25,8 +26,8 @@ returns c =
     let s = c .before .before .before .before .before in
     let job : Job = jobOf (s .args .speeds .now) (s .args .weights .now) in
     let e : c .part-bound .result ≡ partBound job (s .args .p) (s .args .a) (tasks job) =
-        prefix-bound (s .pre .0 .prefix) (s .args .p) (s .args .a) (tasks job) (s .pre .1 .0) (s .pre .1 .1) (omega arith) refl (c .part-bound .ensures) in
-    (e, part-narrow _ _ _ (s .pre .0 .valid) e)
+    prefix-bound (s .pre .0 .prefix) (s .args .p) (s .args .a) (tasks job) (s .pre .1 .0) (s .pre .1 .1) (omega arith) refl (c .part-bound .ensures) in
+    (e ∙ sym (offer-part job (s .args .p) (s .args .a) (tasks job)), part-narrow _ _ _ (s .pre .0 .valid) e)
 
 pub rest-of-spec : {M : Type 1} → statement M
 rest-of-spec =
