@@ -2,8 +2,8 @@
 -- so it ends at the least bound that fits, after at most digits(D) rounds.
 -- Assumes nothing.
 use Prim.Native.Nat.{ℕ, zero, suc, _-_, _*_, _^_, _≤_, _<_}
-use mathlib.Core.Path.{_≡_, refl, sym, subst}
-use mathlib.Core.Bool.{Bool, true, false, not, _&&_}
+use mathlib.Core.Path.{_≡_, refl, subst}
+use mathlib.Core.Bool.{Bool, true, false, not}
 use mathlib.Core.List.{List}
 use native.Mathlib.Omega.{arith}
 use native.Mathlib.Nat.{mul-le-mul, mul-le-mul-right, mul-le-mul-left, le-of-mul-le-mul-right, one-le-mul, le-div-iff-mul-le}
@@ -20,6 +20,7 @@ use Rattle.chain.specs.declared.Ends.{Ends}
 use Rattle.chain.specs.Bisection.{firstEnds, nextEnds, ends, meet}
 use Rattle.chain.specs.Plan.{breadth, difference, allowance}
 use Rattle.chain.specs.declared.Method.the-variants.{Bisection}
+use Rattle.chain.proofs.Tests.{T-of, T-not-of, and-right, and-fails}
 use Rattle.chain.proofs.Parts.{Proper, Plannable}
 use Rattle.chain.proofs.Within.{offer-limited}
 use Rattle.chain.proofs.Indices.{first-fails, first-exists}
@@ -150,7 +151,7 @@ module _ {job : Job} (can : Plannable job) where
           (elim t
           [ true ↦ record { low = E .low; high = bottleneck job (walk job M) } | false ↦ record { low = nextBid job M; high = E .high } ])
       go true e =
-          let f : T (fits job M) = subst T (sym e) tt in
+          let f : T (fits job M) = T-of e in
           record {
             low-speed = b .low-speed;
             high-speed = bottleneck-speed (can .proper) (walk job M);
@@ -161,7 +162,7 @@ module _ {job : Job} (can : Plannable job) where
                 (bottleneck-le (can .proper) (walk-within job M f)) (b .gap);
           }
       go false e =
-          let f : T (not (fits job M)) = subst (λ (x : Bool). T (not x)) (sym e) tt in
+          let f : T (not (fits job M)) = T-not-of e in
           record {
             low-speed = next-speed M f;
             high-speed = b .high-speed;
@@ -182,19 +183,11 @@ module _ {job : Job} (can : Plannable job) where
   -- Ends that do not meet are apart.
   pub apart : {n : ℕ} {E : Ends} → Bracket job n E → T (not (meet E)) → E .low ≺ E .high
   unfolding meet
-  apart {n} {E} b t = record { fails = second (le (E .low) (E .high)) (le (E .high) (E .low)) ((low-high b) .holds) t }
-    where
-      second : (x y : Bool) → T x → T (not (x && y)) → T (not y)
-      second true y u v = v
-      second false y u v = absurd u
+  apart {n} {E} b t = record { fails = and-fails (le (E .low) (E .high)) (le (E .high) (E .low)) (low-high b .holds) t }
 
   pub met : {E : Ends} → T (meet E) → E .high ≼ E .low
   unfolding meet
-  met {E} t = record { holds = second (le (E .low) (E .high)) (le (E .high) (E .low)) t }
-    where
-      second : (x y : Bool) → T (x && y) → T y
-      second true y u = u
-      second false y u = absurd u
+  met {E} t = record { holds = and-right (le (E .low) (E .high)) (le (E .high) (E .low)) t }
 
   -- Round k + 1 is made only where 2ᵏ is at most D, so k is below digits(D).
   pub rounds-below : T (not (fits job (ideal job))) → (k : ℕ) → T (not (meet (ends job k))) → k < digits (difference job)

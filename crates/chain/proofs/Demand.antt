@@ -17,6 +17,7 @@ use Rattle.chain.specs.Bisection.{ends, meet}
 use Rattle.chain.specs.declared.Method.{Method}
 use Rattle.chain.specs.declared.Method.the-variants.{Table, Bidding, Bisection}
 use Rattle.chain.specs.Plan.{leastBottleneck, planOf, Best, BisectionEnds, at-once, after, MethodEnds, allowance, imbalance, Plan, PlanBy}
+use Rattle.chain.proofs.Tests.{T-of, T-not-of}
 use Rattle.chain.proofs.Parts.{Proper, Plannable}
 use Rattle.chain.proofs.Indices.{first-holds, first-unique}
 use Rattle.chain.proofs.Bottleneck.{bottleneck-finite, bottleneck-real, bottleneck-le}
@@ -104,9 +105,9 @@ module _ {job : Job} (can : Plannable job) where
   method-ends Bisection = go (fits job (ideal job)) refl
     where
       go : (t : Bool) → fits job (ideal job) ≡ t → (n : ℕ) × (B : Bound) × MethodEnds Bisection job n B
-      go true e = (1, ideal job, at-once (subst T (sym e) tt) refl refl)
+      go true e = (1, ideal job, at-once (T-of e) refl refl)
       go false e =
-          let t : T (not (fits job (ideal job))) = subst (λ (x : Bool). T (not x)) (sym e) tt in
+          let t : T (not (fits job (ideal job))) = T-not-of e in
           let r = bisection-ends can t in
           (suc (r .0), ends job (r .0) .low, after (r .0) t (r .2) refl refl)
 

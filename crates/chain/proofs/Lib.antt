@@ -18,5 +18,6 @@ pub mod Ranges
 pub mod Refusals
 pub mod Sums
 pub mod Table
+pub mod Tests
 pub mod Walk
 pub mod Within

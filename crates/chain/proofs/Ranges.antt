@@ -25,7 +25,7 @@ use Rattle.chain.proofs.Extremes.{default-le, greatest-cases}
 use Rattle.chain.proofs.Ideal as ideals
 use Rattle.chain.proofs.Bottleneck.{bottleneck-cases}
 use Rattle.chain.proofs.NextBid.{bid-cases, next-cases}
-use Rattle.chain.proofs.Refusals.{and-left, and-right, and-both}
+use Rattle.chain.proofs.Tests.{and-left, and-right, and-both}
 
 -- The limits: what their numbers come to. Loads fit 32 bits,
 pub loads-fit : maxLoad < 2 ^ 32
