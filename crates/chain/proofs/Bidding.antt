@@ -13,6 +13,8 @@ use Rattle.chain.specs.Lists.{sumTo, isFirst}
 use Rattle.chain.specs.Job.{Job, tasks, last, within, offer, ideal}
 use Rattle.chain.specs.Probe.{separator, fits, bid, nextBid}
 use Rattle.chain.specs.Bidding.{bidding}
+use Rattle.chain.specs.Plan.{allowance}
+use Rattle.chain.specs.declared.Method.the-variants.{Bidding}
 use Rattle.chain.proofs.Sums.{sum-mono-at, sum-below}
 use Rattle.chain.proofs.Parts.{Plannable}
 use Rattle.chain.proofs.Within.{within-of, within-shrink, offer-within}
@@ -129,12 +131,22 @@ module _ {job : Job} (can : Plannable job) where
       go zero e = absurd (T-not (fits job (ideal job)) (h 0 (omega arith)) (single-fits e))
       go (suc q) e = omega (arith, advance-counts k h, room)
 
-  -- Bidding ends, within (P − 1) · N failures.
-  pub bidding-ends : (k : ℕ) × (k ≤ last job * tasks job) × T (isFirst (λ j. fits job (bidding job j)) k)
-  bidding-ends =
-      first-exists (λ j. fits job (bidding job j)) (last job * tasks job)
-      (λ h. let x : last job * tasks job < last job * tasks job = failures-below (last job * tasks job) (λ j l. h j (omega arith)) in omega arith)
+  -- So the allowance has room for one trial more.
+  pub failures-allowed : (k : ℕ) → Failing (suc k) → suc k < allowance Bidding job
+  unfolding allowance
+  failures-allowed k h = omega (arith, failures-below k h)
 
-  pub bidding-allowed : (k : ℕ) → T (isFirst (λ j. fits job (bidding job j)) k) → k ≤ last job * tasks job
+  -- The trials, the one that fits included, are within the allowance.
+  pub bidding-allowed : (k : ℕ) → T (isFirst (λ j. fits job (bidding job j)) k) → suc k ≤ allowance Bidding job
+  unfolding allowance
   bidding-allowed zero t = omega arith
-  bidding-allowed (suc k) t = failures-below k (first-fails (λ j. fits job (bidding job j)) (suc k) t)
+  bidding-allowed (suc k) t = failures-allowed k (first-fails (λ j. fits job (bidding job j)) (suc k) t)
+
+  -- Bidding ends, within its allowance.
+  pub bidding-ends : (k : ℕ) × (suc k ≤ allowance Bidding job) × T (isFirst (λ j. fits job (bidding job j)) k)
+  bidding-ends =
+      let most : ℕ = allowance Bidding job in
+      let e =
+      first-exists (λ j. fits job (bidding job j)) most
+      (λ h. let x : suc most < most = failures-allowed most (λ j l. h j (omega arith)) in omega arith) in
+      (e .0, bidding-allowed (e .0) (e .2), e .2)

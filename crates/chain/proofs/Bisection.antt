@@ -2,29 +2,31 @@
 -- so it ends at the least bound that fits, after at most digits(D) rounds.
 -- Assumes nothing.
 use Prim.Native.Nat.{ℕ, zero, suc, _-_, _*_, _^_, _≤_, _<_}
-use mathlib.Core.Path.{_≡_, refl, sym, subst}
-use mathlib.Core.Bool.{Bool, true, false, not, _&&_}
+use mathlib.Core.Path.{_≡_, refl, subst}
+use mathlib.Core.Bool.{Bool, true, false, not}
 use mathlib.Core.List.{List}
 use native.Mathlib.Omega.{arith}
 use native.Mathlib.Nat.{mul-le-mul, mul-le-mul-right, mul-le-mul-left, le-of-mul-le-mul-right, one-le-mul, le-div-iff-mul-le}
-use lib.Dec.{T, ltb}
+use lib.Dec.{T}
 use Rattle.bound.specs.declared.Bound.{Bound}
-use Rattle.bound.specs.Order.{over, le, _≼_, _≺_, plus, times, middle, pick, Finite}
+use Rattle.bound.specs.Order.{over, le, _≼_, _≺_, plus, times, middle, Finite}
 use Rattle.bound.proofs.Order.{open-le, make-le, open-lt, lt-le, le-trans, speed-real, finite-real}
 use Rattle.bound.proofs.Algebra.{plus-mono}
 use Rattle.chain.specs.Lists.{isFirst, digits}
-use Rattle.chain.specs.Job.{Job, tasks, processors, last, heaviest, fastest, slowest, partBound, offer, boundAt, bottleneck, ideal}
-use Rattle.chain.specs.Probe.{separator, walk, fits, bid, nextBid}
+use Rattle.chain.specs.Job.{Job, fastest, slowest, partBound, boundAt, bottleneck, ideal}
+use Rattle.chain.specs.Probe.{walk, fits, nextBid}
 use Rattle.chain.specs.Heuristic.{heuristic}
 use Rattle.chain.specs.declared.Ends.{Ends}
 use Rattle.chain.specs.Bisection.{firstEnds, nextEnds, ends, meet}
-use Rattle.chain.specs.Plan.{difference}
+use Rattle.chain.specs.Plan.{breadth, difference, allowance}
+use Rattle.chain.specs.declared.Method.the-variants.{Bisection}
+use Rattle.chain.proofs.Tests.{T-of, T-not-of, and-right, and-fails}
 use Rattle.chain.proofs.Parts.{Proper, Plannable}
 use Rattle.chain.proofs.Within.{offer-limited}
 use Rattle.chain.proofs.Indices.{first-fails, first-exists}
 use Rattle.chain.proofs.Bottleneck.{bottleneck-finite, bottleneck-le, bottleneck-cases}
 use Rattle.chain.proofs.Walk.{walk-partition, walk-within, bottleneck-fits, fits-raise}
-use Rattle.chain.proofs.NextBid.{next-cases, next-above, next-finite, next-least}
+use Rattle.chain.proofs.NextBid.{bid-cases, next-cases, next-above, next-finite, next-least}
 use Rattle.chain.proofs.Best.{Least}
 use Rattle.chain.proofs.Extremes.{slowest-positive, speed-fastest}
 use Rattle.chain.proofs.Ideal.{total-speed-positive}
@@ -79,13 +81,17 @@ pub record OfProcessor (job : Job) (B : Bound) : Type 0 where
   pub finite : Finite B
   pub limited : B .speed ≤ fastest job
 
+-- How far the ends are apart at most when bisection begins.
+abbrev pub width : Job → Bound
+width job = over (breadth job) (slowest job)
+
 -- What holds of the ends: they are bounds of parts, low is at most every bound that fits, high fits, and the gap.
 pub record Bracket (job : Job) (n : ℕ) (E : Ends) : Type 0 where
   pub low-speed : OfProcessor job (E .low)
   pub high-speed : OfProcessor job (E .high)
   pub low-below : (C : Bound) → T (fits job C) → E .low ≼ C
   pub high-fits : T (fits job (E .high))
-  pub gap : Gap n (E .low) (E .high) (over (heaviest job) (slowest job))
+  pub gap : Gap n (E .low) (E .high) (width job)
 
 pub bottleneck-speed : {job : Job} → Proper job → (s : List ℕ) → OfProcessor job (bottleneck job s)
 unfolding boundAt partBound
@@ -95,23 +101,29 @@ bottleneck-speed {job} ok s =
       limited = bottleneck-cases ok (λ B. B .speed ≤ fastest job) s (λ p h. speed-fastest job p h);
     }
 
+-- A first trial is within the allowance.
+pub first-allowed : (job : Job) → 1 ≤ allowance Bisection job
+unfolding allowance
+first-allowed job = omega arith
+
 module _ {job : Job} (can : Plannable job) where
   pub next-speed : (B : Bound) → T (not (fits job B)) → OfProcessor job (nextBid job B)
-  unfolding bid
   next-speed B t =
       record {
         finite = next-finite can B t;
-        limited = next-cases job B (λ C. C .speed ≤ fastest job) (λ p h. go p (omega (arith, can .proper .some)) (ltb p (last job)));
+        limited =
+            next-cases job B (λ C. C .speed ≤ fastest job)
+            (λ p h. bid-cases job B (λ C. C .speed ≤ fastest job) p (λ a b. offer-limited job p a b (omega (arith, can .proper .some))));
       }
-    where
-      go : (p : ℕ) → p < processors job → (t : Bool)
-          → pick t (offer job p (separator job B p) (suc (separator job B (suc p)))) (offer job p (separator job B p) (tasks job)) .speed ≤ fastest job
-      go p h true = offer-limited job p _ _ h
-      go p h false = offer-limited job p _ _ h
 
   -- The ends never cross.
   pub low-high : {n : ℕ} {E : Ends} → Bracket job n E → E .low ≼ E .high
   low-high {n} {E} b = b .low-below (E .high) (b .high-fits)
+
+  -- The high end begins within the width of the ideal.
+  pub first-close : firstEnds job .high ≼ plus (ideal job) (width job)
+  unfolding firstEnds
+  first-close = heuristic-bound (can .proper)
 
   pub bracket-start : T (not (fits job (ideal job))) → Bracket job 1 (firstEnds job)
   unfolding firstEnds ideal
@@ -123,7 +135,7 @@ module _ {job : Job} (can : Plannable job) where
         high-fits = bottleneck-fits (can .proper) (heuristic-partition (can .proper));
         gap =
             gap-start (total-speed-positive (can .proper)) (slowest-positive job (can .proper)) (lt-le (next-above can (ideal job) t))
-            (heuristic-bound (can .proper));
+            first-close;
       }
 
   -- A round keeps all that, and halves the gap.
@@ -139,7 +151,7 @@ module _ {job : Job} (can : Plannable job) where
           (elim t
           [ true ↦ record { low = E .low; high = bottleneck job (walk job M) } | false ↦ record { low = nextBid job M; high = E .high } ])
       go true e =
-          let f : T (fits job M) = subst T (sym e) tt in
+          let f : T (fits job M) = T-of e in
           record {
             low-speed = b .low-speed;
             high-speed = bottleneck-speed (can .proper) (walk job M);
@@ -150,7 +162,7 @@ module _ {job : Job} (can : Plannable job) where
                 (bottleneck-le (can .proper) (walk-within job M f)) (b .gap);
           }
       go false e =
-          let f : T (not (fits job M)) = subst (λ (x : Bool). T (not x)) (sym e) tt in
+          let f : T (not (fits job M)) = T-not-of e in
           record {
             low-speed = next-speed M f;
             high-speed = b .high-speed;
@@ -171,19 +183,11 @@ module _ {job : Job} (can : Plannable job) where
   -- Ends that do not meet are apart.
   pub apart : {n : ℕ} {E : Ends} → Bracket job n E → T (not (meet E)) → E .low ≺ E .high
   unfolding meet
-  apart {n} {E} b t = record { fails = second (le (E .low) (E .high)) (le (E .high) (E .low)) ((low-high b) .holds) t }
-    where
-      second : (x y : Bool) → T x → T (not (x && y)) → T (not y)
-      second true y u v = v
-      second false y u v = absurd u
+  apart {n} {E} b t = record { fails = and-fails (le (E .low) (E .high)) (le (E .high) (E .low)) (low-high b .holds) t }
 
   pub met : {E : Ends} → T (meet E) → E .high ≼ E .low
   unfolding meet
-  met {E} t = record { holds = second (le (E .low) (E .high)) (le (E .high) (E .low)) t }
-    where
-      second : (x y : Bool) → T (x && y) → T y
-      second true y u = u
-      second false y u = absurd u
+  met {E} t = record { holds = and-right (le (E .low) (E .high)) (le (E .high) (E .low)) t }
 
   -- Round k + 1 is made only where 2ᵏ is at most D, so k is below digits(D).
   pub rounds-below : T (not (fits job (ideal job))) → (k : ℕ) → T (not (meet (ends job k))) → k < digits (difference job)
@@ -202,9 +206,12 @@ module _ {job : Job} (can : Plannable job) where
       let x : digits (difference job) < digits (difference job) = rounds-below t (digits (difference job)) (h (digits (difference job)) (omega arith)) in
       omega arith)
 
-  pub bisection-allowed : T (not (fits job (ideal job))) → (k : ℕ) → T (isFirst (λ j. meet (ends job j)) k) → k ≤ digits (difference job)
+  -- So the trials, the first included, are within the allowance.
+  pub bisection-allowed : T (not (fits job (ideal job))) → (k : ℕ) → T (isFirst (λ j. meet (ends job j)) k) → suc k ≤ allowance Bisection job
+  unfolding allowance
   bisection-allowed t zero f = omega arith
-  bisection-allowed t (suc k) f = rounds-below t k (first-fails (λ j. meet (ends job j)) (suc k) f k (omega arith))
+  bisection-allowed t (suc k) f =
+      omega (arith, rounds-below t k (first-fails (λ j. meet (ends job j)) (suc k) f k (omega arith)))
 
   -- Where the ends meet, they are at the least bound that fits.
   pub bisection-least : T (not (fits job (ideal job))) → (k : ℕ) → T (meet (ends job k)) → Least job ((ends job k) .low)

@@ -1,7 +1,7 @@
 -- Demand 3 whole, at the level of definitions: every method ends, at the least bottleneck, within its allowance; every plan of
 -- a job has the separators of the one best partition, whichever method made it.
 -- Assumes nothing.
-use Prim.Native.Nat.{ℕ, suc, _+_, _*_, _≤_}
+use Prim.Native.Nat.{ℕ, suc, _≤_}
 use mathlib.Core.Path.{_≡_, refl, sym, ap, subst, _∙_}
 use mathlib.Core.Bool.{Bool, true, false, not}
 use native.Mathlib.Omega.{arith}
@@ -9,7 +9,6 @@ use lib.Dec.{T, T-not}
 use Rattle.bound.specs.declared.Bound.{Bound}
 use Rattle.bound.specs.Order.{_≼_, _≈_, Finite}
 use Rattle.bound.proofs.Order.{finite-below, le-refl, le-trans}
-use Rattle.chain.specs.Lists.{digits}
 use Rattle.chain.specs.Job.{Job, tasks, last, bottleneck, ideal}
 use Rattle.chain.specs.Probe.{walk, fits}
 use Rattle.chain.specs.Dynamic.{tableValue, moves}
@@ -17,7 +16,8 @@ use Rattle.chain.specs.Bidding.{bidding}
 use Rattle.chain.specs.Bisection.{ends, meet}
 use Rattle.chain.specs.declared.Method.{Method}
 use Rattle.chain.specs.declared.Method.the-variants.{Table, Bidding, Bisection}
-use Rattle.chain.specs.Plan.{leastBottleneck, planOf, Best, BisectionEnds, at-once, after, MethodEnds, difference, allowance, imbalance, Plan, PlanBy}
+use Rattle.chain.specs.Plan.{leastBottleneck, planOf, Best, BisectionEnds, at-once, after, MethodEnds, allowance, imbalance, Plan, PlanBy}
+use Rattle.chain.proofs.Tests.{T-of, T-not-of}
 use Rattle.chain.proofs.Parts.{Proper, Plannable}
 use Rattle.chain.proofs.Indices.{first-holds, first-unique}
 use Rattle.chain.proofs.Bottleneck.{bottleneck-finite, bottleneck-real, bottleneck-le}
@@ -26,7 +26,7 @@ use Rattle.chain.proofs.Best.{Least, least-equal, least-alike, least-be
 use Rattle.chain.proofs.Table.{table-real, table-cover, moves-allowed}
 use Rattle.chain.proofs.Ideal.{ideal-finite}
 use Rattle.chain.proofs.Bidding.{ideal-below, bidding-least, bidding-allowed, bidding-ends}
-use Rattle.chain.proofs.Bisection.{bisection-least, bisection-allowed, bisection-ends}
+use Rattle.chain.proofs.Bisection.{first-allowed, bisection-least, bisection-allowed, bisection-ends}
 use Rattle.chain.proofs.Enumeration.{least-is-least, least-attained}
 
 module _ {job : Job} (can : Plannable job) where
@@ -88,13 +88,12 @@ module _ {job : Job} (can : Plannable job) where
 
   -- Every method's count is within its allowance.
   pub method-allowed : (m : Method) (n : ℕ) (B : Bound) → MethodEnds m job n B → n ≤ allowance m job
-  unfolding allowance
-  method-allowed Table n B x = subst (λ (n : ℕ). n ≤ last job * tasks job) (sym (x .counted)) (moves-allowed (can .proper))
+  method-allowed Table n B x = subst (λ (n : ℕ). n ≤ allowance Table job) (sym (x .counted)) (moves-allowed (can .proper))
   method-allowed Bidding n B x = omega (arith, x .counted, bidding-allowed can (x .failures) (x .first-fit))
   method-allowed Bisection n B x = bisection-count x
     where
-      bisection-count : {n : ℕ} {B : Bound} → BisectionEnds job n B → n ≤ 1 + digits (difference job)
-      bisection-count (at-once t c e) = omega arith
+      bisection-count : {n : ℕ} {B : Bound} → BisectionEnds job n B → n ≤ allowance Bisection job
+      bisection-count (at-once t c e) = omega (arith, first-allowed job)
       bisection-count (after k t f c e) = omega (arith, bisection-allowed can t k f)
 
   -- Every method ends.
@@ -106,9 +105,9 @@ module _ {job : Job} (can : Plannable job) where
   method-ends Bisection = go (fits job (ideal job)) refl
     where
       go : (t : Bool) → fits job (ideal job) ≡ t → (n : ℕ) × (B : Bound) × MethodEnds Bisection job n B
-      go true e = (1, ideal job, at-once (subst T (sym e) tt) refl refl)
+      go true e = (1, ideal job, at-once (T-of e) refl refl)
       go false e =
-          let t : T (not (fits job (ideal job))) = subst (λ (x : Bool). T (not x)) (sym e) tt in
+          let t : T (not (fits job (ideal job))) = T-not-of e in
           let r = bisection-ends can t in
           (suc (r .0), ends job (r .0) .low, after (r .0) t (r .2) refl refl)
 

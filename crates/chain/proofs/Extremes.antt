@@ -33,7 +33,7 @@ pick-lesser x y = go (leb x y) refl
     go false e = (omega (arith, leb-false x y e), omega arith)
 
 -- Within a list it does not matter what reads past its end.
-same-default : (xs : List ℕ) (i a b : ℕ) → i < length xs → getD xs i a ≡ getD xs i b
+pub same-default : (xs : List ℕ) (i a b : ℕ) → i < length xs → getD xs i a ≡ getD xs i b
 same-default [] i a b h = absurd (let z : ⊥ = omega arith in z)
 same-default (x ∷ xs) zero a b h = refl
 same-default (x ∷ xs) (suc i) a b h = same-default xs i a b (omega arith)

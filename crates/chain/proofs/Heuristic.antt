@@ -1,4 +1,4 @@
--- The heuristic gives a partition, and its bottleneck is at most the ideal plus heaviest/slowest: the separators grow since the
+-- The heuristic gives a partition, and its bottleneck is at most the ideal plus its margin, heaviest/slowest: the separators grow since the
 -- targets do, and each lies within half the heaviest weight of its target.
 -- Assumes nothing.
 use Prim.Native.Nat.{ℕ, zero, suc, _+_, _*_, _≤_, _<_}
@@ -8,11 +8,11 @@ use native.Mathlib.Omega.{arith}
 use native.Mathlib.Decide.{decLe}
 use native.Mathlib.Nat.{le-trans, mul-le-mul-right, mul-le-mul-left}
 use lib.ListN.{length, length-append}
-use Rattle.bound.specs.Order.{over, _≼_, plus}
+use Rattle.bound.specs.Order.{_≼_, plus}
 use Rattle.bound.proofs.Order.{make-le}
 use Rattle.chain.specs.Lists.{tabulate, sumTo, distance}
 use Rattle.chain.specs.Job.{Job, tasks, processors, last, speedOf, partWeight, partLoad, totalWeight, totalSpeed, heaviest, slowest, partBound, at, Partition, boundAt, bottleneck, ideal, Within}
-use Rattle.chain.specs.Heuristic.{miss, nearest, heuristic}
+use Rattle.chain.specs.Heuristic.{margin, miss, nearest, heuristic}
 use Rattle.chain.proofs.Sums.{sum-grows}
 use Rattle.chain.proofs.Parts.{Proper, weight-split, weight-empty, weight-all, load-le}
 use Rattle.chain.proofs.Indices.{SmallestLeast, smallest-least-is, length-tabulate, at-tabulate, after-tabulate}
@@ -123,7 +123,7 @@ module _ (job : Job) where
   heuristic-length =
       omega (arith, length-append (tabulate (λ q. nearest job (suc q)) (last job)) (tasks job ∷ []), length-tabulate (λ q. nearest job (suc q)) (last job))
 
--- A part that weighs little more than its due is within the sum of the ideal and heaviest/slowest.
+-- A part that weighs little more than its due is within the sum of the ideal and the margin.
 cross : (w E W e H m : ℕ) → w * E ≤ W * e + H * E → m ≤ e → w * (E * m) ≤ (W * m + H * E) * e
 cross w E W e H m h k = omega (arith, mul-le-mul-right m h, mul-le-mul-right (H * E) k)
 
@@ -182,8 +182,8 @@ module _ {job : Job} (ok : Proper job) where
   load-close p h =
       le-trans (mul-le-mul-right (totalSpeed job) (load-le job (at (heuristic job) p) (at (heuristic job) (suc p)))) (weight-close p h)
 
-  -- Every part of the heuristic is within the sum of the ideal and heaviest/slowest.
-  pub heuristic-close : Within job (heuristic job) (plus (ideal job) (over (heaviest job) (slowest job)))
+  -- Every part of the heuristic is within the sum of the ideal and the margin.
+  pub heuristic-close : Within job (heuristic job) (plus (ideal job) (margin job))
   unfolding boundAt partBound ideal
   heuristic-close =
       parts-within job heuristic-partition
@@ -193,5 +193,5 @@ module _ {job : Job} (ok : Proper job) where
       (speedOf job p) (heaviest job) (slowest job) (load-close p h) (speed-slowest job p h)))
 
   -- So is its bottleneck.
-  pub heuristic-bound : bottleneck job (heuristic job) ≼ plus (ideal job) (over (heaviest job) (slowest job))
+  pub heuristic-bound : bottleneck job (heuristic job) ≼ plus (ideal job) (margin job)
   heuristic-bound = bottleneck-le ok heuristic-close

@@ -1,8 +1,8 @@
 -- Searches over indices find what their names say.
 -- Assumes nothing.
 use Prim.Native.Nat.{ℕ, zero, suc, _+_, _-_, _≤_, _<_}
-use mathlib.Core.Path.{_≡_, refl, sym, ap, subst, _∙_}
-use mathlib.Core.Bool.{Bool, true, false, not, cond, _&&_}
+use mathlib.Core.Path.{_≡_, refl, ap, subst, _∙_}
+use mathlib.Core.Bool.{Bool, true, false, not, cond}
 use mathlib.Core.List.{List, _∷_, _++_}
 use mathlib.Core.Logic.{_⊎_, inl, inr}
 use native.Mathlib.Omega.{arith}
@@ -11,6 +11,7 @@ use lib.Dec.{T, leb, T-not}
 use lib.ListN.{length, getD}
 use borrow.Author.Tests.{leb-true, leb-false}
 use Rattle.chain.specs.Lists.{tabulate, all, isFirst, greatestFrom, smallestFrom, smallestLeast}
+use Rattle.chain.proofs.Tests.{T-of, T-not-of, and-left, and-right, and-both}
 
 -- The greatest index from a to a + d: in range; f holds there unless it is a; f fails past it.
 pub record Greatest (f : ℕ → Bool) (a d r : ℕ) : Type 0 where
@@ -98,49 +99,25 @@ pub all-at : (f : ℕ → Bool) (n : ℕ) → T (all f n) → (k : ℕ) → k < 
 unfolding all
 all-at f zero t k h = absurd (let z : ⊥ = omega arith in z)
 all-at f (suc n) t k h =
-    elim (decLe (suc k) n) [ yes m ↦ all-at f n (left (all f n) (f n) t) k m | no m ↦ subst (λ (i : ℕ). T (f i)) (let z : n ≡ k = omega arith in z) (right (all f n) (f n) t) ]
-  where
-    left : (x y : Bool) → T (x && y) → T x
-    left true y u = tt
-    left false y u = u
-
-    right : (x y : Bool) → T (x && y) → T y
-    right true y u = u
-    right false y u = absurd u
+    elim (decLe (suc k) n) [ yes m ↦ all-at f n (and-left (all f n) (f n) t) k m | no m ↦ subst (λ (i : ℕ). T (f i)) (let z : n ≡ k = omega arith in z) (and-right (all f n) (f n) t) ]
 
 pub all-of : (f : ℕ → Bool) (n : ℕ) → ((k : ℕ) → k < n → T (f k)) → T (all f n)
 unfolding all
 all-of f zero h = tt
-all-of f (suc n) h = both (all f n) (f n) (all-of f n (λ k l. h k (omega arith))) (h n (omega arith))
-  where
-    both : (x y : Bool) → T x → T y → T (x && y)
-    both true y u v = v
-    both false y u v = u
+all-of f (suc n) h = and-both (all f n) (f n) (all-of f n (λ k l. h k (omega arith))) (h n (omega arith))
 
 -- The first index at which f holds.
 pub first-holds : (f : ℕ → Bool) (k : ℕ) → T (isFirst f k) → T (f k)
 unfolding isFirst
-first-holds f k t = left (f k) (all (λ j. not (f j)) k) t
-  where
-    left : (x y : Bool) → T (x && y) → T x
-    left true y u = tt
-    left false y u = u
+first-holds f k t = and-left (f k) (all (λ j. not (f j)) k) t
 
 pub first-fails : (f : ℕ → Bool) (k : ℕ) → T (isFirst f k) → (j : ℕ) → j < k → T (not (f j))
 unfolding isFirst
-first-fails f k t j h = all-at (λ j. not (f j)) k (right (f k) (all (λ j. not (f j)) k) t) j h
-  where
-    right : (x y : Bool) → T (x && y) → T y
-    right true y u = u
-    right false y u = absurd u
+first-fails f k t j h = all-at (λ j. not (f j)) k (and-right (f k) (all (λ j. not (f j)) k) t) j h
 
 pub first-of : (f : ℕ → Bool) (k : ℕ) → T (f k) → ((j : ℕ) → j < k → T (not (f j))) → T (isFirst f k)
 unfolding isFirst
-first-of f k t h = both (f k) (all (λ j. not (f j)) k) t (all-of (λ j. not (f j)) k h)
-  where
-    both : (x y : Bool) → T x → T y → T (x && y)
-    both true y u v = v
-    both false y u v = u
+first-of f k t h = and-both (f k) (all (λ j. not (f j)) k) t (all-of (λ j. not (f j)) k h)
 
 -- There is only one.
 pub first-unique : (f : ℕ → Bool) (k l : ℕ) → T (isFirst f k) → T (isFirst f l) → k ≡ l
@@ -173,22 +150,19 @@ after-tabulate f (suc n) l i =
 pub first-exists : (f : ℕ → Bool) (d : ℕ) → (((j : ℕ) → j ≤ d → T (not (f j))) → ⊥) → (k : ℕ) × (k ≤ d) × T (isFirst f k)
 first-exists f d h = go (smallestFrom f 0 d) (smallest-is f 0 d)
   where
-    fails : (j : ℕ) → f j ≡ false → T (not (f j))
-    fails j e = subst (λ (b : Bool). T (not b)) (sym e) tt
-
     go : (r : ℕ) → Smallest f 0 d r → (k : ℕ) × (k ≤ d) × T (isFirst f k)
     go r s = cases (f r) refl
       where
         earlier : (j : ℕ) → j < r → T (not (f j))
-        earlier j l = fails j (s .before j (omega arith) l)
+        earlier j l = T-not-of (s .before j (omega arith) l)
 
         cases : (t : Bool) → f r ≡ t → (k : ℕ) × (k ≤ d) × T (isFirst f k)
-        cases true e = (r, omega (arith, s .to), first-of f r (subst T (sym e) tt) earlier)
+        cases true e = (r, omega (arith, s .to), first-of f r (T-of e) earlier)
         cases false e = absurd (h (λ j l. elim (decLe (suc j) r) [ yes m ↦ earlier j m | no m ↦ late j l m ]))
           where
             late : (j : ℕ) → j ≤ d → (suc j ≤ r → ⊥) → T (not (f j))
             late j l m =
                 elim (s .found) [
-                  | inl x ↦ subst (λ (i : ℕ). T (not (f i))) (let z : r ≡ j = omega arith in z) (fails r e)
-                  | inr x ↦ absurd (T-not (f r) (fails r e) (subst T (sym x) tt))
+                  | inl x ↦ subst (λ (i : ℕ). T (not (f i))) (let z : r ≡ j = omega arith in z) (T-not-of e)
+                  | inr x ↦ absurd (T-not (f r) (T-not-of e) (T-of x))
                 ]

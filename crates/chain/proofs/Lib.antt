@@ -18,6 +18,7 @@ pub mod Ranges
 pub mod Refusals
 pub mod Sums
 pub mod Table
+pub mod Tests
 pub mod Walk
 pub mod Counts
 pub mod Within

@@ -8,7 +8,7 @@ use Rattle.chain.specs.Lists.{sum, greatestOf, leastOf, tabulate, sumTo,
 use Rattle.chain.specs.Job.{speedOf, partOf, partWeight, partLoad, slowestOf, partBound, within, offer, boundAt, bottleneckTo, bottleneck, ideal}
 use Rattle.chain.specs.Probe.{reach, separator, walk, fits, bid, leastBidTo, nextBid, probe}
 use Rattle.chain.specs.Heuristic.{miss, nearest, heuristic}
-use Rattle.chain.specs.Dynamic.{candidate, crossingOf, lesserAt, tableValue, crossing, movesTo, moves}
+use Rattle.chain.specs.Dynamic.{startOf, candidate, crossingOf, lesserAt, tableValue, crossing, movesTo, moves}
 use Rattle.chain.specs.Bidding.{bidding}
 use Rattle.chain.specs.Bisection.{firstEnds, nextEnds, ends, meet}
 use Rattle.chain.specs.Plan.{spread, onward, partitions, leastBound, leastBottleneck, planOf, difference, allowance, imbalance}
@@ -16,5 +16,5 @@ use Rattle.chain.specs.Refusal.{eachBetween, methodTest, speedsTest, wei
 use Rattle.chain.specs.Marked.{sameList, samePair, biddingEndsAt, bisectionEndsAt, endsAt, measureRefusal, isFailing, isFitting, holds, everyHolds, marked, worked}
 
 pub marked-jobs : T (everyHolds (marked ++ worked))
-unfolding le greater lesser maxTasks maxWeight maxProcessors maxSpeed maxBoundLoad maxBoundSpeed sum greatestOf leastOf tabulate sumTo all isFirst greatestFrom smallestFrom smallestLeast digitsWithin digits speedOf partOf partWeight partLoad slowestOf partBound within offer boundAt bottleneckTo bottleneck ideal reach separator walk fits bid leastBidTo nextBid probe miss nearest heuristic candidate crossingOf lesserAt tableValue crossing movesTo moves bidding firstEnds nextEnds ends meet spread onward partitions leastBound leastBottleneck planOf difference allowance imbalance eachBetween methodTest speedsTest weightsTest processorsTest tasksTest lengthTest boundTest isPartition partitionTest firstRefusal jobTests callTests refusal sameList samePair biddingEndsAt bisectionEndsAt endsAt measureRefusal isFailing isFitting holds everyHolds marked worked
+unfolding le greater lesser maxTasks maxWeight maxProcessors maxSpeed maxBoundLoad maxBoundSpeed sum greatestOf leastOf tabulate sumTo all isFirst greatestFrom smallestFrom smallestLeast digitsWithin digits speedOf partOf partWeight partLoad slowestOf partBound within offer boundAt bottleneckTo bottleneck ideal reach separator walk fits bid leastBidTo nextBid probe miss nearest heuristic startOf candidate crossingOf lesserAt tableValue crossing movesTo moves bidding firstEnds nextEnds ends meet spread onward partitions leastBound leastBottleneck planOf difference allowance imbalance eachBetween methodTest speedsTest weightsTest processorsTest tasksTest lengthTest boundTest isPartition partitionTest firstRefusal jobTests callTests refusal sameList samePair biddingEndsAt bisectionEndsAt endsAt measureRefusal isFailing isFitting holds everyHolds marked worked
 marked-jobs = tt

@@ -37,7 +37,15 @@ module _ (job : Job) (B : Bound) where
       (offer job (last job) (separator job B (last job)) (tasks job)))
       (le-ltb (last job) (last job) (omega arith))
 
-  -- A property of every bid is the next bid's.
+  -- A property of every offer of a processor is its bid's, and a property of every bid the next bid's.
+  pub bid-cases : (Q : Bound → Type 0) (p : ℕ) → ((a b : ℕ) → Q (offer job p a b)) → Q (bid job B p)
+  unfolding bid
+  bid-cases Q p h = go (ltb p (last job))
+    where
+      go : (t : Bool) → Q (pick t (offer job p (separator job B p) (suc (separator job B (suc p)))) (offer job p (separator job B p) (tasks job)))
+      go true = h (separator job B p) (suc (separator job B (suc p)))
+      go false = h (separator job B p) (tasks job)
+
   bids-to : (Q : Bound → Type 0) (q : ℕ) → ((p : ℕ) → p ≤ q → Q (bid job B p)) → Q (leastBidTo job B q)
   unfolding leastBidTo
   bids-to Q zero h = h 0 (omega arith)
@@ -106,12 +114,7 @@ module _ (job : Job) where
 
 module _ {job : Job} (ok : Proper job) where
   pub bid-real : (B : Bound) (p : ℕ) → Real (bid job B p)
-  unfolding bid
-  bid-real B p = go (ltb p (last job))
-    where
-      go : (t : Bool) → Real (pick t (offer job p (separator job B p) (suc (separator job B (suc p)))) (offer job p (separator job B p) (tasks job)))
-      go true = offer-real job ok p _ _
-      go false = offer-real job ok p _ _
+  bid-real B p = bid-cases job B Real p (offer-real job ok p)
 
   pub next-real : (B : Bound) → Real (nextBid job B)
   next-real B = next-cases job B Real (λ p h. bid-real B p)

@@ -1,21 +1,22 @@
 -- Every number of a valid job's bounds is small, and every product that the code forms fits 64 bits.
 -- Only the lemmas of the first part open the limits; the others cite them by name.
 -- Assumes nothing.
-use Prim.Native.Nat.{ℕ, zero, suc, _+_, _-_, _*_, _^_, _≤_, _<_}
+use Prim.Native.Nat.{ℕ, suc, _+_, _-_, _*_, _^_, _≤_, _<_}
 use mathlib.Core.Path.{sym, subst}
-use mathlib.Core.Bool.{Bool, true, false, _&&_}
+use mathlib.Core.Bool.{Bool, _&&_}
 use mathlib.Core.List.{List}
 use native.Mathlib.Omega.{arith}
 use native.Mathlib.Nat.{le-trans, lt-of-le-of-lt, mul-le-mul, mul-le-mul-left, mul-le-mul-right, one-le-mul, add-le-add}
-use lib.Dec.{T, leb, ltb, leb→le, le→leb, lit<, lit≤}
+use lib.Dec.{T, leb, leb→le, le→leb, lit<, lit≤}
 use Rattle.bound.specs.declared.Bound.{Bound}
-use Rattle.bound.specs.Order.{infinite, pick, lesser, middle}
+use Rattle.bound.specs.Order.{infinite, lesser, middle}
 use Rattle.bound.proofs.Order.{lesser-cases}
 use Rattle.chain.specs.Limits.{maxTasks, maxWeight, maxLoad, maxProcessors, maxSpeed, maxBoundLoad, maxBoundSpeed}
 use Rattle.chain.specs.Ranges.{Small, Lendable, Narrow}
 use Rattle.chain.specs.Lists.{sumTo}
-use Rattle.chain.specs.Job.{Job, tasks, processors, last, speedOf, Valid, partWeight, partLoad, totalWeight, totalSpeed, heaviest, fastest, partBound, offer, at, boundAt, bottleneck, ideal}
-use Rattle.chain.specs.Probe.{separator, bid, leastBidTo, nextBid}
+use Rattle.chain.specs.Job.{Job, tasks, processors, speedOf, Valid, partWeight, partLoad, totalWeight, totalSpeed, heaviest, fastest, partBound, offer, at, boundAt, bottleneck, ideal}
+use Rattle.chain.specs.Probe.{bid, nextBid}
+use Rattle.chain.specs.Plan.{breadth}
 use Rattle.chain.specs.Refusal.{boundTest}
 use Rattle.chain.proofs.Sums.{sum-le, sum-limit}
 use Rattle.chain.proofs.Parts.{valid-proper, weight-le-total, load-le}
@@ -23,16 +24,22 @@ use Rattle.chain.proofs.Within.{offer-part}
 use Rattle.chain.proofs.Extremes.{default-le, greatest-cases}
 use Rattle.chain.proofs.Ideal as ideals
 use Rattle.chain.proofs.Bottleneck.{bottleneck-cases}
-use Rattle.chain.proofs.Refusals.{and-left, and-right, and-both}
+use Rattle.chain.proofs.NextBid.{bid-cases, next-cases}
+use Rattle.chain.proofs.Tests.{and-left, and-right, and-both}
 
 -- The limits: what their numbers come to. Loads fit 32 bits,
 pub loads-fit : maxLoad < 2 ^ 32
 unfolding maxLoad maxTasks maxWeight
 loads-fit = lit< tt
 
+-- (of all tasks together, and so of one)
 weights-loads : maxTasks * maxWeight ≤ maxLoad
 unfolding maxLoad
 weights-loads = omega arith
+
+weight-load : maxWeight ≤ maxLoad
+unfolding maxLoad maxTasks maxWeight
+weight-load = lit≤ tt
 
 -- and so do indices,
 tasks-fit : maxTasks < 2 ^ 32
@@ -100,9 +107,9 @@ thousand-loads : 1000 * (maxLoad * (maxProcessors * maxSpeed)) < 2 ^ 64
 unfolding maxLoad maxTasks maxWeight maxProcessors maxSpeed
 thousand-loads = lit< tt
 
-weight-by-speeds : maxWeight * (maxSpeed * maxSpeed) < 2 ^ 64
-unfolding maxWeight maxSpeed
-weight-by-speeds = lit< tt
+load-by-speeds : maxLoad * (maxSpeed * maxSpeed) < 2 ^ 64
+unfolding maxLoad maxTasks maxWeight maxSpeed
+load-by-speeds = lit< tt
 
 module _ {job : Job} (v : Valid job) where
   -- All weight is within the limit of a load.
@@ -162,26 +169,11 @@ module _ {job : Job} (v : Valid job) where
 
   -- Every bid is small.
   pub bid-small : (B : Bound) (p : ℕ) → Small (bid job B p)
-  unfolding bid
-  bid-small B p = go (ltb p (last job))
-    where
-      a : ℕ
-      a = separator job B p
-
-      go : (t : Bool) → Small (pick t (offer job p a (suc (separator job B (suc p)))) (offer job p a (tasks job)))
-      go true = offer-small p a (suc (separator job B (suc p)))
-      go false = offer-small p a (tasks job)
-
-  least-bid-small : (B : Bound) (p : ℕ) → Small (leastBidTo job B p)
-  unfolding leastBidTo
-  least-bid-small B zero = bid-small B 0
-  least-bid-small B (suc p) =
-      lesser-cases Small (leastBidTo job B p) (bid job B (suc p)) (least-bid-small B p) (bid-small B (suc p))
+  bid-small B p = bid-cases job B Small p (offer-small p)
 
   -- Every next bid is small.
   pub next-bid-small : (B : Bound) → Small (nextBid job B)
-  unfolding nextBid
-  next-bid-small B = least-bid-small B (last job)
+  next-bid-small B = next-cases job B Small (λ p h. bid-small B p)
 
   -- The ideal can be lent.
   pub ideal-lendable : Lendable (ideal job)
@@ -202,8 +194,11 @@ module _ {job : Job} (v : Valid job) where
   )
 
   -- The product of bisection's allowance.
-  pub difference-product : heaviest job * (fastest job * fastest job) < 2 ^ 64
-  difference-product = lt-of-le-of-lt (mul-le-mul heaviest-limit (mul-le-mul fastest-limit fastest-limit)) weight-by-speeds
+  pub breadth-limit : breadth job ≤ maxLoad
+  breadth-limit = le-trans heaviest-limit weight-load
+
+  pub difference-product : breadth job * (fastest job * fastest job) < 2 ^ 64
+  difference-product = lt-of-le-of-lt (mul-le-mul breadth-limit (mul-le-mul fastest-limit fastest-limit)) load-by-speeds
 
 -- The dividend of the imbalance of a small bound fits.
 pub imbalance-product : {B : Bound} {job : Job} → Small B → Valid job → 1000 * (B .load * totalSpeed job) < 2 ^ 64

@@ -13,22 +13,8 @@ use Rattle.chain.specs.Limits.{maxTasks, maxWeight, maxProcessors, maxSp
 use Rattle.chain.specs.Lists.{all}
 use Rattle.chain.specs.Job.{Job, tasks, processors, speedOf, Valid, at, Partition}
 use Rattle.chain.specs.Refusal.{Test, between, eachBetween, methodTest, speedsTest, weightsTest, processorsTest, tasksTest, lengthTest, boundTest, isPartition, partitionTest, firstRefusal, jobTests, Inputs, callTests, refusal}
+use Rattle.chain.proofs.Tests.{T-of, and-left, and-right, and-both}
 use Rattle.chain.proofs.Indices.{all-at, all-of}
-
--- Two tests at once pass exactly when both do: the first,
-pub and-left : (x y : Bool) → T (x && y) → T x
-and-left true y t = tt
-and-left false y t = t
-
--- the second,
-pub and-right : (x y : Bool) → T (x && y) → T y
-and-right true y t = t
-and-right false y t = absurd t
-
--- and back.
-pub and-both : (x y : Bool) → T x → T y → T (x && y)
-and-both true y t u = u
-and-both false y t u = t
 
 eq-test : (m n : ℕ) → m ≡ n → T (eqb m n)
 eq-test m n e = subst (λ (k : ℕ). T (eqb m k)) e (eqb-refl m)
@@ -154,7 +140,7 @@ refused-failing (t ∷ ts) h = go (t .passes) refl h (refused-failing ts)
           failed = r .failed;
           after = r .after;
           whole = ap (λ (l : List Test). t ∷ l) (r .whole);
-          passed = λ u m. elim (List·Memᴰ·cases-cons m) [ inl x ↦ subst (λ (y : Test). T (y .passes)) (sym x) (subst T (sym e) tt) | inr x ↦ r .passed u x ];
+          passed = λ u m. elim (List·Memᴰ·cases-cons m) [ inl x ↦ subst (λ (y : Test). T (y .passes)) (sym x) (T-of e) | inr x ↦ r .passed u x ];
           fails = r .fails;
           gives = r .gives;
         }

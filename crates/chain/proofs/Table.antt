@@ -2,16 +2,19 @@
 -- first processors can take the tasks within it. The crossings grow, so the pointer's moves are the crossings at the end.
 -- Assumes nothing.
 use Prim.Native.Nat.{ℕ, zero, suc, _-_, _≤_, _<_}
-use mathlib.Core.Path.{_≡_, refl, subst}
+use mathlib.Core.Path.{_≡_, refl, sym, ap, ap₂, subst, _∙_}
+use mathlib.Core.Bool.{Bool, true, false}
 use mathlib.Core.Logic.{inl, inr}
 use native.Mathlib.Omega.{arith}
 use native.Mathlib.Decide.{decLe}
+use lib.Dec.{ltb}
+use borrow.Author.Tests.{lt-ltb, le-ltb}
 use Rattle.bound.specs.declared.Bound.{Bound}
-use Rattle.bound.specs.Order.{le, _≼_, _≺_, greater, Real, Finite}
-use Rattle.bound.proofs.Order.{finite-or-not, le-speedless, le-refl, le-trans, lt-le, lt-le-trans, not-both, true-le, false-lt, greater-cases, greater-left, greater-right, greater-le, le-greater-left, le-greater-right, lesser-cases, lesser-left, lesser-right}
+use Rattle.bound.specs.Order.{le, _≼_, _≺_, pick, greater, lesser, Real, Finite}
+use Rattle.bound.proofs.Order.{finite-or-not, le-speedless, le-refl, le-trans, lt-le, lt-le-trans, not-both, le-true, true-le, false-lt, greater-cases, greater-left, greater-right, greater-first, greater-second, greater-le, le-greater-left, le-greater-right, lesser-cases, lesser-left, lesser-right}
 use Rattle.chain.specs.Lists.{sumTo}
 use Rattle.chain.specs.Job.{Job, tasks, last, offer}
-use Rattle.chain.specs.Dynamic.{candidate, crossingOf, lesserAt, tableValue, crossing, movesTo, moves}
+use Rattle.chain.specs.Dynamic.{startOf, candidate, crossingOf, lesserAt, tableValue, crossing, movesTo, moves}
 use Rattle.chain.specs.Plan.{allowance}
 use Rattle.chain.specs.declared.Method.the-variants.{Table}
 use Rattle.chain.proofs.Sums.{sum-same, sum-le}
@@ -29,20 +32,49 @@ record Against (f g : ℕ → Bound) (i : ℕ) : Type 0 where
   row-real : (j : ℕ) → Real (f j)
   part-is-real : (j : ℕ) → Real (g j)
 
--- The lesser at the crossing and before it is one of the two.
-lesser-at-cases : (Q : Bound → Type 0) (h : ℕ → Bound) (c : ℕ) → ((j : ℕ) → j ≤ c → Q (h j)) → Q (lesserAt h c)
-unfolding lesserAt
-lesser-at-cases Q h zero k = k 0 (omega arith)
-lesser-at-cases Q h (suc c) k = lesser-cases Q (h (suc c)) (h c) (k (suc c) (omega arith)) (k c (omega arith))
+-- The lesser at the crossing and before it is one of the two, and at most each.
+module _ (h : ℕ → Bound) (a c : ℕ) where
+  lesser-at-cases : (Q : Bound → Type 0) → ((j : ℕ) → j ≤ c → Q (h j)) → Q (lesserAt h a c)
+  unfolding lesserAt
+  lesser-at-cases Q k = go (ltb a c)
+    where
+      go : (t : Bool) → Q (pick t (lesser (h c) (h (c - 1))) (h c))
+      go true = lesser-cases Q (h c) (h (c - 1)) (k c (omega arith)) (k (c - 1) (omega arith))
+      go false = k c (omega arith)
 
-lesser-at-here : (h : ℕ → Bound) (c : ℕ) → lesserAt h c ≼ h c
-unfolding lesserAt
-lesser-at-here h zero = le-refl (h 0)
-lesser-at-here h (suc c) = lesser-left (h (suc c)) (h c)
+  lesser-at-first : c ≤ a → lesserAt h a c ≡ h c
+  unfolding lesserAt
+  lesser-at-first l = ap (λ (t : Bool). pick t (lesser (h c) (h (c - 1))) (h c)) (le-ltb a c l)
 
-lesser-at-before : (h : ℕ → Bound) (c : ℕ) → lesserAt h (suc c) ≼ h c
-unfolding lesserAt
-lesser-at-before h c = lesser-right (h (suc c)) (h c)
+  lesser-at-later : a < c → lesserAt h a c ≡ lesser (h c) (h (c - 1))
+  unfolding lesserAt
+  lesser-at-later l = ap (λ (t : Bool). pick t (lesser (h c) (h (c - 1))) (h c)) (lt-ltb a c l)
+
+  lesser-at-here : lesserAt h a c ≼ h c
+  unfolding lesserAt
+  lesser-at-here = go (ltb a c)
+    where
+      go : (t : Bool) → pick t (lesser (h c) (h (c - 1))) (h c) ≼ h c
+      go true = lesser-left (h c) (h (c - 1))
+      go false = le-refl (h c)
+
+  lesser-at-before : a < c → lesserAt h a c ≼ h (c - 1)
+  lesser-at-before l = subst (λ (B : Bound). B ≼ h (c - 1)) (sym (lesser-at-later l)) (lesser-right (h c) (h (c - 1)))
+
+-- Where j begins: at i or before, further on as i grows; an offer from before it is at least everything.
+module _ (job : Job) (p : ℕ) where
+  pub start-first : (i : ℕ) → startOf job p i ≡ 0
+  unfolding startOf
+  start-first i = refl
+
+  pub start-le : (i : ℕ) → startOf job p i ≤ i
+  start-le i = omega (arith, start-first i)
+
+  pub start-grows : (i k : ℕ) → i ≤ k → startOf job p i ≤ startOf job p k
+  start-grows i k h = omega (arith, start-first i)
+
+  pub before-start : (i j : ℕ) → j < startOf job p i → (B : Bound) → B ≼ offer job p j i
+  before-start i j h B = absurd (let z : ⊥ = omega (arith, start-first i) in z)
 
 module _ {f g : ℕ → Bound} {i : ℕ} (w : Against f g i) where
   top : ℕ → Bound
@@ -65,18 +97,71 @@ module _ {f g : ℕ → Bound} {i : ℕ} (w : Against f g i) where
       le-trans (w .part-is-real j) (le-trans (w .part-is-real c) (greater-le (lt-le x) (le-refl (g c))) (w .falls j c h l))
       (greater-right (f j) (g j))
 
-  at-crossing : (c : ℕ) → Smallest (λ j. le (g j) (f j)) 0 i c → g c ≼ f c
-  at-crossing c s =
+  at-crossing : (a c : ℕ) → a ≤ i → Smallest (λ j. le (g j) (f j)) a (i - a) c → g c ≼ f c
+  at-crossing a c l s =
       elim (s .found) [ inl e ↦ subst (λ (n : ℕ). g n ≼ f n) (let z : i ≡ c = omega arith in z) (w .ends (f i)) | inr e ↦ true-le e ]
 
-  least-at : (c : ℕ) → Smallest (λ j. le (g j) (f j)) 0 i c → (j : ℕ) → j ≤ i → lesserAt top c ≼ top j
-  least-at c s j h = elim (decLe c j) [ yes m ↦ le-trans (top-real c) (lesser-at-here top c) (from-crossing c j (at-crossing c s) m) | no m ↦ below c s m ]
+  least-at : (a c : ℕ) → a ≤ i → Smallest (λ j. le (g j) (f j)) a (i - a) c → (j : ℕ) → a ≤ j → j ≤ i → lesserAt top a c ≼ top j
+  least-at a c l s j k h =
+      elim (decLe c j) [
+        | yes m ↦ le-trans (top-real c) (lesser-at-here top a c) (from-crossing c j (at-crossing a c l s) m)
+        | no m ↦
+            le-trans (top-real (c - 1)) (lesser-at-before top a c (omega arith))
+            (before-crossing (c - 1) j (false-lt (s .before (c - 1) (omega arith) (omega arith))) (omega arith) (omega (arith, s .to)))
+      ]
+
+module _ (job : Job) (p i : ℕ) where
+  -- The test by which the pointer stops at k.
+  abbrev pub stops : ℕ → Bool
+  stops k = le (offer job (suc p) k i) (tableValue job p k)
+
+  pub crossing-is : Smallest stops (startOf job (suc p) i) (i - startOf job (suc p) i) (crossing job p i)
+  unfolding crossing crossingOf
+  crossing-is = smallest-is stops (startOf job (suc p) i) (i - startOf job (suc p) i)
+
+  -- It holds at the crossing,
+  pub crossing-stops : stops (crossing job p i) ≡ true
+  crossing-stops =
+      elim (crossing-is .found) [
+        | inl e ↦
+            subst (λ (k : ℕ). stops k ≡ true) (let z : i ≡ crossing job p i = omega (arith, start-le job (suc p) i) in z)
+            (le-true (offer-empty job (suc p) i (tableValue job p i)))
+        | inr e ↦ e
+      ]
+
+  -- so a pointer at or before the crossing that stops is there,
+  pub crossing-here : (k : ℕ) → startOf job (suc p) i ≤ k → k ≤ crossing job p i → stops k ≡ true → k ≡ crossing job p i
+  crossing-here k l h e = elim (decLe (crossing job p i) k) [ yes m ↦ omega arith | no m ↦ before (crossing-is .before k l (omega arith)) ]
     where
-      below : (c : ℕ) → Smallest (λ j. le (g j) (f j)) 0 i c → (c ≤ j → ⊥) → lesserAt top c ≼ top j
-      below zero s m = absurd (m (omega arith))
-      below (suc c) s m =
-          le-trans (top-real c) (lesser-at-before top c)
-          (before-crossing c j (false-lt (s .before c (omega arith) (omega arith))) (omega arith) (omega (arith, s .to)))
+      before : stops k ≡ false → k ≡ crossing job p i
+      before f = let z : _≡_ {A = ℕ} 0 1 = cc in absurd (let w : ⊥ = omega arith in w)
+
+  -- and one that does not has a move to make.
+  pub crossing-past : (k : ℕ) → k ≤ crossing job p i → stops k ≡ false → suc k ≤ crossing job p i
+  crossing-past k h e = elim (decLe (suc k) (crossing job p i)) [ yes m ↦ m | no m ↦ same (let z : crossing job p i ≡ k = omega arith in z) ]
+    where
+      same : crossing job p i ≡ k → suc k ≤ crossing job p i
+      same x =
+          let f : stops k ≡ true = subst (λ (n : ℕ). stops n ≡ true) x crossing-stops in
+          let z : _≡_ {A = ℕ} 0 1 = cc in
+          absurd (let w : ⊥ = omega arith in w)
+
+  -- The value of the next row: at the crossing the row before is the greater, before it the part is.
+  pub value-first : crossing job p i ≤ startOf job (suc p) i → tableValue job (suc p) i ≡ tableValue job p (crossing job p i)
+  unfolding tableValue crossing candidate
+  value-first h =
+      lesser-at-first (candidate job (tableValue job p) (suc p) i) (startOf job (suc p) i) (crossing job p i) h
+      ∙ sym (greater-first (tableValue job p (crossing job p i)) (offer job (suc p) (crossing job p i) i) crossing-stops)
+
+  pub value-later : startOf job (suc p) i < crossing job p i
+      → tableValue job (suc p) i ≡ lesser (tableValue job p (crossing job p i)) (offer job (suc p) (crossing job p i - 1) i)
+  unfolding tableValue crossing candidate
+  value-later h =
+      let c : ℕ = crossing job p i in
+      lesser-at-later (candidate job (tableValue job p) (suc p) i) (startOf job (suc p) i) c h
+      ∙ sym
+      (ap₂ lesser (greater-first (tableValue job p c) (offer job (suc p) c i) crossing-stops)
+      (greater-second (tableValue job p (c - 1)) (offer job (suc p) (c - 1) i) (crossing-is .before (c - 1) (omega arith) (omega arith))))
 
 module _ {job : Job} (ok : Proper job) where
   candidate-real : (p i j : ℕ) → Real (tableValue job p j) → Real (candidate job (tableValue job p) (suc p) i j)
@@ -88,16 +173,12 @@ module _ {job : Job} (ok : Proper job) where
   unfolding tableValue
   table-real zero i = offer-real job ok 0 0 i
   table-real (suc p) i =
-      lesser-at-cases Real (candidate job (tableValue job p) (suc p) i) (crossingOf job (tableValue job p) (suc p) i)
-      (λ j h. candidate-real p i j (table-real p j))
-
-  crossing-is : (p i : ℕ) → Smallest (λ j. le (offer job (suc p) j i) (tableValue job p j)) 0 i (crossing job p i)
-  unfolding crossing crossingOf
-  crossing-is p i = smallest-is (λ j. le (offer job (suc p) j i) (tableValue job p j)) 0 i
+      lesser-at-cases (candidate job (tableValue job p) (suc p) i) (startOf job (suc p) i)
+      (crossingOf job (tableValue job p) (suc p) i) Real (λ j h. candidate-real p i j (table-real p j))
 
   -- The crossing is an index up to i.
   pub crossing-le : (p i : ℕ) → crossing job p i ≤ i
-  crossing-le p i = omega (arith, crossing-is p i .to)
+  crossing-le p i = omega (arith, crossing-is job p i .to, start-le job (suc p) i)
 
   -- The crossing only moves on.
   pub crossing-grows : (p i k : ℕ) → i ≤ k → crossing job p i ≤ crossing job p k
@@ -107,10 +188,11 @@ module _ {job : Job} (ok : Proper job) where
       impossible m =
           let c : ℕ = crossing job p k in
           let l : c < i = omega (arith, crossing-le p i) in
-          let x : tableValue job p c ≺ offer job (suc p) c i = false-lt (crossing-is p i .before c (omega arith) (omega arith)) in
+          let x : tableValue job p c ≺ offer job (suc p) c i =
+          false-lt (crossing-is job p i .before c (omega (arith, crossing-is job p k .from, start-grows job (suc p) i k h)) (omega arith)) in
           let y : offer job (suc p) c i ≼ offer job (suc p) c k = offer-right job (suc p) c i k (omega arith) h in
-          elim (crossing-is p k .found) [
-            | inl e ↦ omega arith
+          elim (crossing-is job p k .found) [
+            | inl e ↦ omega (arith, start-le job (suc p) k)
             | inr e ↦ not-both (lt-le-trans (offer-real job ok (suc p) c k) x y) (true-le e)
           ]
 
@@ -118,14 +200,20 @@ module _ {job : Job} (ok : Proper job) where
   pub table-attained : (p i : ℕ) → (j : ℕ) × (j ≤ i) × (tableValue job (suc p) i ≡ candidate job (tableValue job p) (suc p) i j)
   unfolding tableValue crossing
   table-attained p i =
-      lesser-at-cases (λ B. (j : ℕ) × (j ≤ i) × (B ≡ candidate job (tableValue job p) (suc p) i j))
-      (candidate job (tableValue job p) (suc p) i) (crossing job p i) (λ j h. (j, omega (arith, crossing-le p i), refl))
+      lesser-at-cases (candidate job (tableValue job p) (suc p) i) (startOf job (suc p) i) (crossing job p i)
+      (λ B. (j : ℕ) × (j ≤ i) × (B ≡ candidate job (tableValue job p) (suc p) i j)) (λ j h. (j, omega (arith, crossing-le p i), refl))
 
   -- Once the row before grows, the value is at most every candidate.
   least-from : (p : ℕ) → ((i k : ℕ) → i ≤ k → tableValue job p i ≼ tableValue job p k) → (i j : ℕ) → j ≤ i
       → tableValue job (suc p) i ≼ candidate job (tableValue job p) (suc p) i j
   unfolding tableValue crossing candidate top
-  least-from p up i j h = least-at against (crossing job p i) (crossing-is p i) j h
+  least-from p up i j h =
+      elim (decLe (startOf job (suc p) i) j) [
+        | yes k ↦ least-at against (startOf job (suc p) i) (crossing job p i) (start-le job (suc p) i) (crossing-is job p i) j k h
+        | no k ↦
+            le-trans (offer-real job ok (suc p) j i) (before-start job (suc p) i j (omega arith) (tableValue job (suc p) i))
+            (greater-right (tableValue job p j) (offer job (suc p) j i))
+      ]
     where
       against : Against (tableValue job p) (λ j. offer job (suc p) j i) i
       against =

@@ -3,7 +3,7 @@
 -- Assumes nothing.
 use Prim.Native.Nat.{ℕ, zero, suc, _+_, _-_, _≤_, _<_}
 use mathlib.Core.Path.{_≡_, refl, sym, ap, subst, _∙_}
-use mathlib.Core.Bool.{Bool, not}
+use mathlib.Core.Bool.{not}
 use mathlib.Core.List.{List, [], _∷_}
 use mathlib.Core.Logic.{inl, inr, _↔_}
 use native.Mathlib.Omega.{arith}
@@ -18,6 +18,7 @@ use Rattle.bound.proofs.Order.{finite-or-not, le-speedless}
 use Rattle.chain.specs.Lists.{tabulate}
 use Rattle.chain.specs.Job.{Job, tasks, processors, last, partBound, within, at, Partition, bottleneck, Within}
 use Rattle.chain.specs.Probe.{reach, separator, walk, fits}
+use Rattle.chain.proofs.Tests.{T-of, T-not-of}
 use Rattle.chain.proofs.Parts.{Proper, Plannable}
 use Rattle.chain.proofs.Within.{within-of, within-empty, within-shrink}
 use Rattle.chain.proofs.Indices.{Greatest, greatest-is, length-tabulate, at-tabulate, after-tabulate}
@@ -40,11 +41,11 @@ module _ (job : Job) where
   pub reach-within : (p a : ℕ) (B : Bound) → T (within job p a (reach job p a B) B)
   reach-within p a B =
       elim ((reach-is p a B) .found)
-      [ inl e ↦ subst (λ (b : ℕ). T (within job p a b B)) (sym e) (within-empty job p a B) | inr e ↦ subst T (sym e) tt ]
+      [ inl e ↦ subst (λ (b : ℕ). T (within job p a b B)) (sym e) (within-empty job p a B) | inr e ↦ T-of e ]
 
   -- No further part is.
   pub reach-past : (p a : ℕ) (B : Bound) → a ≤ tasks job → (k : ℕ) → reach job p a B < k → k ≤ tasks job → T (not (within job p a k B))
-  reach-past p a B h k l m = subst (λ (t : Bool). T (not t)) (sym ((reach-is p a B) .past k l (omega arith))) tt
+  reach-past p a B h k l m = T-not-of ((reach-is p a B) .past k l (omega arith))
 
   -- A part that is within the bound, while the part with one more task is not, is the one that is reached.
   pub reach-unique : (p a r : ℕ) (B : Bound) → a ≤ r → r ≤ tasks job → T (within job p a r B)

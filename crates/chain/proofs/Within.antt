@@ -16,23 +16,23 @@ use Rattle.chain.proofs.Parts.{Proper, load-right, load-left, part-empt
 use Rattle.chain.proofs.Extremes.{speed-fastest}
 
 module _ (job : Job) where
-  -- The test of a part, as it is computed.
-  pub within-is : (p a b : ℕ) (B : Bound) → within job p a b B ≡ le (partBound job p a b) B
-  unfolding within
-  within-is p a b B = refl
-
-  -- A part within a bound has a bound of at most that, and such a part is within it.
-  pub within-bound : (p a b : ℕ) {B : Bound} → T (within job p a b B) → partBound job p a b ≼ B
-  unfolding within
-  within-bound p a b t = record { holds = t }
-
+  -- A part whose bound is at most another is within it, and a part within it has such a bound.
   pub within-of : (p a b : ℕ) {B : Bound} → partBound job p a b ≼ B → T (within job p a b B)
   unfolding within
   within-of p a b h = h .holds
 
+  pub within-bound : (p a b : ℕ) {B : Bound} → T (within job p a b B) → partBound job p a b ≼ B
+  unfolding within
+  within-bound p a b t = record { holds = t }
+
   pub past-of : (p a b : ℕ) {B : Bound} → B ≺ partBound job p a b → T (not (within job p a b B))
   unfolding within
   past-of p a b h = h .fails
+
+  -- The test of a part, as it is computed.
+  pub within-is : (p a b : ℕ) (B : Bound) → within job p a b B ≡ le (partBound job p a b) B
+  unfolding within
+  within-is p a b B = refl
 
   -- An empty part is within every bound,
   pub within-empty : (p a : ℕ) (B : Bound) → T (within job p a a B)

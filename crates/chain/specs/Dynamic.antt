@@ -1,7 +1,8 @@
 -- Dynamic programming. Document 01, "The three methods", 1. Table. Row p here is the document's row p + 1.
 use Prim.Native.Nat.{ℕ, zero, suc, _+_, _-_}
+use lib.Dec.{ltb}
 use Rattle.bound.specs.declared.Bound.{Bound}
-use Rattle.bound.specs.Order.{le, greater, lesser}
+use Rattle.bound.specs.Order.{le, pick, greater, lesser}
 use Rattle.chain.specs.Lists.{sumTo, smallestFrom}
 use Rattle.chain.specs.Job.{Job, tasks, last, offer}
 
@@ -9,20 +10,26 @@ use Rattle.chain.specs.Job.{Job, tasks, last, offer}
 unfoldable pub candidate : Job → (ℕ → Bound) → ℕ → ℕ → ℕ → Bound
 candidate job before p i j = greater (before j) (offer job p j i)
 
+-- Where j begins in the table: at 0.
+unfoldable pub startOf : Job → ℕ → ℕ → ℕ
+startOf job p i = 0
+
 -- "the crossing of (p,i) is the smallest j ≤ i with B(p−1,j) ≥ W(j+1,i)/ep"
 unfoldable pub crossingOf : Job → (ℕ → Bound) → ℕ → ℕ → ℕ
-crossingOf job before p i = smallestFrom (λ j. le (offer job p j i) (before j)) 0 i
+crossingOf job before p i =
+    let a = startOf job p i in
+    smallestFrom (λ j. le (offer job p j i) (before j)) a (i - a)
 
 -- "the lesser of max(..) at the crossing and, if the crossing is above 0, at the index before it"
-unfoldable pub lesserAt : (ℕ → Bound) → ℕ → Bound
-lesserAt f zero = f zero
-lesserAt f (suc j) = lesser (f (suc j)) (f j)
+-- Here the crossing is c, and a is where j begins.
+unfoldable pub lesserAt : (ℕ → Bound) → ℕ → ℕ → Bound
+lesserAt f a c = pick (ltb a c) (lesser (f c) (f (c - 1))) (f c)
 
 -- "B(1,i) = W(1,i)/e1. For p ≥ 2 .."
 unfoldable pub tableValue : Job → ℕ → ℕ → Bound
 tableValue job zero i = offer job 0 0 i
 tableValue job (suc p) i =
-    lesserAt (candidate job (tableValue job p) (suc p) i) (crossingOf job (tableValue job p) (suc p) i)
+    lesserAt (candidate job (tableValue job p) (suc p) i) (startOf job (suc p) i) (crossingOf job (tableValue job p) (suc p) i)
 
 -- The crossing in row p + 1.
 unfoldable pub crossing : Job → ℕ → ℕ → ℕ

@@ -1,8 +1,14 @@
 -- The heuristic of Miguet and Pierson. Document 01, "Quick plan".
 use Prim.Native.Nat.{ℕ, suc, _*_}
 use mathlib.Core.List.{List, [], _∷_, _++_}
+use Rattle.bound.specs.declared.Bound.{Bound}
+use Rattle.bound.specs.Order.{over}
 use Rattle.chain.specs.Lists.{tabulate, sumTo, smallestLeast, distance}
-use Rattle.chain.specs.Job.{Job, tasks, last, speedOf, partWeight, totalWeight, totalSpeed}
+use Rattle.chain.specs.Job.{Job, tasks, last, speedOf, partWeight, totalWeight, totalSpeed, heaviest, slowest}
+
+-- By how much the quick plan exceeds the ideal at most: "heaviest weight / slowest speed".
+abbrev pub margin : Job → Bound
+margin job = over (heaviest job) (slowest job)
 
 -- How far W(1,i) is from Wtot × (e1 + … + ep) / Etot, times Etot. "The comparison is exact."
 unfoldable pub miss : Job → ℕ → ℕ → ℕ

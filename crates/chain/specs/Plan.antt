@@ -75,9 +75,13 @@ MethodEnds Table job count found = TableEnds job count found
 MethodEnds Bidding job count found = BiddingEnds job count found
 MethodEnds Bisection job count found = BisectionEnds job count found
 
+-- "heaviest" in D. Over the slowest speed it is how far bisection's ends are apart at most when it begins.
+abbrev pub breadth : Job → ℕ
+breadth job = heaviest job
+
 -- "D = ⌊heaviest·fastest²/slowest⌋"
 unfoldable pub difference : Job → ℕ
-difference job = heaviest job * (fastest job * fastest job) / slowest job
+difference job = breadth job * (fastest job * fastest job) / slowest job
 
 -- "table at most (P−1)·N, bidding at most (P−1)·N+1, bisection at most 1 + binary digits of D"
 unfoldable pub allowance : Method → Job → ℕ
