@@ -15,10 +15,10 @@ use Rattle.chain.specs.Job.{Job, Valid, tasks, processors, last, offer}
 use Rattle.chain.specs.Dynamic.{tableValue, crossing, movesTo, moves}
 use Rattle.chain.proofs.Parts.{valid-proper}
 use Rattle.chain.specs.Ranges.{Small}
-use Rattle.chain.proofs.Table.{crossing-le, crossing-grows, moves-to-crossing}
+use Rattle.chain.proofs.Table.{crossing-le, crossing-grows, moves-to-crossing, start-first, crossing-here, crossing-past}
 use Rattle.parts.specs.Prefix.{Ready}
 use Rattle.dynamic.specs.Rows.{entryAt, stored, RowAt, Kept, RowReady, Places, Advanced, Filled, FirstRow, Tabled}
-use Rattle.dynamic.proofs.Crossing.{small-same, table-small, crossing-here, crossing-past}
+use Rattle.dynamic.proofs.Crossing.{small-same, table-small}
 use Rattle.dynamic.proofs.Scratch.{kept-refl, kept-trans, kept-wider, kept-stored, kept-take, kept-drop, kept-ready, row-kept, row-none, row-stored, places-swap}
 
 -- The pointer on its way to the crossing of i.
@@ -44,7 +44,7 @@ moving-turn {job} {p} {i} {from} {count} {at} {counted} w e f g =
 
 pub moving-stop : {job : Job} {p i from count at counted : ℕ} → Moving job p i from count at counted
     → le (offer job (suc p) at i) (tableValue job p at) ≡ true → Advanced job p i from count at counted
-moving-stop {job} {p} {i} {from} {count} {at} w e = record { arrived = crossing-here job p i at (w .to) e; carried = w .carried }
+moving-stop {job} {p} {i} {from} {count} {at} w e = record { arrived = crossing-here job p i at (omega (arith, start-first job (suc p) i)) (w .to) e; carried = w .carried }
 
 -- A row that is being written from o on, with i entries so far.
 pub record Writing (job : Job) (xs ys : List ℕ) (o q i : ℕ) : Type 0 where

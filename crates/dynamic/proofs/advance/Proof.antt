@@ -9,10 +9,10 @@ use Rattle.chain.specs.Job.{Job, jobOf, offer}
 use Rattle.chain.specs.Dynamic.{tableValue}
 use Rattle.chain.proofs.Parts.{valid-proper}
 use Rattle.chain.proofs.Ranges.{offer-small, small-products}
-use Rattle.chain.proofs.Table.{crossing-le}
+use Rattle.chain.proofs.Table.{stops, crossing-le}
 use Rattle.chain.proofs.Within.{offer-part}
 use Rattle.parts.proofs.Laws.{prefix-to, speed-bound}
-use Rattle.dynamic.proofs.Crossing.{table-small, stops, tested, small-same}
+use Rattle.dynamic.proofs.Crossing.{table-small, tested, small-same}
 use Rattle.dynamic.proofs.Laws.{Moving, moving-start, moving-before, moving-turn, moving-stop}
 use Rattle.dynamic.proofs.advance.Statement.{statement}
 use Rattle.dynamic.proofs.advance.Tie as tie

@@ -1,6 +1,6 @@
 -- `value_at` meets its contract: it takes the lesser of the two candidates, each by the greater of its two bounds.
 -- Assumes nothing.
-use Prim.Native.Nat.{suc, _-_, _≤_}
+use Prim.Native.Nat.{ℕ, suc, _-_, _≤_}
 use mathlib.Core.Path.{_≡_, sym, ap, ap₂, _∙_}
 use native.Mathlib.Omega.{arith}
 use Rattle.bound.specs.Order.{lesser}
@@ -8,10 +8,10 @@ use Rattle.chain.specs.Job.{Job, jobOf, offer}
 use Rattle.chain.specs.Dynamic.{tableValue}
 use Rattle.chain.proofs.Ranges.{offer-small, small-products}
 use Rattle.chain.proofs.Parts.{valid-proper}
-use Rattle.chain.proofs.Table.{crossing-le}
+use Rattle.chain.proofs.Table.{start-first, crossing-le, value-first, value-later}
 use Rattle.chain.proofs.Within.{offer-part}
 use Rattle.parts.proofs.Laws.{prefix-to, speed-bound}
-use Rattle.dynamic.proofs.Crossing.{table-small, small-same, value-first, value-here}
+use Rattle.dynamic.proofs.Crossing.{table-small, small-same}
 use borrow.Author.Needs.{needs}
 use Rattle.dynamic.proofs.value_at.Statement.{statement}
 use Rattle.dynamic.proofs.value_at.Tie as tie
@@ -36,7 +36,8 @@ returns : tie.Need-returns
 returns c =
     let s = c .before .before .before .before .before in
     let job : Job = jobOf (s .args .speeds .now) (s .args .weights .now) in
-    here-is (c .before) ∙ ap (tableValue job (s .args .p)) (c .if1 .taken) ∙ value-first job (s .args .p) (s .args .i) (sym (s .pre .1 .1 .1) ∙ c .if1 .taken)
+    here-is (c .before) ∙ ap (tableValue job (s .args .p)) (s .pre .1 .1 .1)
+    ∙ sym (value-first job (s .args .p) (s .args .i) (omega (arith, s .pre .1 .1 .1, c .if1 .taken)))
 
 sub-part-bound : tie.Need-sub-part-bound
 sub-part-bound c = search needs
@@ -71,7 +72,8 @@ returns-2 : tie.Need-returns-2
 returns-2 c =
     let s = start (c .before) in
     c .lesser .ensures ∙ ap₂ lesser (here-is (c .before .before .before)) (part-is (c .before))
-    ∙ sym (value-here (job (c .before)) (s .args .p) (s .args .i) (s .args .at) (s .pre .1 .1 .1) (c .before .before .if1 .left))
+    ∙ ap (λ (k : ℕ). lesser (tableValue (job (c .before)) (s .args .p) k) (offer (job (c .before)) (suc (s .args .p)) (k - 1) (s .args .i))) (s .pre .1 .1 .1)
+    ∙ sym (value-later (job (c .before)) (s .args .p) (s .args .i) (omega (arith, start-first (job (c .before)) (suc (s .args .p)) (s .args .i), s .pre .1 .1 .1, c .before .before .if1 .left)))
 
 pub value-at-spec : {M : Type 1} → statement M
 value-at-spec =
