@@ -19,7 +19,7 @@ use Rattle.chain.proofs.Parts.{Proper, separator-below}
 use Rattle.chain.proofs.Bottleneck.{processors-last, bottleneck-real, bottleneck-le, le-bottleneck}
 use Rattle.chain.proofs.Walk.{walk-partition, walk-within, walk-at, walk-end, walk-alike, bottleneck-fits, partition-covers, furthest}
 
--- A bound that fits, and is at most every bound that fits.
+-- A number that fits, and is at most every bound that fits.
 pub record Least (job : Job) (B : Bound) : Type 0 where
   pub finite : Finite B
   pub fitting : T (fits job B)

@@ -16,7 +16,7 @@ use Rattle.chain.specs.Bidding.{bidding}
 use Rattle.chain.specs.Plan.{allowance}
 use Rattle.chain.specs.declared.Method.the-variants.{Bidding}
 use Rattle.chain.proofs.Sums.{sum-mono-at, sum-below}
-use Rattle.chain.proofs.Parts.{Plannable}
+use Rattle.chain.proofs.Parts.{Proper, Plannable}
 use Rattle.chain.proofs.Within.{within-of, within-shrink, offer-within}
 use Rattle.chain.proofs.Indices.{first-holds, first-fails, first-exists}
 use Rattle.chain.proofs.Walk.{separator-to, separator-grows, separator-past, growing, walk-partition, walk-within, last-fits, fails-finite}
@@ -24,11 +24,15 @@ use Rattle.chain.proofs.NextBid.{bid-before, bid-last, next-cases, fail
 use Rattle.chain.proofs.Best.{Least}
 use Rattle.chain.proofs.Ideal.{ideal-finite, ideal-single, ideal-within}
 
-module _ {job : Job} (can : Plannable job) where
-  -- The ideal is at most every bound that fits.
-  pub ideal-below : (C : Bound) → T (fits job C) → ideal job ≼ C
-  ideal-below C t = ideal-within (can .proper) (walk-partition (can .proper) C t) (walk-within job C t)
+-- The ideal is at most every bound that fits.
+pub ideal-below : {job : Job} → Proper job → (C : Bound) → T (fits job C) → ideal job ≼ C
+ideal-below {job} ok C t = ideal-within ok (walk-partition ok C t) (walk-within job C t)
 
+-- The sum of the separators of the walk, s1 to s(P − 1).
+unfoldable pub advance : Job → Bound → ℕ
+advance job B = sumTo (λ p. separator job B (suc p)) (last job)
+
+module _ {job : Job} (can : Plannable job) where
   abbrev Failing : ℕ → Type 0
   Failing k = (j : ℕ) → j < k → T (not (fits job (bidding job j)))
 
@@ -40,7 +44,7 @@ module _ {job : Job} (can : Plannable job) where
 
   pub bidding-below : (k : ℕ) → Failing k → (C : Bound) → T (fits job C) → bidding job k ≼ C
   unfolding bidding
-  bidding-below zero h C t = ideal-below C t
+  bidding-below zero h C t = ideal-below (can .proper) C t
   bidding-below (suc k) h C t = next-least (can .proper) (bidding job k) C (h k (omega arith)) t
 
   -- Bidding ends at the least bound that fits.
@@ -52,12 +56,8 @@ module _ {job : Job} (can : Plannable job) where
         least = bidding-below k (first-fails (λ j. fits job (bidding job j)) k t);
       }
 
-  -- The sum of the separators of the walk, s1 to s(P − 1).
-  unfoldable pub advance : Bound → ℕ
-  advance B = sumTo (λ p. separator job B (suc p)) (last job)
-
   -- Where a bid and the trial at it both fail, the walk is further on.
-  pub next-advances : (B : Bound) → T (not (fits job B)) → T (not (fits job (nextBid job B))) → advance B < advance (nextBid job B)
+  pub next-advances : (B : Bound) → T (not (fits job B)) → T (not (fits job (nextBid job B))) → advance job B < advance job (nextBid job B)
   unfolding advance
   next-advances B t u = go (nextBid job B) (next-finite can B t) (next-above can B t) u taken
     where
@@ -107,7 +107,7 @@ module _ {job : Job} (can : Plannable job) where
       (subst (λ (q : ℕ). T (within job q (separator job (ideal job) q) (tasks job) (ideal job))) (sym e)
       (within-of job 0 0 (tasks job) (ideal-single (can .proper) e)))
 
-  pub advance-counts : (k : ℕ) → Failing (suc k) → k ≤ advance (bidding job k)
+  pub advance-counts : (k : ℕ) → Failing (suc k) → k ≤ advance job (bidding job k)
   unfolding bidding
   advance-counts zero h = omega arith
   advance-counts (suc k) h =
@@ -122,7 +122,7 @@ module _ {job : Job} (can : Plannable job) where
   unfolding advance bidding
   failures-below k h = go (last job) refl
     where
-      room : advance (bidding job k) + last job ≤ last job * tasks job
+      room : advance job (bidding job k) + last job ≤ last job * tasks job
       room =
           sum-below (λ p. separator job (bidding job k) (suc p)) (tasks job) (last job)
           (λ p l. fails-before-end job (bidding job k) (h k (omega arith)) (suc p) l)

@@ -106,6 +106,19 @@ pub first-allowed : (job : Job) → 1 ≤ allowance Bisection job
 unfolding allowance
 first-allowed job = omega arith
 
+-- The ends never cross.
+pub low-high : {job : Job} {n : ℕ} {E : Ends} → Bracket job n E → E .low ≼ E .high
+low-high {job} {n} {E} b = b .low-below (E .high) (b .high-fits)
+
+-- Ends that do not meet are apart.
+pub apart : {job : Job} {n : ℕ} {E : Ends} → Bracket job n E → T (not (meet E)) → E .low ≺ E .high
+unfolding meet
+apart {job} {n} {E} b t = record { fails = and-fails (le (E .low) (E .high)) (le (E .high) (E .low)) (low-high b .holds) t }
+
+pub met : {E : Ends} → T (meet E) → E .high ≼ E .low
+unfolding meet
+met {E} t = record { holds = and-right (le (E .low) (E .high)) (le (E .high) (E .low)) t }
+
 module _ {job : Job} (can : Plannable job) where
   pub next-speed : (B : Bound) → T (not (fits job B)) → OfProcessor job (nextBid job B)
   next-speed B t =
@@ -115,10 +128,6 @@ module _ {job : Job} (can : Plannable job) where
             next-cases job B (λ C. C .speed ≤ fastest job)
             (λ p h. bid-cases job B (λ C. C .speed ≤ fastest job) p (λ a b. offer-limited job p a b (omega (arith, can .proper .some))));
       }
-
-  -- The ends never cross.
-  pub low-high : {n : ℕ} {E : Ends} → Bracket job n E → E .low ≼ E .high
-  low-high {n} {E} b = b .low-below (E .high) (b .high-fits)
 
   -- The high end begins within the width of the ideal.
   pub first-close : firstEnds job .high ≼ plus (ideal job) (width job)
@@ -179,15 +188,6 @@ module _ {job : Job} (can : Plannable job) where
   bracket-after t (suc k) =
       subst (λ (n : ℕ). Bracket job n (nextEnds job (ends job k))) (let e : 2 * 2 ^ k ≡ 2 ^ suc k = omega arith in e)
       (bracket-turn (bracket-after t k))
-
-  -- Ends that do not meet are apart.
-  pub apart : {n : ℕ} {E : Ends} → Bracket job n E → T (not (meet E)) → E .low ≺ E .high
-  unfolding meet
-  apart {n} {E} b t = record { fails = and-fails (le (E .low) (E .high)) (le (E .high) (E .low)) (low-high b .holds) t }
-
-  pub met : {E : Ends} → T (meet E) → E .high ≼ E .low
-  unfolding meet
-  met {E} t = record { holds = and-right (le (E .low) (E .high)) (le (E .high) (E .low)) t }
 
   -- Round k + 1 is made only where 2ᵏ is at most D, so k is below digits(D).
   pub rounds-below : T (not (fits job (ideal job))) → (k : ℕ) → T (not (meet (ends job k))) → k < digits (difference job)

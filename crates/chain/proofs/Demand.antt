@@ -29,6 +29,19 @@ use Rattle.chain.proofs.Bidding.{ideal-below, bidding-least, bidding-al
 use Rattle.chain.proofs.Bisection.{first-allowed, bisection-least, bisection-allowed, bisection-ends}
 use Rattle.chain.proofs.Enumeration.{least-is-least, least-attained}
 
+-- The count of a method is one number.
+pub method-counts : (job : Job) (m : Method) (n k : ℕ) (B C : Bound) → MethodEnds m job n B → MethodEnds m job k C → n ≡ k
+method-counts job Table n k B C x y = x .counted ∙ sym (y .counted)
+method-counts job Bidding n k B C x y =
+    x .counted ∙ ap suc (first-unique (λ j. fits job (bidding job j)) (x .failures) (y .failures) (x .first-fit) (y .first-fit)) ∙ sym (y .counted)
+method-counts job Bisection n k B C x y = same x y
+  where
+    same : {n k : ℕ} {B C : Bound} → BisectionEnds job n B → BisectionEnds job k C → n ≡ k
+    same (at-once t c e) (at-once u d f) = c ∙ sym d
+    same (at-once t c e) (after k u g d f) = absurd (T-not (fits job (ideal job)) u t)
+    same (after k t g c e) (at-once u d f) = absurd (T-not (fits job (ideal job)) t u)
+    same (after k t g c e) (after l u h d f) = c ∙ ap suc (first-unique (λ j. meet (ends job j)) k l g h) ∙ sym d
+
 module _ {job : Job} (can : Plannable job) where
   -- The least bottleneck of all partitions is the least bound that fits.
   pub least-bottleneck : Least job (leastBottleneck job)
@@ -66,7 +79,7 @@ module _ {job : Job} (can : Plannable job) where
 
   -- Where the trial at the ideal fits, the ideal is the least bound.
   pub ideal-least-bound : T (fits job (ideal job)) → Least job (ideal job)
-  ideal-least-bound t = record { finite = ideal-finite (can .proper); fitting = t; least = λ C u. ideal-below can C u }
+  ideal-least-bound t = record { finite = ideal-finite (can .proper); fitting = t; least = λ C u. ideal-below (can .proper) C u }
 
   -- Every method ends at the least bound that fits.
   pub method-least : (m : Method) (n : ℕ) (B : Bound) → MethodEnds m job n B → Least job B
@@ -110,19 +123,6 @@ module _ {job : Job} (can : Plannable job) where
           let t : T (not (fits job (ideal job))) = T-not-of e in
           let r = bisection-ends can t in
           (suc (r .0), ends job (r .0) .low, after (r .0) t (r .2) refl refl)
-
-  -- The count of a method is one number.
-  pub method-counts : (m : Method) (n k : ℕ) (B C : Bound) → MethodEnds m job n B → MethodEnds m job k C → n ≡ k
-  method-counts Table n k B C x y = x .counted ∙ sym (y .counted)
-  method-counts Bidding n k B C x y =
-      x .counted ∙ ap suc (first-unique (λ j. fits job (bidding job j)) (x .failures) (y .failures) (x .first-fit) (y .first-fit)) ∙ sym (y .counted)
-  method-counts Bisection n k B C x y = same x y
-    where
-      same : {n k : ℕ} {B C : Bound} → BisectionEnds job n B → BisectionEnds job k C → n ≡ k
-      same (at-once t c e) (at-once u d f) = c ∙ sym d
-      same (at-once t c e) (after k u g d f) = absurd (T-not (fits job (ideal job)) u t)
-      same (after k t g c e) (at-once u d f) = absurd (T-not (fits job (ideal job)) t u)
-      same (after k t g c e) (after l u h d f) = c ∙ ap suc (first-unique (λ j. meet (ends job j)) k l g h) ∙ sym d
 
   -- Every plan has the separators of the definition, which is the best partition.
   pub plan-separators : (m : Method) {plan : Plan} → PlanBy m job plan → plan .separators ≡ planOf job
