@@ -8,15 +8,16 @@ use native.Mathlib.Numerals.{add-one}
 use lib.Dec.{T, lit<}
 use Rattle.bound.specs.declared.Bound.{Bound}
 use Rattle.chain.specs.Ranges.{Lendable}
-use Rattle.chain.specs.Job.{Job, Valid, tasks, last, ideal}
+use Rattle.chain.specs.Job.{Job, Valid, ideal}
 use Rattle.chain.specs.Probe.{fits, nextBid}
 use Rattle.chain.specs.Bidding.{bidding}
-use Rattle.chain.specs.Plan.{BiddingEnds}
+use Rattle.chain.specs.declared.Method.the-variants.{Bidding}
+use Rattle.chain.specs.Plan.{BiddingEnds, allowance}
 use Rattle.chain.proofs.Parts.{valid-plannable}
-use Rattle.chain.proofs.Indices.{first-of}
-use Rattle.chain.proofs.Bidding.{failures-below}
+use Rattle.chain.proofs.Indices.{first-of, below-next}
+use Rattle.chain.proofs.Bidding.{failures-allowed}
 use Rattle.chain.proofs.Ranges.{small-lendable, ideal-lendable, next-bid-small}
-use Rattle.chain.proofs.Counts.{below-next, count-fits}
+use Rattle.chain.proofs.Counts.{allowance-fits}
 
 -- Bidding after k failures: the bound to try next, and the count of failures.
 pub record Bidden (job : Job) (bound : Bound) (count : ℕ) : Type 0 where
@@ -29,17 +30,17 @@ unfolding bidding
 bidden-start {job} v e =
     record { is = e; failed = λ j h. absurd (let z : ⊥ = omega arith in z); lendable = subst Lendable (sym e) (ideal-lendable v) }
 
--- One more failure is below (P − 1) · N.
-pub bidden-room : {job : Job} {bound : Bound} {count : ℕ} → Valid job → Bidden job bound count → T (not (fits job bound)) → count < last job * tasks job
+-- After one more failure there is still room for a trial.
+pub bidden-room : {job : Job} {bound : Bound} {count : ℕ} → Valid job → Bidden job bound count → T (not (fits job bound)) → suc count < allowance Bidding job
 bidden-room {job} {bound} {count} v b t =
-    failures-below (valid-plannable v) count
+    failures-allowed (valid-plannable v) count
     (below-next {Q = λ j. T (not (fits job (bidding job j)))} (b .failed) (subst (λ (B : Bound). T (not (fits job B))) (b .is) t))
 
--- The count of failures is at most (P − 1) · N, so that one more fits 32 bits.
+-- So the count of trials fits 32 bits.
 pub bidden-fits : {job : Job} {bound : Bound} (count : ℕ) → Valid job → Bidden job bound count → count + 1 < 2 ^ 32
 bidden-fits {job} zero v b = lit< tt
 bidden-fits {job} (suc k) v b =
-    omega (arith, failures-below (valid-plannable v) k (b .failed), count-fits v)
+    omega (arith, failures-allowed (valid-plannable v) k (b .failed), allowance-fits v .1)
 
 pub bidden-next : {job : Job} {bound : Bound} {count : ℕ} (new : Bound) → Valid job → Bidden job bound count → T (not (fits job bound)) → new ≡ nextBid job bound
     → Bidden job new (count + 1)

@@ -18,25 +18,17 @@ use Rattle.chain.specs.Heuristic.{heuristic}
 use Rattle.chain.specs.Bisection.{firstEnds, nextEnds, ends, meet}
 use Rattle.chain.specs.Plan.{BisectionEnds, at-once, after, difference}
 use Rattle.chain.proofs.Parts.{valid-plannable}
-use Rattle.chain.proofs.Indices.{first-of}
+use Rattle.chain.proofs.Indices.{first-of, below-next}
 use Rattle.chain.proofs.Bisection.{bracket-after, low-high, rounds-below}
 use Rattle.chain.proofs.Ranges.{bottleneck-small, next-bid-small}
-use Rattle.chain.proofs.Counts.{below-next, digits-fit}
-
--- A test that passes, and one that fails.
-passes : (t : Bool) → T t → t ≡ true
-passes true x = refl
-passes false x = absurd x
-
-rejects : (t : Bool) → T (not t) → t ≡ false
-rejects true x = absurd x
-rejects false x = refl
+use Rattle.chain.proofs.Tests.{T-true, T-false}
+use Rattle.chain.proofs.Counts.{digits-fit}
 
 -- A round where the trial at the middle fits, and one where it fails.
 pub ends-fits : (job : Job) (E : Ends) → T (fits job (middle (E .low) (E .high)))
     → nextEnds job E ≡ record { low = E .low; high = bottleneck job (walk job (middle (E .low) (E .high))) }
 unfolding nextEnds
-ends-fits job E t = ap turn (passes (fits job (middle (E .low) (E .high))) t)
+ends-fits job E t = ap turn (T-true (fits job (middle (E .low) (E .high))) t)
   where
     turn : Bool → Ends
     turn x =
@@ -48,7 +40,7 @@ ends-fits job E t = ap turn (passes (fits job (middle (E .low) (E .high))) t)
 pub ends-fails : (job : Job) (E : Ends) → T (not (fits job (middle (E .low) (E .high))))
     → nextEnds job E ≡ record { low = nextBid job (middle (E .low) (E .high)); high = E .high }
 unfolding nextEnds
-ends-fails job E t = ap turn (rejects (fits job (middle (E .low) (E .high))) t)
+ends-fails job E t = ap turn (T-false (fits job (middle (E .low) (E .high))) t)
   where
     turn : Bool → Ends
     turn x =
@@ -101,7 +93,7 @@ module _ {job : Job} (v : Valid job) {low high : Bound} {k : ℕ} (w : Halved jo
   unfolding meet
   meets =
       ap (λ (t : Bool). t && le ((ends job k) .high) ((ends job k) .low))
-      (le-true (low-high (valid-plannable v) (bracket-after (valid-plannable v) (w .failed) k)))
+      (le-true (low-high (bracket-after (valid-plannable v) (w .failed) k)))
       ∙ ap₂ le (sym (w .high-is)) (sym (w .low-is))
 
   not-met : le high low ≡ false → T (not (meet (ends job k)))

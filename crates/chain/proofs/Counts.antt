@@ -1,31 +1,27 @@
 -- The counts of the methods, and the numbers of their allowances, fit what the code keeps them in.
 -- Assumes nothing.
-use Prim.Native.Nat.{ℕ, suc, _+_, _-_, _*_, _^_, _≤_, _<_}
-use mathlib.Core.Path.{_≡_, subst}
+use Prim.Native.Nat.{_+_, _-_, _*_, _^_, _≤_, _<_}
 use native.Mathlib.Omega.{arith}
-use native.Mathlib.Decide.{decLe}
 use native.Mathlib.Nat.{mul-le-mul, lt-of-le-of-lt, div-le-self, le-trans as ≤-trans}
 use lib.Dec.{lit<}
 use Rattle.chain.specs.Limits.{maxProcessors, maxTasks}
 use Rattle.chain.specs.Lists.{digits}
 use Rattle.chain.specs.Job.{Job, Valid, tasks, processors, last, heaviest, fastest, slowest}
-use Rattle.chain.specs.Plan.{difference}
+use Rattle.chain.specs.declared.Method.the-variants.{Table, Bidding}
+use Rattle.chain.specs.Plan.{difference, allowance}
 use Rattle.chain.proofs.Digits.{digits-below}
 use Rattle.chain.proofs.Ranges.{fastest-limit, speeds-fit, difference-product}
-
--- What holds at each index below k and at k holds below k + 1.
-pub below-next : {Q : ℕ → Type 0} {k : ℕ} → ((j : ℕ) → j < k → Q j) → Q k → (j : ℕ) → j < suc k → Q j
-below-next {Q} {k} h x j l = elim (decLe (suc j) k) [ yes m ↦ h j m | no m ↦ subst Q (let e : k ≡ j = omega arith in e) x ]
 
 -- The counts of moves and trials fit 32 bits.
 counts-fit : maxProcessors * maxTasks + 1 < 2 ^ 32
 unfolding maxProcessors maxTasks
 counts-fit = lit< tt
 
-pub count-fits : {job : Job} → Valid job → last job * tasks job + 1 < 2 ^ 32
-count-fits {job} v =
+pub allowance-fits : {job : Job} → Valid job → (allowance Table job < 2 ^ 32) × (allowance Bidding job < 2 ^ 32)
+unfolding allowance
+allowance-fits {job} v =
     let x : last job * tasks job ≤ maxProcessors * maxTasks = mul-le-mul (≤-trans {n = last job} {m = processors job} (omega arith) (v .processors-limit)) (v .tasks-limit) in
-    omega (arith, counts-fit)
+    (omega (arith, counts-fit), omega (arith, counts-fit))
 
 -- The square of the fastest speed fits 64 bits.
 pub square-fits : {job : Job} → Valid job → fastest job * fastest job < 2 ^ 64

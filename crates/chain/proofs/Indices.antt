@@ -166,3 +166,7 @@ first-exists f d h = go (smallestFrom f 0 d) (smallest-is f 0 d)
                   | inl x ↦ subst (λ (i : ℕ). T (not (f i))) (let z : r ≡ j = omega arith in z) (T-not-of e)
                   | inr x ↦ absurd (T-not (f r) (T-not-of e) (T-of x))
                 ]
+
+-- What holds at each index below k and at k holds below k + 1.
+pub below-next : {Q : ℕ → Type 0} {k : ℕ} → ((j : ℕ) → j < k → Q j) → Q k → (j : ℕ) → j < suc k → Q j
+below-next {Q} {k} h x j l = elim (decLe (suc j) k) [ yes m ↦ h j m | no m ↦ subst Q (let e : k ≡ j = omega arith in e) x ]

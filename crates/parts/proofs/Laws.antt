@@ -16,21 +16,16 @@ use Rattle.chain.specs.Job.{Job, Valid, tasks, processors, speedOf, partOf, par
 use Rattle.chain.proofs.Sums.{sum-take, sum-is-sumTo, sum-grows}
 use Rattle.chain.proofs.Parts.{weight-split, weight-le-total, load-weight}
 use Rattle.chain.proofs.Indices.{length-tabulate, at-tabulate}
+use Rattle.chain.proofs.Extremes.{same-default}
 use Rattle.chain.proofs.Ranges.{total-weight-limit, total-speed-limit, total-speed-fits, loads-fit}
 use Rattle.parts.specs.Prefix.{prefixes, loadBetween, Prefix, Ready}
 use Rattle.parts.specs.Rising.{Rising}
 use Rattle.parts.proofs.Front.{Front, front-store, front-end}
 
--- An entry of a list, whatever is read past the end.
-pub entry-is : (xs : List ℕ) (i d e : ℕ) → i < length xs → getD xs i d ≡ getD xs i e
-entry-is [] i d e h = absurd (let z : ⊥ = omega arith in z)
-entry-is (x ∷ xs) zero d e h = refl
-entry-is (x ∷ xs) (suc i) d e h = entry-is xs i d e (omega arith)
-
 -- The speed of a processor is read off the list of speeds.
 pub speed-read : (job : Job) (p : ℕ) → p < processors job → getD (job .speeds) p 0 ≡ speedOf job p
 unfolding speedOf
-speed-read job p h = entry-is (job .speeds) p 0 1 h
+speed-read job p h = same-default (job .speeds) p 0 1 h
 
 module _ {job : Job} {xs : List ℕ} (r : Prefix job xs) where
   -- Prefix sums grow, and their difference is the weight of the part between, which is its load.

@@ -14,13 +14,13 @@ use Rattle.chain.specs.declared.Method.the-variants.{Table, Bidding, Bisection}
 use Rattle.chain.specs.Lists.{greatestOf, leastOf, digits}
 use Rattle.chain.specs.Job.{Job, tasks, last, slowestOf}
 use Rattle.chain.specs.Plan.{difference, allowance}
+use Rattle.chain.proofs.Indices.{below-next}
 use Rattle.chain.proofs.Digits.{digits-leading}
-use Rattle.chain.proofs.Extremes.{greatest-of-le, greatest-cases, slowest-le}
-use Rattle.parts.proofs.Laws.{entry-is}
+use Rattle.chain.proofs.Extremes.{same-default, greatest-of-le, greatest-cases, slowest-le}
 
--- What holds at each index below i and at i holds below i + 1.
-pub more : {Q : ℕ → Type 0} {i : ℕ} → ((k : ℕ) → k < i → Q k) → Q i → (k : ℕ) → k < i + 1 → Q k
-more {Q} {i} h x k l = elim (decLe (suc k) i) [ yes m ↦ h k m | no m ↦ subst Q (let e : i ≡ k = omega arith in e) x ]
+-- The same as code counts.
+more : {Q : ℕ → Type 0} {i : ℕ} → ((k : ℕ) → k < i → Q k) → Q i → (k : ℕ) → k < i + 1 → Q k
+more {Q} h x k l = below-next {Q = Q} h x k (omega arith)
 
 -- The greatest so far: at least each entry passed, at most the greatest of all.
 pub record Most (xs : List ℕ) (i m : ℕ) : Type 0 where
@@ -69,7 +69,7 @@ pub record Fewest (xs : List ℕ) (i m : ℕ) : Type 0 where
   pub below : (k : ℕ) → k < i → m ≤ getD xs k 0
 
 slowest-at : (xs : List ℕ) (i : ℕ) → i < length xs → slowestOf xs ≤ getD xs i 0
-slowest-at xs i h = subst (λ (n : ℕ). slowestOf xs ≤ n) (entry-is xs i 1 0 h) (slowest-le xs i h)
+slowest-at xs i h = subst (λ (n : ℕ). slowestOf xs ≤ n) (same-default xs i 1 0 h) (slowest-le xs i h)
 
 pub fewest-start : (xs : List ℕ) → 0 < length xs → Fewest xs 1 (getD xs 0 0)
 fewest-start xs h =

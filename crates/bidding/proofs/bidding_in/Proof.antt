@@ -1,11 +1,13 @@
 -- `bidding_in` meets its contract: the loop keeps `Bidden`.
 -- Assumes nothing.
-use Prim.Native.Nat.{suc, _-_, _*_}
+use Prim.Native.Nat.{suc, _-_}
 use mathlib.Core.Path.{sym, _∙_}
 use native.Mathlib.Omega.{arith}
 use borrow.Author.Needs.{needs}
 use lib.ListN.{length}
-use Rattle.chain.specs.Job.{Job, jobOf, last}
+use Rattle.chain.specs.declared.Method.the-variants.{Bidding}
+use Rattle.chain.specs.Plan.{allowance}
+use Rattle.chain.specs.Job.{Job, jobOf}
 use Rattle.chain.specs.Probe.{walk}
 use Rattle.parts.specs.Kept.{KeptFrom}
 use Rattle.parts.proofs.Front.{kept-start, kept-written, kept-is}
@@ -22,7 +24,7 @@ Inv-loop speeds weights sums separators₀ bound₀ point₀ failures₀ separat
     Bidden (jobOf speeds weights) bound failures × (KeptFrom (suc (length speeds)) separators₀ separators × Reached (jobOf speeds weights) bound separators point)
 
 abbrev μ-loop : tie.MeasureT-loop
-μ-loop speeds weights sums separators₀ bound₀ point₀ failures₀ separators bound point failures = last (jobOf speeds weights) * length weights - failures
+μ-loop speeds weights sums separators₀ bound₀ point₀ failures₀ separators bound point failures = allowance Bidding (jobOf speeds weights) - failures
 
 ideal-of-requires : tie.Need-ideal-of-requires Inv-loop μ-loop
 ideal-of-requires c κs = search needs
