@@ -4,17 +4,14 @@ use Prim.Native.Nat.{_-_}
 use mathlib.Core.Path.{_≡_, refl}
 use native.Mathlib.Omega.{arith}
 use lib.ListN.{length}
-use Rattle.jobs_run.proofs.fill.Statement.{statement}
-use Rattle.jobs_run.proofs.fill.Tie as tie
-use Rattle.jobs_run.proofs.fill.Reads as reads
-use Rattle.jobs_run.proofs.fill.Lts as lts
-use Rattle.jobs_run.proofs.put.Reads as put-reads
+use Rattle.test_run.proofs.fill.Statement.{statement}
+use Rattle.test_run.proofs.fill.Tie as tie
 
 abbrev Inv-loop : tie.InvT-loop
-Inv-loop file₀ from to kind value i₀ file i = length file ≡ length file₀
+Inv-loop kind value from to file₀ i₀ file i = length file ≡ length file₀
 
 abbrev μ-loop : tie.MeasureT-loop
-μ-loop file₀ from to kind value i₀ file i = to - i
+μ-loop kind value from to file₀ i₀ file i = to - i
 
 loop-holds : tie.Need-loop-holds Inv-loop μ-loop
 loop-holds c = refl
