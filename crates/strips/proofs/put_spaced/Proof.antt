@@ -1,10 +1,10 @@
--- `put_field` meets its contract.
+-- `put_spaced` meets its contract.
 -- Assumes nothing.
 use native.Mathlib.Omega.{arith}
 use lib.ListN.{length-set}
 use borrow.Author.Needs.{needs}
-use Rattle.strips.proofs.put_field.Statement.{statement}
-use Rattle.strips.proofs.put_field.Tie as tie
+use Rattle.strips.proofs.put_spaced.Statement.{statement}
+use Rattle.strips.proofs.put_spaced.Tie as tie
 
 slice-write-out : tie.Need-slice-write-out
 slice-write-out c = search needs
@@ -23,6 +23,6 @@ same-length c =
 returns : tie.Need-returns
 returns c = search needs
 
-pub put-field-spec : {M : Type 1} → statement M
-put-field-spec =
+pub put-spaced-spec : {M : Type 1} → statement M
+put-spaced-spec =
     tie.close (tie.spec slice-write-out add-put-number put-number-requires same-length returns)

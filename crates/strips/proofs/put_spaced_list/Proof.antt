@@ -1,14 +1,15 @@
--- `put_fields` meets its contract: i numbers have been put, in at most 21 bytes each.
+-- `put_spaced_list` meets its contract: i numbers have been put, each in at most `spaced` bytes.
 -- Assumes nothing.
 use Prim.Native.Nat.{_+_, _*_, _-_, _≤_}
 use mathlib.Core.Path.{_≡_}
 use native.Mathlib.Omega.{arith}
 use lib.ListN.{length}
-use Rattle.strips.proofs.put_fields.Statement.{statement}
-use Rattle.strips.proofs.put_fields.Tie as tie
+use Rattle.strips.specs.Widths.{spaced}
+use Rattle.strips.proofs.put_spaced_list.Statement.{statement}
+use Rattle.strips.proofs.put_spaced_list.Tie as tie
 
 abbrev Inv-loop : tie.InvT-loop
-Inv-loop numbers at out₀ next₀ i₀ out next i = (i ≤ length numbers) × (next ≤ at + 21 * i) × (length out ≡ length out₀)
+Inv-loop numbers at out₀ next₀ i₀ out next i = (i ≤ length numbers) × (next ≤ at + spaced * i) × (length out ≡ length out₀)
 
 abbrev μ-loop : tie.MeasureT-loop
 μ-loop numbers at out₀ next₀ i₀ out next i = length numbers - i
@@ -25,8 +26,8 @@ shared-slice-read-wide c = omega arith
 wide-requires : tie.Need-wide-requires Inv-loop μ-loop
 wide-requires c κs = omega arith
 
-put-field-requires : tie.Need-put-field-requires Inv-loop μ-loop
-put-field-requires c κs = omega arith
+put-spaced-requires : tie.Need-put-spaced-requires Inv-loop μ-loop
+put-spaced-requires c κs = omega arith
 
 add-i : tie.Need-add-i Inv-loop μ-loop
 add-i c = omega arith
@@ -43,8 +44,8 @@ same-length c = omega arith
 returns : tie.Need-returns Inv-loop μ-loop
 returns c = omega arith
 
-pub put-fields-spec : {M : Type 1} → statement M
-put-fields-spec =
+pub put-spaced-list-spec : {M : Type 1} → statement M
+put-spaced-list-spec =
     tie.close
     (tie.spec
     Inv-loop
@@ -53,7 +54,7 @@ put-fields-spec =
     mul-wide
     shared-slice-read-wide
     wide-requires
-    put-field-requires
+    put-spaced-requires
     add-i
     loop-less
     loop-again
