@@ -37,13 +37,14 @@ extern "C" {
  * Returns 0, or the number of the refusal; a refusal changes nothing. They are tested in this order:
  *    1  the method is not 1 to 3
  *    2  the file's length is not a multiple of 8
- *    3  a kind other than 1 or 2, or bytes 1 to 3 not zero   } record by record from the front,
- *    4  a machine after a tile                               } in rising order within a record
- *    5  a speed out of range                                 }
- *    6  a weight out of range                                }
+ *    3  a kind other than 1 or 2, or bytes 1 to 3 of a record not zero   } record by record from the front,
+ *    4  a machine after a tile                                           } in rising order within a record
+ *    5  a speed out of range                                             }
+ *    6  a weight out of range                                            }
  *    7  no machine, or more than 256
  *    8  more than 2,048 tiles
- *    9  the plan buffer is shorter than 16 bytes a machine
+ *    9  a lent list or buffer is too short
+ *       (here the plan buffer, which needs 16 bytes a machine)
  *
  * No division of the job has a smaller bottleneck (the greatest weight / speed of a machine), and of all best divisions this is
  * the one whose separators are furthest along. The call needs no memory but some 50 KB of stack, keeps no state and may run in

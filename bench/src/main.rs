@@ -2,7 +2,8 @@
 //!     bench measure                         times, counts and imbalances as records, to standard output
 //!     bench count FAMILY N P FASTEST JOBS   calls each side once a job, for callgrind
 //!     bench shapes                          the shapes that are to be counted, one to a line
-//!     bench tables FILE...                  the tables, from records
+//!     bench summary FILE...                 the table of docs/BENCHMARKS.md, from records
+//!     bench tables FILE...                  the further tables
 mod contest;
 mod jobs;
 mod measure;
@@ -45,9 +46,10 @@ fn main() {
         Some("measure") if args.len() == 1 => measure::all(),
         Some("count") if args.len() == 6 => count(&args[1..]),
         Some("shapes") if args.len() == 1 => measure::print_shapes(),
+        Some("summary") if args.len() > 1 => tables::print_summary(&args[1..]),
         Some("tables") if args.len() > 1 => tables::print(&args[1..]),
         _ => {
-            eprintln!("usage: bench measure | count FAMILY N P FASTEST JOBS | shapes | tables FILE...");
+            eprintln!("usage: bench measure | count FAMILY N P FASTEST JOBS | shapes | summary FILE... | tables FILE...");
             std::process::exit(2);
         }
     }

@@ -1,4 +1,4 @@
-//! The tables of docs/BENCHMARKS.md, from the records of a run.
+//! The table of docs/BENCHMARKS.md and the further ones of target/benchmarks.md, from the records of a run.
 use crate::jobs::{Family, Shape};
 use crate::measure::{growth, FASTEST, GROWTH_PROCESSORS, GROWTH_TASKS, PLACEMENTS, PROCESSORS, SINGLE, TASKS};
 use crate::records::{self, Records};
@@ -108,21 +108,31 @@ fn greatest(values: &[f64]) -> f64 {
     values.iter().copied().fold(f64::MIN, f64::max)
 }
 
-/// The geometric mean and the greatest of all ratios of each table.
+fn least(values: &[f64]) -> f64 {
+    values.iter().copied().fold(f64::MAX, f64::min)
+}
+
+/// The geometric mean, the least and the greatest over the shapes of each ratio, and the greatest single pass.
 fn summary(records: &Records) {
-    println!("## In short\n");
-    println!("Over the 27 shapes below (three families, three ranges of speeds, N/P = 8, 32, 128), planner / plain Rust:\n");
-    head(&texts(&["", "time: mean", "greatest", "instructions: mean", "greatest"]));
+    println!("Planner / plain Rust over the 27 shapes; the mean is the geometric one.\n");
+    head(&texts(&["", "time: mean", "least", "greatest", "greatest single pass", "instructions: mean", "least", "greatest"]));
     for (title, planner, plain) in RATIOS {
         let mut cells = vec![title.to_string()];
         for kind in KINDS {
             let all: Vec<f64> = all_shapes().map(|shape| ratio(records, kind, planner, plain, shape)).collect();
-            cells.push(format!("{:.2}", geometric_mean(&all)));
-            cells.push(format!("{:.2}", greatest(&all)));
+            cells.extend([geometric_mean(&all), least(&all), greatest(&all)].map(|value| format!("{value:.2}")));
+            if kind == "ratio" {
+                cells.push(format!("{:.2}", greatest(&every_pass(records, plain))));
+            }
         }
         row(&cells);
     }
-    println!("\nThe mean is the geometric one.\n");
+    println!();
+}
+
+/// The ratios of times of all single passes.
+fn every_pass(records: &Records, plain: &str) -> Vec<f64> {
+    all_shapes().flat_map(|shape| records.values("ratio", plain, shape).to_vec()).collect()
 }
 
 /// Each ratio in other ways than the median of the passes: by place, by pass, and of the least times of all passes.
@@ -142,14 +152,14 @@ fn passes(records: &Records) {
             let shapes: Vec<f64> = all_shapes().map(|shape| records.get(&kind, plain, shape)).collect();
             format!("{:.2}, {:.2}", geometric_mean(&shapes), greatest(&shapes))
         }));
-        let all: Vec<f64> = all_shapes().flat_map(|shape| records.values("ratio", plain, shape).to_vec()).collect();
+        let all = every_pass(records, plain);
         cells.push(all.len().to_string());
         cells.push(format!("{:.2}", greatest(&all)));
         cells.push(all.iter().filter(|&&value| value > 1.2).count().to_string());
         let time = |side: &str, shape: Shape| records.get("time", side, shape);
-        let least: Vec<f64> = all_shapes().map(|shape| time(planner, shape) / time(plain, shape)).collect();
-        cells.push(format!("{:.2}", geometric_mean(&least)));
-        cells.push(format!("{:.2}", greatest(&least)));
+        let of_least: Vec<f64> = all_shapes().map(|shape| time(planner, shape) / time(plain, shape)).collect();
+        cells.push(format!("{:.2}", geometric_mean(&of_least)));
+        cells.push(format!("{:.2}", greatest(&of_least)));
         row(&cells);
     }
     println!();
@@ -242,9 +252,14 @@ fn growth_table(records: &Records, shapes: &[Shape]) {
     println!();
 }
 
+/// The one table of the page.
+pub fn print_summary(files: &[String]) {
+    summary(&Records::read(files));
+}
+
+/// All the others.
 pub fn print(files: &[String]) {
     let records = Records::read(files);
-    summary(&records);
     passes(&records);
     single(&records);
     ratios(&records);

@@ -1,5 +1,6 @@
 // The callable functions on a job by lists: measuring, the probe ("trial") and the heuristic ("quick plan").
-// None has a `requires`: every test is inside, and nothing lent is written before the last test has passed.
+// These three have no `requires`: their tests are inside, and nothing lent is written before the last test has passed. The inner
+// functions below them ask for what has been tested.
 ghost use Prim.Native.Nat.{suc, _+_, _≤_, _<_};
 ghost use mathlib.Core.Path.{_≡_};
 ghost use mathlib.Core.Bool.{cond};

@@ -1,4 +1,4 @@
--- Prefix sums, over which every inner function works.
+-- Prefix sums, over which the walk, the heuristic, the table and measuring work.
 use Prim.Native.Nat.{ℕ, suc, _-_, _≤_, _<_}
 use mathlib.Core.Path.{_≡_}
 use mathlib.Core.List.{List}

@@ -20,6 +20,7 @@ use Rattle.jobs.specs.Parse.{speedsOf, weightsOf, fileTests, fileRefusal}
 use Rattle.jobs.specs.Answers.{readTests, readRefusal, readAnswer, answerOf}
 use Rattle.jobs.specs.declared.JobRead.{JobRead}
 use Rattle.jobs.proofs.RoundTrip.{accepted-valid}
+use Rattle.strips.specs.Widths.{digits}
 
 -- A number of a list's entries counts them.
 pub counts : {n : ℕ} (xs : List ℕ) → n ≤ length xs → Counts n xs
@@ -32,12 +33,12 @@ take-short n xs =
       | no p ↦ simp length-take (omega arith)
     ]
 
--- A number of 64 bits has at most 20 digits.
-pub digits-few : (n k : ℕ) → Fewest 10 1 n k → n < 2 ^ 64 → k ≤ 20
+-- A number of 64 bits has at most so many digits.
+pub digits-few : (n k : ℕ) → Fewest 10 1 n k → n < 2 ^ 64 → k ≤ digits
 digits-few n k f h =
-    elim (decLe k 20) [
+    elim (decLe k digits) [
       | yes p ↦ p
-      | no p ↦ let least : 10 ^ 20 ≤ 10 ^ (k - 1) = pow-le-pow-right (lit< tt) {i = 20} {j = k - 1} (omega arith) in
+      | no p ↦ let least : 10 ^ digits ≤ 10 ^ (k - 1) = pow-le-pow-right (lit< tt) {i = digits} {j = k - 1} (omega arith) in
           let held = f .2 (omega arith) in absurd (omega arith)
     ]
 

@@ -1,11 +1,12 @@
 // The listing of a job file: it comes on standard input, and its counts and the plan of each method go to standard output, or the
 // number that it is refused with. What is planned and refused is the library's; here is what is read and how it is written out.
-ghost use Prim.Native.Nat.{_+_, _*_, _≤_};
+ghost use Prim.Native.Nat.{_+_, _*_, _≤_, _<_};
 ghost use mathlib.Core.Path.{_≡_};
 ghost use lib.ListN.{length};
 ghost use Rattle.io.specs.Counts.{Counts};
 ghost use Rattle.chain.specs.Limits.{maxProcessors, maxTasks};
 ghost use Rattle.chain.specs.Lists.{sum};
+ghost use Rattle.strips.specs.Widths.{digits, spaced, figureCount, planLine, countsLine, refusalLine, listing};
 use jobs::JobRead;
 use jobs::MAX_PROCESSORS;
 use jobs::MAX_TASKS;
@@ -22,9 +23,18 @@ const SEPARATORS: usize = MAX_PROCESSORS + 1;
 
 const SCRATCH: usize = 5 * (MAX_TASKS + 1);
 
-// Room for the longest listing: 21 bytes for each number and the space before it, 6 numbers beside the separators in each of the
-// three lines, and less than 6 in the first.
-const LISTING_BYTES: usize = 21 * (6 + 3 * (6 + SEPARATORS));
+// The most bytes that each takes. The contracts have the same sizes, with what they are made of, from specs/Widths.antt.
+const DIGITS: usize = 20;
+
+const SPACED: usize = 1 + DIGITS;
+
+const FIGURES: usize = 6;
+
+const PLAN_LINE: usize = SPACED * (FIGURES + SEPARATORS);
+
+const COUNTS_LINE: usize = 21 + 3 * SPACED;
+
+const LISTING: usize = COUNTS_LINE + 3 * PLAN_LINE;
 
 // What came on standard input: the number of bytes, and whether a read failed before the input ended.
 struct Input {
@@ -75,84 +85,92 @@ fn put_text(text: &[u8], at: usize, out: &mut [u8]) -> usize
 
 // Puts the number in decimal.
 fn put_number(n: u64, at: usize, out: &mut [u8]) -> usize
-    requires { ⌜ at + 20 ≤ length (now out) ⌝ }
-    ensures { λ r. ⌜ r ≤ at + 20 ⌝ }
+    requires { ⌜ at + digits ≤ length (now out) ⌝ }
+    ensures { λ r. ⌜ r ≤ at + digits ⌝ }
 {
-    let mut digits = [0u8; 20];
-    let k = io::decimal(n, &mut digits);
-    put_text(&digits[..k], at, out)
+    let mut text = [0u8; DIGITS];
+    let count = io::decimal(n, &mut text);
+    put_text(&text[..count], at, out)
 }
 
 // Puts a space and the number.
-fn put_field(n: u64, at: usize, out: &mut [u8]) -> usize
-    requires { ⌜ at + 21 ≤ length (now out) ⌝ }
-    ensures { λ r. ⌜ r ≤ at + 21 ⌝ }
+fn put_spaced(n: u64, at: usize, out: &mut [u8]) -> usize
+    requires { ⌜ at + spaced ≤ length (now out) ⌝ }
+    ensures { λ r. ⌜ r ≤ at + spaced ⌝ }
 {
     out[at] = b' ';
     put_number(n, at + 1, out)
 }
 
-// Puts a field for each number.
-fn put_fields(numbers: &[u32], at: usize, out: &mut [u8]) -> usize
-    requires { ⌜ at + 21 * length (now numbers) ≤ length (now out) ⌝ }
-    ensures { λ r. ⌜ r ≤ at + 21 * length (now (numbers .entry)) ⌝ }
+// Puts a space and the number, for each number of the list.
+fn put_spaced_list(numbers: &[u32], at: usize, out: &mut [u8]) -> usize
+    requires { ⌜ at + spaced * length (now numbers) ≤ length (now out) ⌝ }
+    ensures { λ r. ⌜ r ≤ at + spaced * length (now (numbers .entry)) ⌝ }
 {
     let mut next = at;
     let mut i = 0;
     while i < numbers.len() {
-        next = put_field(wide(numbers[i]), next, out);
+        next = put_spaced(wide(numbers[i]), next, out);
         i += 1;
     }
     next
 }
 
 // Puts the line of a refusal.
-fn put_refusal(number: u32, at: usize, out: &mut [u8]) -> usize
-    requires { ⌜ at + 29 ≤ length (now out) ⌝ }
-    ensures { λ r. ⌜ r ≤ at + 29 ⌝ }
+fn put_refusal_line(number: u32, at: usize, out: &mut [u8]) -> usize
+    requires { ⌜ at + refusalLine ≤ length (now out) ⌝ }
+    ensures { λ r. ⌜ r ≤ at + refusalLine ⌝ }
 {
-    let worded = put_text(b"refused", at, out);
-    let numbered = put_field(wide(number), worded, out);
-    put_text(b"\n", numbered, out)
+    let mut next = put_text(b"refused", at, out);
+    next = put_spaced(wide(number), next, out);
+    put_text(b"\n", next, out)
 }
 
 // Puts the figures of a plan: method, count, allowance, the bottleneck's load and speed, imbalance.
 fn put_figures(method: u32, figures: Figures, at: usize, out: &mut [u8]) -> usize
-    requires { ⌜ at + 125 ≤ length (now out) ⌝ }
-    ensures { λ r. ⌜ r ≤ at + 125 ⌝ }
+    requires { ⌜ at + spaced * figureCount ≤ length (now out) ⌝ }
+    ensures { λ r. ⌜ r < at + spaced * figureCount ⌝ }
 {
     let bottleneck = figures.bottleneck;
-    let named = put_number(wide(method), at, out);
-    let counted = put_field(wide(figures.count), named, out);
-    let allowed = put_field(wide(figures.allowance), counted, out);
-    let loaded = put_field(bottleneck.load, allowed, out);
-    let bounded = put_field(bottleneck.speed, loaded, out);
-    put_field(figures.imbalance, bounded, out)
+    let mut next = put_number(wide(method), at, out);
+    next = put_spaced(wide(figures.count), next, out);
+    next = put_spaced(wide(figures.allowance), next, out);
+    next = put_spaced(bottleneck.load, next, out);
+    next = put_spaced(bottleneck.speed, next, out);
+    put_spaced(figures.imbalance, next, out)
 }
 
 // Puts the line of a plan: its figures, then the separators.
-fn put_plan(method: u32, figures: Figures, separators: &[u32], at: usize, out: &mut [u8]) -> usize
-    requires { ⌜ at + 21 * (6 + length (now separators)) ≤ length (now out) ⌝ }
-    ensures { λ r. ⌜ r ≤ at + 21 * (6 + length (now (separators .entry))) ⌝ }
+fn put_plan_line(
+    method: u32,
+    figures: Figures,
+    separators: &[u32],
+    at: usize,
+    out: &mut [u8],
+) -> usize
+    requires { ⌜ at + planLine (length (now separators)) ≤ length (now out) ⌝ }
+    ensures { λ r. ⌜ r ≤ at + planLine (length (now (separators .entry))) ⌝ }
 {
-    let measured = put_figures(method, figures, at, out);
-    let separated = put_fields(separators, measured, out);
-    put_text(b"\n", separated, out)
+    let mut next = put_figures(method, figures, at, out);
+    next = put_spaced_list(separators, next, out);
+    put_text(b"\n", next, out)
 }
 
 // Plans by the method and puts its line. The job has been read, so that planning refuses nothing.
 fn list_method(method: u32, speeds: &[u32], weights: &[u32], at: usize, out: &mut [u8]) -> usize
     requires { ⌜ length (now speeds) ≤ maxProcessors ⌝ }
-    requires { ⌜ at + 21 * (7 + length (now speeds)) ≤ length (now out) ⌝ }
-    ensures { λ r. ⌜ r ≤ at + 21 * (7 + length (now (speeds .entry))) ⌝ }
+    requires { ⌜ at + planLine (length (now speeds) + 1) ≤ length (now out) ⌝ }
+    ensures { λ r. ⌜ r ≤ at + planLine (length (now (speeds .entry)) + 1) ⌝ }
 {
     let mut separators = [0u32; SEPARATORS];
     let mut scratch = [0u32; SCRATCH];
     let planned = plan(method, speeds, weights, &mut separators, &mut scratch);
     let used = speeds.len() + 1;
     match planned {
-        Planned::Accepted(figures) => put_plan(method, figures, &separators[..used], at, out),
-        Planned::Refused(number) => put_refusal(number, at, out),
+        Planned::Accepted(figures) => {
+            put_plan_line(method, figures, &separators[..used], at, out)
+        }
+        Planned::Refused(number) => put_refusal_line(number, at, out),
     }
 }
 
@@ -171,36 +189,36 @@ fn total_weight(weights: &[u32]) -> u64
 }
 
 // Puts the first line: the job's counts and its total weight.
-fn put_counts(speeds: &[u32], weights: &[u32], out: &mut [u8]) -> usize
+fn put_counts_line(speeds: &[u32], weights: &[u32], out: &mut [u8]) -> usize
     requires { ⌜ length (now weights) ≤ maxTasks ⌝ }
-    requires { ⌜ 126 ≤ length (now out) ⌝ }
-    ensures { λ r. ⌜ r ≤ 126 ⌝ }
+    requires { ⌜ countsLine ≤ length (now out) ⌝ }
+    ensures { λ r. ⌜ r ≤ countsLine ⌝ }
 {
     let total = total_weight(weights);
-    let tiles = put_text(b"tiles", 0, out);
-    let tiled = put_field(weights.len() as u64, tiles, out);
-    let machines = put_text(b" machines", tiled, out);
-    let staffed = put_field(speeds.len() as u64, machines, out);
-    let totals = put_text(b" total", staffed, out);
-    let weighed = put_field(total, totals, out);
-    put_text(b"\n", weighed, out)
+    let mut next = put_text(b"tiles", 0, out);
+    next = put_spaced(weights.len() as u64, next, out);
+    next = put_text(b" machines", next, out);
+    next = put_spaced(speeds.len() as u64, next, out);
+    next = put_text(b" total", next, out);
+    next = put_spaced(total, next, out);
+    put_text(b"\n", next, out)
 }
 
 // Puts the listing of a job that has been read.
 fn list_job(speeds: &[u32], weights: &[u32], out: &mut [u8]) -> usize
     requires { ⌜ (length (now speeds) ≤ maxProcessors) × (length (now weights) ≤ maxTasks) ⌝ }
-    requires { ⌜ 21 * (6 + 3 * (7 + maxProcessors)) ≤ length (now out) ⌝ }
-    ensures { λ r. ⌜ r ≤ 21 * (6 + 3 * (7 + maxProcessors)) ⌝ }
+    requires { ⌜ listing ≤ length (now out) ⌝ }
+    ensures { λ r. ⌜ r ≤ listing ⌝ }
 {
-    let counts = put_counts(speeds, weights, out);
-    let first = list_method(1, speeds, weights, counts, out);
-    let second = list_method(2, speeds, weights, first, out);
-    list_method(3, speeds, weights, second, out)
+    let mut next = put_counts_line(speeds, weights, out);
+    next = list_method(1, speeds, weights, next, out);
+    next = list_method(2, speeds, weights, next, out);
+    list_method(3, speeds, weights, next, out)
 }
 
 // Puts the listing of a job file, or the line of its refusal.
 fn list_file(file: &[u8], out: &mut [u8]) -> usize
-    requires { ⌜ 21 * (6 + 3 * (7 + maxProcessors)) ≤ length (now out) ⌝ }
+    requires { ⌜ listing ≤ length (now out) ⌝ }
     ensures { λ r. ⌜ Counts r (now (out .exit)) ⌝ }
 {
     let mut speeds = [0u32; MAX_PROCESSORS];
@@ -210,13 +228,13 @@ fn list_file(file: &[u8], out: &mut [u8]) -> usize
         JobRead::Read { processors, tasks } => {
             list_job(&speeds[..processors], &weights[..tasks], out)
         }
-        JobRead::Refused(number) => put_refusal(number, 0, out),
+        JobRead::Refused(number) => put_refusal_line(number, 0, out),
     }
 }
 
 // Writes the listing of what came.
 fn answer(file: &[u8]) {
-    let mut out = [0u8; LISTING_BYTES];
+    let mut out = [0u8; LISTING];
     let n = list_file(file, &mut out);
     if !io::write_all(1, &out[..n]) {
         io::write_all(2, b"strips: the listing cannot be written\n");

@@ -6,7 +6,7 @@ use crate::job::Job;
 use crate::methods::{self, Tried};
 use crate::planner::Call;
 use crate::rng::Rng;
-use crate::slow::{less, Bound};
+use crate::slow::{self, less, Bound};
 
 fn around(r: &mut Rng, exact: usize) -> Vec<usize> {
     let mut list = vec![0, exact.saturating_sub(1), exact, exact + 1, exact + 2 + r.below(9)];
@@ -108,14 +108,27 @@ fn measures(c: &mut Check, s: &Solved, e: &[u8], w: &[u8], thorough: bool) {
     }
 }
 
-/// A bound to try: of a share, next to one, the ideal, the best, or anything, now and then out of range.
+/// The next bid of the trial at the ideal, which is bidding's second bound, or the ideal where it fits.
+fn second_bound(job: &Job) -> Bound {
+    let ideal = methods::ideal(job);
+    match methods::trial(job, ideal) {
+        Tried::Fits(_) => ideal,
+        Tried::Next(next) => next,
+    }
+}
+
+/// A bound to try: nought, the ideal, its next bid, the quick plan's, the best, of a share, next to one of them, or anything, now
+/// and then out of range.
 fn bound(r: &mut Rng, s: &Solved) -> (u64, u64) {
     let (p, n) = (s.job.speeds.len(), s.job.weights.len());
     let (a, b) = (r.below(n + 1), r.below(n + 1));
     let share: Bound = (s.job.weight(a.min(b), a.max(b)), s.job.speeds[r.below(p)] as u128);
-    let near = match r.below(6) {
-        0 => methods::ideal(&s.job),
-        1 | 2 => s.bottleneck,
+    let near = match r.below(9) {
+        0 => (0, 1),
+        1 => methods::ideal(&s.job),
+        2 => second_bound(&s.job),
+        3 => slow::bottleneck(&s.job, &s.quick),
+        4 | 5 => s.bottleneck,
         _ => share,
     };
     // The same bound in other numbers, or as little off as they allow.

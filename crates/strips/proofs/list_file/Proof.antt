@@ -54,8 +54,8 @@ list-job-requires c κs =
 enum-known-read-2 : tie.Need-enum-known-read-2
 enum-known-read-2 c = search needs
 
-put-refusal-requires : tie.Need-put-refusal-requires
-put-refusal-requires c κs = search needs
+put-refusal-line-requires : tie.Need-put-refusal-line-requires
+put-refusal-line-requires c κs = search needs
 
 same-length : tie.Need-same-length
 same-length c = search needs
@@ -83,7 +83,7 @@ list-file-spec =
     slice-aggregate-list-job-2
     list-job-requires
     enum-known-read-2
-    put-refusal-requires
+    put-refusal-line-requires
     same-length
     returns
     same-length-2

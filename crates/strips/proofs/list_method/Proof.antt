@@ -29,13 +29,13 @@ array-share-prefix-separators : tie.Need-array-share-prefix-separators
 unfolding maxProcessors
 array-share-prefix-separators c = omega arith
 
-slice-aggregate-put-plan : tie.Need-slice-aggregate-put-plan
+slice-aggregate-put-plan-line : tie.Need-slice-aggregate-put-plan-line
 unfolding maxProcessors
-slice-aggregate-put-plan c = sym (length-take-le _ (c .before .before .before .before .before .before .plan .last .1 .1 .1 .0) (omega arith))
+slice-aggregate-put-plan-line c = sym (length-take-le _ (c .before .before .before .before .before .before .plan .last .1 .1 .1 .0) (omega arith))
 
-put-plan-requires : tie.Need-put-plan-requires
+put-plan-line-requires : tie.Need-put-plan-line-requires
 unfolding maxProcessors
-put-plan-requires c κs =
+put-plan-line-requires c κs =
     let n = length (c .before .before .before .before .before .before .before .before .before .before .before .before .before .args .speeds .now) + 1 in
     let t = length-take-le n (c .before .before .before .before .before .before .before .plan .last .1 .1 .1 .0) (omega arith) in
     omega arith
@@ -43,8 +43,8 @@ put-plan-requires c κs =
 enum-known-planned-2 : tie.Need-enum-known-planned-2
 enum-known-planned-2 c = search needs
 
-put-refusal-requires : tie.Need-put-refusal-requires
-put-refusal-requires c κs = search needs
+put-refusal-line-requires : tie.Need-put-refusal-line-requires
+put-refusal-line-requires c κs = search needs
 
 same-length : tie.Need-same-length
 same-length c = search needs
@@ -72,10 +72,10 @@ list-method-spec =
     add-used
     enum-known-planned
     array-share-prefix-separators
-    slice-aggregate-put-plan
-    put-plan-requires
+    slice-aggregate-put-plan-line
+    put-plan-line-requires
     enum-known-planned-2
-    put-refusal-requires
+    put-refusal-line-requires
     same-length
     returns
     same-length-2

@@ -1,4 +1,4 @@
--- `put_number` meets its contract: there are at most 20 digits.
+-- `put_number` meets its contract: a number of 64 bits has few digits.
 -- Assumes nothing.
 use native.Mathlib.Omega.{arith}
 use Rattle.strips.proofs.Laws.{digits-few}
@@ -9,8 +9,8 @@ use Rattle.strips.proofs.put_number.Tie as tie
 decimal-requires : tie.Need-decimal-requires
 decimal-requires c κs = search needs
 
-array-share-prefix-digits : tie.Need-array-share-prefix-digits
-array-share-prefix-digits c = search needs
+array-share-prefix-text : tie.Need-array-share-prefix-text
+array-share-prefix-text c = search needs
 
 slice-aggregate-put-text : tie.Need-slice-aggregate-put-text
 slice-aggregate-put-text c = search needs
@@ -35,7 +35,7 @@ put-number-spec =
     tie.close
     (tie.spec
     decimal-requires
-    array-share-prefix-digits
+    array-share-prefix-text
     slice-aggregate-put-text
     put-text-requires
     same-length
