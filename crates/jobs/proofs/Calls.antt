@@ -12,6 +12,7 @@ use borrow.Author.Tests.{le-leb, eqb-true}
 use Rattle.chain.specs.Job.{Job, tasks, processors, Valid}
 use Rattle.chain.specs.Refusal.{Test, lengthTest, processorsTest, tasksTest, firstRefusal, jobTests, callTests, refusal}
 use Rattle.chain.proofs.Refusals.{Numbered, numbered-nil, numbered-cons, numbered-append, first-refusal-append, FirstFailing, failing-refused, refused-failing, job-accepted}
+use Rattle.fields.proofs.Laws.{Bytes}
 use Rattle.jobs.specs.JobFile.{jobBytes}
 use Rattle.jobs.specs.Parse.{recordCount, multipleTest, speedsOf, weightsOf, jobIn, fileTests, fileRefusal}
 use Rattle.jobs.specs.Answers.{readNumber, readProcessors, readTasks, writtenNumber, writtenBytes, lentAfter, answerOf, readTests, readRefusal, readAnswer, readSpeeds, readWeights, bytesNeeded, writeInputs, writeRefusal, writeAnswer, writeBytes}
@@ -22,7 +23,6 @@ use Rattle.jobs.proofs.Steps.{passes, passed-all}
 use Rattle.jobs.proofs.Lent.{lent-accepted}
 use Rattle.jobs.proofs.AllRecords.{records-numbered, answer-read}
 use Rattle.jobs.proofs.Writing.{length-bytes, write-all}
-use Rattle.jobs.proofs.Bytes.{Bytes}
 use Rattle.jobs.proofs.RoundTrip.{written-back, accepted-valid, speeds-back, weights-back, bytes-accepted}
 
 -- Numbers above 0.

@@ -6,7 +6,7 @@ use lib.ListN.{length, drop}
 use lib.Dec.{eqb}
 use Rattle.chain.specs.Job.{Job, tasks, processors}
 use Rattle.chain.specs.Refusal.{Test, lengthTest, firstRefusal, Inputs, refusal}
-use Rattle.jobs.specs.JobFile.{jobBytes}
+use Rattle.jobs.specs.JobFile.{recordSize, jobBytes}
 use Rattle.jobs.specs.Parse.{speedsOf, weightsOf, fileTests}
 use Rattle.jobs.specs.declared.JobRead.{JobRead}
 use Rattle.jobs.specs.declared.JobWritten.{JobWritten}
@@ -65,7 +65,7 @@ readWeights file speeds weights = lentAfter (readRefusal file (length speeds) (l
 
 -- Writing. "9, one too short: .. 8 × (N + P) job bytes". The buffer that is lent has this length.
 abbrev pub bytesNeeded : Job → ℕ
-bytesNeeded job = 8 * (tasks job + processors job)
+bytesNeeded job = recordSize * (tasks job + processors job)
 
 abbrev pub writeInputs : Job → ℕ → Inputs
 writeInputs job lent =

@@ -9,10 +9,12 @@ ghost use Rattle.chain.specs.Limits.{maxProcessors, maxTasks};
 ghost use Rattle.chain.specs.Job.{Job, jobOf};
 ghost use Rattle.chain.specs.Refusal.{test, between, eachBetween, firstRefusal, jobTests};
 ghost use Rattle.chain.specs.Lists.{tabulate};
-ghost use Rattle.jobs.specs.JobFile.{taskKind, recordBytes, recordsBytes};
+ghost use Rattle.jobs.specs.JobFile.{recordSize, taskKind, recordBytes, recordsBytes};
 ghost use Rattle.jobs.specs.Parse.{recordCount, byteAt, kindAt, valueAt, blank, recordTests, valuesOf};
 ghost use Rattle.jobs.specs.Answers.{answerOf, readAnswer, readSpeeds, readWeights, writeAnswer, writeBytes};
 ghost use Rattle.jobs.specs.Inner.{recordsRefusal, Accepted, Reads, Writes};
+use fields::get_field;
+use fields::put_field;
 
 // The limits of a job.
 pub const MAX_TASKS: usize = 2048;
@@ -22,6 +24,15 @@ pub const MAX_WEIGHT: u32 = 1_000_000;
 pub const MAX_PROCESSORS: usize = 256;
 
 pub const MAX_SPEED: u32 = 10_000;
+
+// A record of a job file: its bytes, the byte at which its value begins, and its kinds.
+const RECORD: usize = 8;
+
+const VALUE_PLACE: usize = 4;
+
+const PROCESSOR_KIND: u8 = 1;
+
+const TASK_KIND: u8 = 2;
 
 // What reading a job file answers: the counts of processors and tasks, or the refusal's number.
 pub enum JobRead {
@@ -95,24 +106,26 @@ pub fn test_job(speeds: &[u32], weights: &[u32]) -> u32
 
 // One record of a job file at its place. Inner: the place is in the file.
 fn put_record(kind: u8, value: u32, i: usize, file: &mut [u8])
-    requires { ⌜ 8 * i + 8 ≤ length (now file) ⌝ }
-    ensures { λ _. ⌜ now (file .exit) ≡ take (8 * i) (now (file .entry)) ++ recordBytes kind value ++ drop (8 * i + 8) (now (file .entry)) ⌝ }
+    requires { ⌜ recordSize * i + recordSize ≤ length (now file) ⌝ }
+    ensures { λ _.
+        ⌜ now (file .exit)
+        ≡ take (recordSize * i) (now (file .entry)) ++ recordBytes kind value ++ drop (recordSize * i + recordSize) (now (file .entry)) ⌝ }
 {
-    let at = 8 * i;
+    let at = RECORD * i;
     file[at] = kind;
     file[at + 1] = 0;
     file[at + 2] = 0;
     file[at + 3] = 0;
-    file[at + 4] = (value % 256) as u8;
-    file[at + 5] = (value / 256 % 256) as u8;
-    file[at + 6] = (value / 65536 % 256) as u8;
-    file[at + 7] = (value / 16777216 % 256) as u8;
+    put_field(value, at + VALUE_PLACE, file);
 }
 
 // A record of this kind for each value, from record `from` on. Inner: their places are in the file.
 fn put_records(kind: u8, values: &[u32], from: usize, file: &mut [u8])
-    requires { ⌜ 8 * (from + length (now values)) ≤ length (now file) ⌝ }
-    ensures { λ _. ⌜ now (file .exit) ≡ take (8 * from) (now (file .entry)) ++ recordsBytes kind (now (values .entry)) ++ drop (8 * (from + length (now (values .entry)))) (now (file .entry)) ⌝ }
+    requires { ⌜ recordSize * (from + length (now values)) ≤ length (now file) ⌝ }
+    ensures { λ _.
+        ⌜ now (file .exit)
+        ≡ take (recordSize * from) (now (file .entry)) ++ recordsBytes kind (now (values .entry))
+        ++ drop (recordSize * (from + length (now (values .entry)))) (now (file .entry)) ⌝ }
 {
     let mut j = 0;
     while j < values.len() {
@@ -128,12 +141,12 @@ fn write_tested(speeds: &[u32], weights: &[u32], file: &mut [u8]) -> JobWritten
     requires { λ job. ⌜ firstRefusal (jobTests job) ≡ 0 ⌝ }
     ensures { λ job r. ⌜ Writes (now (weights .entry)) (now (speeds .entry)) (now (file .entry)) r (now (file .exit)) ⌝ }
 {
-    let needed = 8 * (weights.len() + speeds.len());
+    let needed = RECORD * (weights.len() + speeds.len());
     if file.len() < needed {
         return JobWritten::Refused(9);
     }
-    put_records(1, speeds, 0, file);
-    put_records(2, weights, speeds.len(), file);
+    put_records(PROCESSOR_KIND, speeds, 0, file);
+    put_records(TASK_KIND, weights, speeds.len(), file);
     JobWritten::Written(needed)
 }
 
@@ -153,23 +166,16 @@ pub fn write_job(speeds: &[u32], weights: &[u32], file: &mut [u8]) -> JobWritten
     write_tested(speeds, weights, file)
 }
 
-// A byte as a wider number. Inner.
-fn wide(x: u8) -> u32
-    ensures { λ r. ⌜ r ≡ x ⌝ }
-{
-    x as u32
-}
-
 // Byte k of record i. Inner: the record is in the file.
-fn byte_at(file: &[u8], i: usize, k: usize) -> u32
-    requires { ⌜ (i < recordCount (now file)) × (k < 8) ⌝ }
-    ensures { λ r. ⌜ (r ≡ byteAt (now (file .entry)) i k) × (r < 256) ⌝ }
+fn byte_at(file: &[u8], i: usize, k: usize) -> u8
+    requires { ⌜ (i < recordCount (now file)) × (k < recordSize) ⌝ }
+    ensures { λ r. ⌜ r ≡ byteAt (now (file .entry)) i k ⌝ }
 {
-    wide(file[8 * i + k])
+    file[RECORD * i + k]
 }
 
 // The kind of record i. Inner: the record is in the file.
-fn kind_at(file: &[u8], i: usize) -> u32
+fn kind_at(file: &[u8], i: usize) -> u8
     requires { ⌜ i < recordCount (now file) ⌝ }
     ensures { λ r. ⌜ r ≡ kindAt (now (file .entry)) i ⌝ }
 {
@@ -181,10 +187,7 @@ fn value_at(file: &[u8], i: usize) -> u32
     requires { ⌜ i < recordCount (now file) ⌝ }
     ensures { λ r. ⌜ r ≡ valueAt (now (file .entry)) i ⌝ }
 {
-    byte_at(file, i, 4)
-        + 256 * byte_at(file, i, 5)
-        + 65536 * byte_at(file, i, 6)
-        + 16777216 * byte_at(file, i, 7)
+    get_field(file, RECORD * i + VALUE_PLACE)
 }
 
 // Whether bytes 1 to 3 of record i are zero. Inner: the record is in the file.
@@ -211,7 +214,7 @@ fn test_record(file: &[u8], i: usize, tasks: usize) -> u32
     if !blank_at(file, i) {
         return 3;
     }
-    if kind == 1 {
+    if kind == PROCESSOR_KIND {
         if 0 < tasks {
             return 4;
         }
@@ -223,7 +226,7 @@ fn test_record(file: &[u8], i: usize, tasks: usize) -> u32
         }
         return 0;
     }
-    if kind == 2 {
+    if kind == TASK_KIND {
         if MAX_WEIGHT < value {
             return 6;
         }
@@ -236,10 +239,10 @@ fn test_record(file: &[u8], i: usize, tasks: usize) -> u32
 fn test_records(file: &[u8]) -> JobRead
     ensures { λ r. ⌜ r ≡ answerOf (recordsRefusal (now (file .entry))) (now (file .entry)) ⌝ }
 {
-    if file.len() % 8 != 0 {
+    if file.len() % RECORD != 0 {
         return JobRead::Refused(2);
     }
-    let records = file.len() / 8;
+    let records = file.len() / RECORD;
     let mut processors = 0;
     let mut tasks = 0;
     let mut i = 0;
@@ -248,7 +251,7 @@ fn test_records(file: &[u8]) -> JobRead
         if found != 0 {
             return JobRead::Refused(found);
         }
-        if kind_at(file, i) == 1 {
+        if kind_at(file, i) == PROCESSOR_KIND {
             processors += 1;
         } else {
             tasks += 1;

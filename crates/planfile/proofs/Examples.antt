@@ -6,7 +6,7 @@ use Rattle.chain.specs.Limits.{maxTasks, maxWeight, maxProcessors, maxSpeed}
 use Rattle.chain.specs.Lists.{sum, all}
 use Rattle.chain.specs.Job.{Job, jobOf, speedOf, partWeight, partLoad}
 use Rattle.chain.specs.Refusal.{eachBetween, speedsTest, weightsTest, processorsTest, tasksTest, lengthTest, isPartition, partitionTest, firstRefusal, jobTests, callTests, refusal}
-use Rattle.jobs.specs.JobFile.{fieldBytes}
+use Rattle.fields.specs.Field.{fieldBytes}
 use Rattle.planfile.specs.PlanFile.{planRecord, planBytesTo, planBytes}
 use Rattle.planfile.specs.Answers.{writePlanInputs, writePlanRefusal}
 

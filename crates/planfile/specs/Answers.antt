@@ -7,7 +7,7 @@ use lib.Dec.{eqb}
 use Rattle.chain.specs.Job.{Job, processors}
 use Rattle.chain.specs.Refusal.{Inputs, refusal}
 use Rattle.jobs.specs.Answers.{lentAfter}
-use Rattle.planfile.specs.PlanFile.{planBytes}
+use Rattle.planfile.specs.PlanFile.{planRecordSize, planBytes}
 use Rattle.planfile.specs.declared.PlanWritten.{PlanWritten}
 
 -- Document 01's number of an answer, 0 where the call is accepted; and its value, 0 where it is refused: "A refusal gives its
@@ -22,7 +22,7 @@ planWrittenBytes (PlanWritten.Refused number) = 0
 
 -- "The plan fills the first 16 × P bytes"
 abbrev pub planNeeded : Job → ℕ
-planNeeded job = 16 * processors job
+planNeeded job = planRecordSize * processors job
 
 -- What the call takes beside the job: separators that are a division, and a buffer of this length. "9, one too short: P + 1
 -- separators; .. 16 × P plan bytes".
