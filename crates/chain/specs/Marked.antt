@@ -13,7 +13,7 @@ use Rattle.chain.specs.Heuristic.{heuristic}
 use Rattle.chain.specs.Dynamic.{tableValue, moves}
 use Rattle.chain.specs.Search.{bidding, ends, meet}
 use Rattle.chain.specs.Plan.{planOf, table, biddings, bisection, allowance, imbalance}
-use Rattle.chain.specs.Refusal.{refusal}
+use Rattle.chain.specs.Refusal.{nothing, lending, withDivision, refusal}
 
 -- The same list; the same pair, load and speed.
 unfoldable pub sameList : List ℕ → List ℕ → Bool
@@ -68,9 +68,7 @@ pub data Row : Type 0 where
 
 -- Measuring a list: what the call takes beside the job.
 unfoldable pub measureRefusal : Job → List ℕ → ℕ
-measureRefusal job s =
-    refusal job
-    (record { methods = []; lists = record { needed = suc (processors job); given = length s } ∷ []; bounds = []; divisions = s ∷ [] })
+measureRefusal job s = refusal job (lending (suc (processors job)) (length s) (withDivision s nothing))
 
 unfoldable pub isFailing : Outcome → Bound → Bool
 isFailing fitting C = false

@@ -17,10 +17,10 @@ use Rattle.chain.proofs.Refusals.{job-accepted}
 use Rattle.fields.proofs.Laws.{Bytes}
 use Rattle.jobs.specs.JobFile.{processorKind, taskKind, recordBytes, recordsBytes, jobBytes, JobFile}
 use Rattle.jobs.specs.Parse.{recordCount, kindAt, valueAt, recordTests, recordsTests, valuesOf, speedsOf, weightsOf, jobIn, fileRefusal}
-use Rattle.jobs.proofs.Limits.{speed-limit, weight-limit}
-use Rattle.jobs.proofs.Each.{between-in}
-use Rattle.jobs.proofs.Steps.{passes, passed-all}
-use Rattle.jobs.proofs.ByLists.{counts-decide}
+use Rattle.refusals.proofs.Limits.{speed-limit, weight-limit}
+use Rattle.refusals.proofs.Each.{between-in}
+use Rattle.refusals.proofs.Steps.{passes, passed-all}
+use Rattle.refusals.proofs.ByLists.{counts-decide}
 use Rattle.jobs.proofs.Records.{records-snoc}
 use Rattle.jobs.proofs.Writing.{length-bytes}
 use Rattle.jobs.proofs.OneRecord.{processor-passes, task-passes}

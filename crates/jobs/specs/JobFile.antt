@@ -5,10 +5,6 @@ use mathlib.Core.List.{List, [], _∷_, _++_}
 use Rattle.chain.specs.Job.{Job, Valid}
 use Rattle.fields.specs.Field.{fieldBytes}
 
--- "8-byte records"
-abbrev pub recordSize : ℕ
-recordSize = 8
-
 -- "the kind (1 machine, 2 tile)"
 abbrev pub processorKind : ℕ
 processorKind = 1

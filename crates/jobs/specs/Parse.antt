@@ -9,7 +9,8 @@ use Rattle.chain.specs.Limits.{maxWeight, maxSpeed}
 use Rattle.chain.specs.Job.{Job, jobOf}
 use Rattle.chain.specs.Refusal.{Test, test, between, processorsTest, tasksTest, firstRefusal}
 use Rattle.fields.specs.Field.{fieldAt}
-use Rattle.jobs.specs.JobFile.{recordSize, processorKind, taskKind}
+use Rattle.refusals.specs.Inputs.{recordSize}
+use Rattle.jobs.specs.JobFile.{processorKind, taskKind}
 
 -- "8-byte records without a header": how many.
 abbrev pub recordCount : List ℕ → ℕ

@@ -1,6 +1,6 @@
 // Runs the edge cases of jobs by file and by lists against the proved library, and writes a line for each.
 use jobs::JobRead;
-use jobs::JobWritten;
+use refusals::Written;
 
 fn text(s: &[u8]) {
     io::write_all(1, s);
@@ -93,13 +93,13 @@ fn show(r: JobRead) {
     }
 }
 
-fn show_written(r: JobWritten) {
+fn show_written(r: Written) {
     match r {
-        JobWritten::Refused(n) => {
+        Written::Refused(n) => {
             text(b" refused");
             number(n as u64);
         }
-        JobWritten::Written(n) => {
+        Written::Bytes(n) => {
             text(b" written");
             number(n as u64);
         }
@@ -219,7 +219,7 @@ fn test(name: &[u8], speeds: &[u32], p: usize, weights: &[u32], n: usize) {
     text(name);
     if p <= speeds.len() {
         if n <= weights.len() {
-            let r = jobs::test_job(&speeds[..p], &weights[..n]);
+            let r = refusals::test_job(&speeds[..p], &weights[..n]);
             number(r as u64);
         }
     }

@@ -4,10 +4,6 @@ use mathlib.Core.List.{List, [], _++_}
 use Rattle.chain.specs.Job.{Job, processors, speedOf, partLoad, at}
 use Rattle.fields.specs.Field.{fieldBytes}
 
--- "one 16-byte record a machine"
-abbrev pub planRecordSize : ℕ
-planRecordSize = 16
-
 -- "four 32-bit fields: s(p−1), sp, load, speed", the document's machine p being processor p − 1 here.
 unfoldable pub planRecord : Job → List ℕ → ℕ → List ℕ
 planRecord job s p =

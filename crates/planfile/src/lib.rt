@@ -4,24 +4,17 @@ ghost use mathlib.Core.Path.{_≡_};
 ghost use mathlib.Core.List.{_++_};
 ghost use lib.ListN.{length, take, drop};
 ghost use Rattle.chain.specs.Job.{Job, jobOf, tasks, processors, Partition, partLoad};
+ghost use Rattle.refusals.specs.Inputs.{planRecordSize, planNeeded};
 ghost use Rattle.parts.specs.Prefix.{Ready};
-ghost use Rattle.planfile.specs.PlanFile.{planRecordSize, planRecord, planBytes};
-ghost use Rattle.planfile.specs.Answers.{planNeeded, writePlanRefusal, writePlanAnswer, writePlanBytes};
-use calls::is_partition;
+ghost use Rattle.planfile.specs.PlanFile.{planRecord, planBytes};
+ghost use Rattle.planfile.specs.Answers.{writePlanAnswer, writePlanBytes};
 use fields::FIELD;
 use fields::put_field;
-use jobs::MAX_TASKS;
-use jobs::test_job;
 use parts::prefix_sums;
-
-// A record of a plan file: its bytes.
-pub const PLAN_RECORD: usize = 16;
-
-// What writing a plan file answers: the count of bytes, or the refusal's number.
-pub enum PlanWritten {
-    Written(usize),
-    Refused(u32),
-}
+use refusals::MAX_TASKS;
+use refusals::PLAN_RECORD;
+use refusals::Written;
+use refusals::test_write_plan;
 
 // Inner. The load of the part from a to b.
 fn part_load(speeds: &[u32], weights: &[u32], sums: &[u32], a: u32, b: u32) -> u32
@@ -83,37 +76,8 @@ pub fn put_plan(speeds: &[u32], weights: &[u32], sums: &[u32], separators: &[u32
     }
 }
 
-// Inner. The tests of writing a plan file: 0, or the refusal: 5, 6, 7, 8, 9 or 11, in this order.
-fn test_plan(speeds: &[u32], weights: &[u32], separators: &[u32], lent: usize) -> u32
-    ensures { λ r.
-        let job = jobOf (now (speeds .entry)) (now (weights .entry)) in
-        ⌜ r ≡ writePlanRefusal job (now (separators .entry)) lent ⌝ }
-{
-    let found = test_job(speeds, weights);
-    if found != 0 {
-        return found;
-    }
-    if separators.len() <= speeds.len() {
-        return 9; // too few separators
-    }
-    let needed = PLAN_RECORD * speeds.len();
-    let divided = is_partition(speeds, weights, separators);
-    if lent < needed {
-        return 9; // too few bytes
-    }
-    if !divided {
-        return 11;
-    }
-    0
-}
-
 // Writes a plan file: the count of its bytes, or the refusal: 5, 6, 7, 8, 9 or 11, in this order. Later bytes stay.
-pub fn write_plan(
-    speeds: &[u32],
-    weights: &[u32],
-    separators: &[u32],
-    plan: &mut [u8],
-) -> PlanWritten
+pub fn write_plan(speeds: &[u32], weights: &[u32], separators: &[u32], plan: &mut [u8]) -> Written
     ensures answer { λ r.
         let job = jobOf (now (speeds .entry)) (now (weights .entry)) in
         ⌜ r ≡ writePlanAnswer job (now (separators .entry)) (length (now (plan .entry))) ⌝ }
@@ -121,12 +85,12 @@ pub fn write_plan(
         let job = jobOf (now (speeds .entry)) (now (weights .entry)) in
         ⌜ now (plan .exit) ≡ writePlanBytes job (now (separators .entry)) (now (plan .entry)) ⌝ }
 {
-    let found = test_plan(speeds, weights, separators, plan.len());
-    if found != 0 {
-        return PlanWritten::Refused(found);
+    let number = test_write_plan(speeds, weights, separators, plan.len());
+    if number != 0 {
+        return Written::Refused(number);
     }
     let mut sums = [0u32; MAX_TASKS + 1];
     prefix_sums(speeds, weights, &mut sums);
     put_plan(speeds, weights, &sums, separators, plan);
-    PlanWritten::Written(PLAN_RECORD * speeds.len())
+    Written::Bytes(PLAN_RECORD * speeds.len())
 }

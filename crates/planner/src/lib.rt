@@ -18,11 +18,11 @@ use dynamic::table_in;
 use figures::allowance_of;
 use figures::imbalance_of;
 use heuristic::measure_in;
-use jobs::test_job;
 use parts::Found;
 use parts::prefix_sums;
 use parts::wide;
 use probe::probe_in;
+use refusals::test_plan;
 use search::bidding_in;
 use search::bisection_in;
 
@@ -132,21 +132,9 @@ pub fn plan(
         let job = jobOf (now (speeds .entry)) (now (weights .entry)) in
         ⌜ PlanAnswer job method (now (separators .entry)) (now (scratch .entry)) (now (separators .exit)) (now (scratch .exit)) r ⌝ }
 {
-    if method < 1 {
-        return Planned::Refused(1);
-    }
-    if 3 < method {
-        return Planned::Refused(1);
-    }
-    let tested = test_job(speeds, weights);
-    if tested != 0 {
-        return Planned::Refused(tested);
-    }
-    if separators.len() <= speeds.len() {
-        return Planned::Refused(9);
-    }
-    if scratch.len() < 5 * (weights.len() + 1) {
-        return Planned::Refused(9);
+    let number = test_plan(method, speeds, weights, separators.len(), scratch.len());
+    if number != 0 {
+        return Planned::Refused(number);
     }
     Planned::Accepted(plan_in(method, speeds, weights, separators, scratch))
 }

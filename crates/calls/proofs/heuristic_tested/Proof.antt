@@ -7,17 +7,12 @@ use Rattle.chain.specs.Job.{Job, jobOf}
 use Rattle.chain.specs.Heuristic.{heuristic}
 use Rattle.chain.proofs.Parts.{valid-proper}
 use Rattle.chain.proofs.Heuristic.{heuristic-partition}
-use Rattle.jobs.proofs.Limits.{tasks-limit}
+use Rattle.refusals.proofs.Limits.{tasks-limit}
 use Rattle.parts.proofs.Front.{front-partition, front-bottleneck}
 use Rattle.calls.proofs.Ends.{sums-ready}
 use borrow.Author.Needs.{needs}
 use Rattle.calls.proofs.heuristic_tested.Statement.{statement}
 use Rattle.calls.proofs.heuristic_tested.Tie as tie
-use Rattle.calls.proofs.heuristic_tested.Reads as reads
-use Rattle.calls.proofs.heuristic_tested.Lts as lts
-use Rattle.heuristic.proofs.heuristic_in.Reads as heuristic-in-reads
-use Rattle.heuristic.proofs.measure_in.Reads as measure-in-reads
-use Rattle.parts.proofs.prefix_sums.Reads as prefix-sums-reads
 
 slice-aggregate-prefix-sums : tie.Need-slice-aggregate-prefix-sums
 slice-aggregate-prefix-sums c = search needs

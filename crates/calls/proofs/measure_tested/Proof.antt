@@ -1,15 +1,11 @@
 -- `measure_tested` meets its contract.
 -- Assumes nothing.
 use native.Mathlib.Omega.{arith}
-use Rattle.jobs.proofs.Limits.{tasks-limit}
+use Rattle.refusals.proofs.Limits.{tasks-limit}
 use Rattle.calls.proofs.Ends.{sums-ready}
 use borrow.Author.Needs.{needs}
 use Rattle.calls.proofs.measure_tested.Statement.{statement}
 use Rattle.calls.proofs.measure_tested.Tie as tie
-use Rattle.calls.proofs.measure_tested.Reads as reads
-use Rattle.calls.proofs.measure_tested.Lts as lts
-use Rattle.heuristic.proofs.measure_in.Reads as measure-in-reads
-use Rattle.parts.proofs.prefix_sums.Reads as prefix-sums-reads
 
 slice-aggregate-prefix-sums : tie.Need-slice-aggregate-prefix-sums
 slice-aggregate-prefix-sums c = search needs

@@ -4,9 +4,6 @@ use Rattle.jobs.proofs.OneRecord.{blank-laws}
 use borrow.Author.Needs.{needs}
 use Rattle.jobs.proofs.blank_at.Statement.{statement}
 use Rattle.jobs.proofs.blank_at.Tie as tie
-use Rattle.jobs.proofs.blank_at.Reads as reads
-use Rattle.jobs.proofs.blank_at.Lts as lts
-use Rattle.jobs.proofs.byte_at.Reads as byte-at-reads
 
 byte-at-requires : tie.Need-byte-at-requires
 byte-at-requires c κs = search needs

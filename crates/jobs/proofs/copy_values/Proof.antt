@@ -6,9 +6,6 @@ use Rattle.jobs.specs.Parse.{valueAt}
 use Rattle.jobs.proofs.Copying.{Copying, copying-none, copying-next, copying-all}
 use Rattle.jobs.proofs.copy_values.Statement.{statement}
 use Rattle.jobs.proofs.copy_values.Tie as tie
-use Rattle.jobs.proofs.copy_values.Reads as reads
-use Rattle.jobs.proofs.copy_values.Lts as lts
-use Rattle.jobs.proofs.value_at.Reads as value-at-reads
 
 abbrev Inv-loop : tie.InvT-loop
 Inv-loop file from count out₀ j₀ out j = Copying (λ j. valueAt file (from + j)) count out₀ out j

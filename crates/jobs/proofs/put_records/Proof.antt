@@ -6,9 +6,6 @@ use lib.ListN.{length}
 use Rattle.jobs.proofs.Records.{Putting, putting-none, putting-next, putting-all}
 use Rattle.jobs.proofs.put_records.Statement.{statement}
 use Rattle.jobs.proofs.put_records.Tie as tie
-use Rattle.jobs.proofs.put_records.Reads as reads
-use Rattle.jobs.proofs.put_records.Lts as lts
-use Rattle.jobs.proofs.put_record.Reads as put-record-reads
 
 abbrev Inv-loop : tie.InvT-loop
 Inv-loop kind values from file₀ j₀ file j = Putting kind values from file₀ file j

@@ -4,10 +4,6 @@ use Rattle.jobs.proofs.Reading.{read-accepted, read-refused}
 use borrow.Author.Needs.{needs}
 use Rattle.jobs.proofs.read_job.Statement.{statement}
 use Rattle.jobs.proofs.read_job.Tie as tie
-use Rattle.jobs.proofs.read_job.Reads as reads
-use Rattle.jobs.proofs.read_job.Lts as lts
-use Rattle.jobs.proofs.read_tested.Reads as read-tested-reads
-use Rattle.jobs.proofs.test_records.Reads as test-records-reads
 
 test-records-requires : tie.Need-test-records-requires
 test-records-requires c κs = search needs

@@ -5,10 +5,6 @@ use Rattle.jobs.proofs.Reading.{read-laws}
 use borrow.Author.Needs.{needs}
 use Rattle.jobs.proofs.read_tested.Statement.{statement}
 use Rattle.jobs.proofs.read_tested.Tie as tie
-use Rattle.jobs.proofs.read_tested.Reads as reads
-use Rattle.jobs.proofs.read_tested.Lts as lts
-use Rattle.jobs.proofs.copy_values.Reads as copy-values-reads
-use Rattle.jobs.proofs.test_counts.Reads as test-counts-reads
 
 test-counts-requires : tie.Need-test-counts-requires
 test-counts-requires c κs = search needs

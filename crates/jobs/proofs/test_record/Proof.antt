@@ -4,11 +4,6 @@ use Rattle.jobs.proofs.OneRecord.{record-laws}
 use borrow.Author.Needs.{needs}
 use Rattle.jobs.proofs.test_record.Statement.{statement}
 use Rattle.jobs.proofs.test_record.Tie as tie
-use Rattle.jobs.proofs.test_record.Reads as reads
-use Rattle.jobs.proofs.test_record.Lts as lts
-use Rattle.jobs.proofs.blank_at.Reads as blank-at-reads
-use Rattle.jobs.proofs.kind_at.Reads as kind-at-reads
-use Rattle.jobs.proofs.value_at.Reads as value-at-reads
 
 kind-at-requires : tie.Need-kind-at-requires
 kind-at-requires c κs = search needs

@@ -6,10 +6,6 @@ use native.Mathlib.Omega.{arith}
 use Rattle.jobs.proofs.AllRecords.{Tested, tested-none, tested-processor, tested-task, multiple-fails, answer-refused, tested-refused, tested-all}
 use Rattle.jobs.proofs.test_records.Statement.{statement}
 use Rattle.jobs.proofs.test_records.Tie as tie
-use Rattle.jobs.proofs.test_records.Reads as reads
-use Rattle.jobs.proofs.test_records.Lts as lts
-use Rattle.jobs.proofs.kind_at.Reads as kind-at-reads
-use Rattle.jobs.proofs.test_record.Reads as test-record-reads
 
 abbrev Inv-loop : tie.InvT-loop
 Inv-loop file records processors₀ tasks₀ i₀ processors tasks i = Tested file processors tasks i

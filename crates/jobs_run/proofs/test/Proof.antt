@@ -7,7 +7,7 @@ use Rattle.jobs_run.proofs.test.Statement.{statement}
 use Rattle.jobs_run.proofs.test.Tie as tie
 use Rattle.jobs_run.proofs.test.Reads as reads
 use Rattle.jobs_run.proofs.test.Lts as lts
-use Rattle.jobs.proofs.test_job.Reads as test-job-reads
+use Rattle.refusals.proofs.test_job.Reads as test-job-reads
 use Rattle.jobs_run.proofs.number.Reads as number-reads
 use Rattle.jobs_run.proofs.text.Reads as text-reads
 
