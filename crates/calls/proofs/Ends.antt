@@ -17,8 +17,10 @@ use Rattle.chain.specs.Heuristic.{heuristic}
 use Rattle.chain.specs.Refusal.{refusal}
 use Rattle.chain.proofs.Parts.{valid-proper}
 use Rattle.chain.proofs.Heuristic.{heuristic-partition}
-use Rattle.jobs.specs.Answers.{lentAfter}
-use Rattle.jobs.proofs.Lent.{lent-refused, lent-accepted}
+use Rattle.refusals.specs.Inputs.{measureInputs, probeInputs, heuristicInputs}
+use Rattle.refusals.specs.Answers.{lentAfter}
+use Rattle.refusals.proofs.Lent.{lent-front, lent-kept}
+use Rattle.refusals.proofs.Accepted.{passed}
 use Rattle.parts.specs.Prefix.{prefixes, Prefix, Ready}
 use Rattle.parts.proofs.Front.{taken}
 use Rattle.parts.proofs.Laws.{prefixes-are}
@@ -27,7 +29,7 @@ use Rattle.calls.specs.declared.Measured.{Measured}
 use Rattle.calls.specs.declared.Measured.the-variants.{Bottleneck, Refused}
 use Rattle.calls.specs.declared.Probed.{Probed}
 use Rattle.calls.specs.declared.Probed.the-variants.{Fits, Fails, Refused as ProbeRefused}
-use Rattle.calls.specs.Answers.{measureInputs, probeInputs, heuristicInputs, measuredOf, measureAnswer, probed, probedOf, probeAnswer, probeWrites, heuristicAnswer, heuristicWrites}
+use Rattle.calls.specs.Answers.{measuredOf, measureAnswer, probed, probedOf, probeAnswer, probeWrites, heuristicAnswer, heuristicWrites}
 
 -- A list in whose front the prefix sums were written.
 pub sums-ready : {job : Job} {xs : List ℕ} (l : List ℕ) → Valid job → xs ≡ prefixes job ++ l → Ready job xs
@@ -64,47 +66,44 @@ module _ (job : Job) (B : Bound) (s : List ℕ) where
       go true u = absurd u
       go false u = (ap Fails e, refl)
 
-pub measured-refused : {n : ℕ} (B : Bound) → n ≢ 0 → measuredOf n B ≡ Refused n
+-- An answer that is refused, and one that is not: n is what the tests gave.
+measured-refused : {n number : ℕ} (B : Bound) → n ≡ number → n ≢ 0 → Refused n ≡ measuredOf number B
 unfolding measuredOf
-measured-refused {n} B h = ap (λ (b : Bool). cond b (Bottleneck B) (Refused n)) (ne-eqb n 0 h)
+measured-refused {n} B e h =
+    sym (ap (λ (b : Bool). cond b (Bottleneck B) (Refused n)) (ne-eqb n 0 h)) ∙ ap (λ (k : ℕ). measuredOf k B) e
 
-pub probed-refused : {n : ℕ} (r : Probed) → n ≢ 0 → probedOf n r ≡ ProbeRefused n
+measured-accepted : {number : ℕ} {B C : Bound} → number ≡ 0 → C ≡ B → Bottleneck C ≡ measuredOf number B
+unfolding measuredOf
+measured-accepted {number} {B} z f = ap (measuredOf 0) f ∙ ap (λ (k : ℕ). measuredOf k B) (sym z)
+
+probed-refused : {n number : ℕ} (r : Probed) → n ≡ number → n ≢ 0 → ProbeRefused n ≡ probedOf number r
 unfolding probedOf
-probed-refused {n} r h = ap (λ (b : Bool). cond b r (ProbeRefused n)) (ne-eqb n 0 h)
-
--- The list after a call that is accepted: n entries in front, the others stay.
-pub lent-front : {number n : ℕ} (new old : List ℕ) → number ≡ 0 → length new ≡ n → lentAfter number new old ≡ new ++ drop n old
-lent-front new old e l =
-    ap (λ (k : ℕ). lentAfter k new old) e ∙ lent-accepted new old ∙ ap (λ (k : ℕ). new ++ drop k old) l
+probed-refused {n} r e h = sym (ap (λ (b : Bool). cond b r (ProbeRefused n)) (ne-eqb n 0 h)) ∙ ap (λ (k : ℕ). probedOf k r) e
 
 module _ (job : Job) (s : List ℕ) where
-  pub measure-refused : {n : ℕ} → refusal job (measureInputs job s) ≡ n → n ≢ 0 → Refused n ≡ measureAnswer job s
+  pub measure-refused : {n : ℕ} → n ≡ refusal job (measureInputs job s) → n ≢ 0 → Refused n ≡ measureAnswer job s
   unfolding measureAnswer
-  measure-refused e h =
-      sym (ap (λ (k : ℕ). measuredOf k (bottleneck job (take (suc (processors job)) s))) e ∙ measured-refused (bottleneck job (take (suc (processors job)) s)) h)
+  measure-refused e h = measured-refused (bottleneck job (take (suc (processors job)) s)) e h
 
-  pub measure-accepted : {B : Bound} → refusal job (measureInputs job s) ≡ 0 → B ≡ bottleneck job (take (suc (processors job)) s) → Bottleneck B ≡ measureAnswer job s
-  unfolding measureAnswer measuredOf
-  measure-accepted {B} e f =
-      ap (measuredOf 0) f ∙ ap (λ (k : ℕ). measuredOf k (bottleneck job (take (suc (processors job)) s))) (sym e)
+  pub measure-accepted : {n : ℕ} → n ≡ refusal job (measureInputs job s) → n ≡ 0 → {B : Bound} → B ≡ bottleneck job (take (suc (processors job)) s)
+      → Bottleneck B ≡ measureAnswer job s
+  unfolding measureAnswer
+  measure-accepted e z f = measured-accepted (sym e ∙ z) f
 
   -- What the heuristic answers, and the list then.
   abbrev pub Guessed : Measured → List ℕ → Type 0
   Guessed r now = (r ≡ heuristicAnswer job s) × (now ≡ heuristicWrites job s)
 
-  pub heuristic-refused : {n : ℕ} → refusal job (heuristicInputs job s) ≡ n → n ≢ 0 → Guessed (Refused n) s
+  pub heuristic-refused : {n : ℕ} → n ≡ refusal job (heuristicInputs job (length s)) → n ≢ 0 → Guessed (Refused n) s
   unfolding heuristicAnswer heuristicWrites
-  heuristic-refused e h = (
-    sym (ap (λ (k : ℕ). measuredOf k (bottleneck job (heuristic job))) e ∙ measured-refused (bottleneck job (heuristic job)) h),
-    sym (ap (λ (k : ℕ). lentAfter k (heuristic job) s) e ∙ lent-refused h (heuristic job) s),
-  )
+  heuristic-refused e h = (measured-refused (bottleneck job (heuristic job)) e h, lent-kept (heuristic job) s e h)
 
-  pub heuristic-accepted : {B : Bound} {now : List ℕ} → Valid job → refusal job (heuristicInputs job s) ≡ 0 → B ≡ bottleneck job (heuristic job)
+  pub heuristic-accepted : {n : ℕ} → n ≡ refusal job (heuristicInputs job (length s)) → n ≡ 0 → {B : Bound} {now : List ℕ} → B ≡ bottleneck job (heuristic job)
       → now ≡ heuristic job ++ drop (suc (processors job)) s → Guessed (Bottleneck B) now
-  unfolding heuristicAnswer heuristicWrites measuredOf
-  heuristic-accepted v e f g = (
-    ap (measuredOf 0) f ∙ ap (λ (k : ℕ). measuredOf k (bottleneck job (heuristic job))) (sym e),
-    g ∙ sym (lent-front (heuristic job) s e (heuristic-partition (valid-proper v) .count)),
+  unfolding heuristicAnswer heuristicWrites
+  heuristic-accepted e z f g = (
+    measured-accepted (sym e ∙ z) f,
+    g ∙ sym (lent-front (heuristic job) s (sym e ∙ z) (heuristic-partition (valid-proper ((passed e z) .valid)) .count)),
   )
 
   -- What a probe answers, and the list then.
@@ -112,21 +111,21 @@ module _ (job : Job) (s : List ℕ) where
     abbrev pub Tried : Probed → List ℕ → Type 0
     Tried r now = (r ≡ probeAnswer job B s) × (now ≡ probeWrites job B s)
 
-    pub probe-refused : {n : ℕ} → refusal job (probeInputs job B s) ≡ n → n ≢ 0 → Tried (ProbeRefused n) s
+    pub probe-refused : {n : ℕ} → n ≡ refusal job (probeInputs job B (length s)) → n ≢ 0 → Tried (ProbeRefused n) s
     unfolding probeAnswer probeWrites
-    probe-refused {n} e h = (
-      sym (ap (λ (k : ℕ). probedOf k (probed job B)) e ∙ probed-refused (probed job B) h),
-      kept (fits job B) (ap (λ (k : ℕ). lentAfter k (walk job B) s) e ∙ lent-refused h (walk job B) s),
-    )
+    probe-refused e h = (probed-refused (probed job B) e h, kept (fits job B) (lent-kept (walk job B) s e h))
       where
-        kept : (t : Bool) {l : List ℕ} → l ≡ s → s ≡ cond t l s
-        kept true x = sym x
+        kept : (t : Bool) {l : List ℕ} → s ≡ l → s ≡ cond t l s
+        kept true x = x
         kept false x = refl
 
-    pub probe-accepted : {r : Probed} {now : List ℕ} → Valid job → refusal job (probeInputs job B s) ≡ 0 → r ≡ probed job B
+    pub probe-accepted : {n : ℕ} → n ≡ refusal job (probeInputs job B (length s)) → n ≡ 0 → {r : Probed} {now : List ℕ} → r ≡ probed job B
         → now ≡ cond (fits job B) (walk job B ++ drop (suc (processors job)) s) s → Tried r now
     unfolding probeAnswer probeWrites probedOf
-    probe-accepted v e f g = (
-      f ∙ ap (λ (k : ℕ). probedOf k (probed job B)) (sym e),
-      g ∙ ap (λ (l : List ℕ). cond (fits job B) l s) (sym (lent-front (walk job B) s e (walk-count v B))),
+    probe-accepted e z f g = (
+      f ∙ ap (λ (k : ℕ). probedOf k (probed job B)) (sym (sym e ∙ z)),
+      g ∙ ap (λ (l : List ℕ). cond (fits job B) l s) (sym (lent-front (walk job B) s (sym e ∙ z) (walk-count ((passed e z) .valid) B))),
     )
+
+-- For `search`: at each return the law that its tests meet.
+pub ruleset measure-ends = (measure-refused, measure-accepted)

@@ -3,7 +3,7 @@
 use Prim.Native.Nat.{ℕ, suc}
 use mathlib.Core.Path.{_≡_, refl, sym, ap, subst, _∙_}
 use mathlib.Core.Bool.{Bool, true, false, not, cond}
-use mathlib.Core.List.{List, [], _∷_, _++_, List·Memᴰ·head, Memᴰ·append-left, Memᴰ·append-right}
+use mathlib.Core.List.{List, _++_}
 use mathlib.Core.Logic.{_≢_, _↔_}
 use native.Mathlib.Omega.{arith}
 use lib.Dec.{T, eqb, eqb→eq}
@@ -15,21 +15,20 @@ use Rattle.bound.proofs.Order.{speed-real}
 use Rattle.chain.specs.Job.{Job, Valid, Partition, Within, processors, heaviest, slowest, ideal, bottleneck}
 use Rattle.chain.specs.Probe.{walk, fits, nextBid}
 use Rattle.chain.specs.Heuristic.{heuristic}
-use Rattle.chain.specs.Refusal.{lengthTest, boundTest, partitionTest, jobTests, callTests, refusal}
+use Rattle.chain.specs.Refusal.{refusal}
 use Rattle.chain.proofs.Parts.{Proper, valid-proper}
 use Rattle.chain.proofs.Walk as walks
 use Rattle.chain.proofs.NextBid as bids
 use Rattle.chain.proofs.Heuristic.{heuristic-partition, heuristic-bound}
-use Rattle.chain.proofs.Ranges.{lendable-test}
-use Rattle.chain.proofs.Refusals.{call-accepted, call-valid, partition-test}
-use Rattle.jobs.proofs.Lent.{lent-refused}
-use Rattle.jobs.specs.Answers.{lentAfter}
+use Rattle.refusals.specs.Inputs.{measureInputs, probeInputs, heuristicInputs}
+use Rattle.refusals.specs.Answers.{lentAfter}
+use Rattle.refusals.proofs.Accepted.{accepted}
+use Rattle.refusals.proofs.Lent.{lent-refused, lent-front}
 use Rattle.calls.specs.declared.Measured.the-variants.{Bottleneck, Refused}
 use Rattle.calls.specs.declared.Probed.{Probed}
 use Rattle.calls.specs.declared.Probed.the-variants.{Fits, Fails, Refused as ProbeRefused}
-use Rattle.calls.specs.Answers.{measuredNumber, probedNumber, measureInputs, probeInputs, heuristicInputs, measuredOf, measureAnswer, probed, probedOf, probeAnswer, probeWrites, heuristicAnswer, heuristicWrites}
+use Rattle.calls.specs.Answers.{measuredNumber, probedNumber, measuredOf, measureAnswer, probed, probedOf, probeAnswer, probeWrites, heuristicAnswer, heuristicWrites}
 use Rattle.parts.proofs.Front.{taken, front-partition}
-use Rattle.calls.proofs.Ends.{lent-front}
 
 truth : (b : Bool) → T b → b ≡ true
 truth true t = refl
@@ -79,26 +78,20 @@ module _ (job : Job) (s : List ℕ) where
   unfolding measureAnswer
   measure-number = measured-number (refusal job (measureInputs job s)) (bottleneck job (take (suc (processors job)) s))
 
-  accepted-partition : refusal job (measureInputs job s) ≡ 0 → Partition job (take (suc (processors job)) s)
-  unfolding callTests measureInputs partitionTest
-  accepted-partition e =
-      partition-test job (take (suc (processors job)) s) .0
-      (call-accepted job (measureInputs job s) .0 e (partitionTest job s) (Memᴰ·append-right ((jobTests job ++ lengthTest (suc (processors job)) (length s) ∷ []) ++ []) (List·Memᴰ·head refl)))
-
   -- A bottleneck is given for a partition alone, and it is that partition's.
   pub measure-promise : {B : Bound} → measureAnswer job s ≡ Bottleneck B
       → Partition job (take (suc (processors job)) s) × (B ≡ bottleneck job (take (suc (processors job)) s))
   unfolding measureAnswer
-  measure-promise e = let m = measured-bottleneck e in (accepted-partition (m .0), m .1)
+  measure-promise e = let m = measured-bottleneck e in ((accepted (m .0)) .divisions .0, m .1)
 
 -- The heuristic.
 module _ (job : Job) (s : List ℕ) where
-  pub heuristic-number : measuredNumber (heuristicAnswer job s) ≡ refusal job (heuristicInputs job s)
+  pub heuristic-number : measuredNumber (heuristicAnswer job s) ≡ refusal job (heuristicInputs job (length s))
   unfolding heuristicAnswer
-  heuristic-number = measured-number (refusal job (heuristicInputs job s)) (bottleneck job (heuristic job))
+  heuristic-number = measured-number (refusal job (heuristicInputs job (length s))) (bottleneck job (heuristic job))
 
   -- A refusal leaves the list as it was.
-  pub heuristic-keeps : refusal job (heuristicInputs job s) ≢ 0 → heuristicWrites job s ≡ s
+  pub heuristic-keeps : refusal job (heuristicInputs job (length s)) ≢ 0 → heuristicWrites job s ≡ s
   unfolding heuristicWrites
   heuristic-keeps h = lent-refused h (heuristic job) s
 
@@ -119,11 +112,11 @@ module _ (job : Job) (s : List ℕ) where
         behind = ap (drop (suc (processors job))) written ∙ drop-at (heuristic job) rest (suc (processors job)) (pa .count);
       }
     where
-      m : (refusal job (heuristicInputs job s) ≡ 0) × (C ≡ bottleneck job (heuristic job))
+      m : (refusal job (heuristicInputs job (length s)) ≡ 0) × (C ≡ bottleneck job (heuristic job))
       m = measured-bottleneck e
 
       v : Valid job
-      v = call-valid job (heuristicInputs job s) (m .0)
+      v = (accepted (m .0)) .valid
 
       pa : Partition job (heuristic job)
       pa = heuristic-partition (valid-proper v)
@@ -131,7 +124,7 @@ module _ (job : Job) (s : List ℕ) where
       rest : List ℕ
       rest = drop (suc (processors job)) s
 
-      written : lentAfter (refusal job (heuristicInputs job s)) (heuristic job) s ≡ heuristic job ++ rest
+      written : lentAfter (refusal job (heuristicInputs job (length s))) (heuristic job) s ≡ heuristic job ++ rest
       written = lent-front (heuristic job) s (m .0) (pa .count)
 
 -- The probe.
@@ -155,12 +148,12 @@ probed-fails {n} job B {C} e = go (eqb n 0) refl (fits job B) e
     go false f t h = let z : _≡_ {A = ℕ} 0 1 = cc in absurd (let y : ⊥ = omega arith in y)
 
 module _ (job : Job) (B : Bound) (s : List ℕ) where
-  pub probe-number : probedNumber (probeAnswer job B s) ≡ refusal job (probeInputs job B s)
+  pub probe-number : probedNumber (probeAnswer job B s) ≡ refusal job (probeInputs job B (length s))
   unfolding probeAnswer
-  probe-number = probed-number (refusal job (probeInputs job B s)) (probed job B) (probed-number-zero job B)
+  probe-number = probed-number (refusal job (probeInputs job B (length s))) (probed job B) (probed-number-zero job B)
 
   -- A refusal leaves the list as it was.
-  pub probe-keeps : refusal job (probeInputs job B s) ≢ 0 → probeWrites job B s ≡ s
+  pub probe-keeps : refusal job (probeInputs job B (length s)) ≢ 0 → probeWrites job B s ≡ s
   unfolding probeWrites
   probe-keeps h = go (fits job B) (lent-refused h (walk job B) s)
     where
@@ -168,20 +161,15 @@ module _ (job : Job) (B : Bound) (s : List ℕ) where
       go true e = e
       go false e = refl
 
-  accepted-real : refusal job (probeInputs job B s) ≡ 0 → Real B
-  unfolding callTests probeInputs
-  accepted-real e =
-      speed-real
-      (lendable-test B .0
-      (call-accepted job (probeInputs job B s) .0 e (boundTest B)
-      (Memᴰ·append-left [] (Memᴰ·append-right (jobTests job ++ lengthTest (suc (processors job)) (length s) ∷ []) (List·Memᴰ·head refl)))) .speed-positive)
+  accepted-real : refusal job (probeInputs job B (length s)) ≡ 0 → Real B
+  accepted-real e = speed-real ((accepted e) .bounds .0 .speed-positive)
 
   -- Demand 2: an accepted probe fits exactly when some partition stays within the bound.
-  pub probe-fits-exactly : refusal job (probeInputs job B s) ≡ 0 → (probeAnswer job B s ≡ Fits) ↔ ((t : List ℕ) × Partition job t × Within job t B)
+  pub probe-fits-exactly : refusal job (probeInputs job B (length s)) ≡ 0 → (probeAnswer job B s ≡ Fits) ↔ ((t : List ℕ) × Partition job t × Within job t B)
   unfolding probeAnswer probedOf probed
   probe-fits-exactly e =
-      let f = walks.fits-exactly (valid-proper (call-valid job (probeInputs job B s) e)) B (accepted-real e) in
-      (λ h. f .0 (probed-fits {n = refusal job (probeInputs job B s)} job B h .1), λ x. ap (λ (n : ℕ). probedOf n (probed job B)) e ∙ ap (λ (b : Bool). cond b Fits (Fails (nextBid job B))) (truth (fits job B) (f .1 x)))
+      let f = walks.fits-exactly (valid-proper ((accepted e) .valid)) B (accepted-real e) in
+      (λ h. f .0 (probed-fits {n = refusal job (probeInputs job B (length s))} job B h .1), λ x. ap (λ (n : ℕ). probedOf n (probed job B)) e ∙ ap (λ (b : Bool). cond b Fits (Fails (nextBid job B))) (truth (fits job B) (f .1 x)))
 
   -- A fit: the list then begins with a partition within the bound, and the entries behind it stay.
   pub record Fitted : Type 0 where
@@ -198,11 +186,11 @@ module _ (job : Job) (B : Bound) (s : List ℕ) where
         behind = ap (drop (suc (processors job))) written ∙ drop-at (walk job B) rest (suc (processors job)) (pa .count);
       }
     where
-      m : (refusal job (probeInputs job B s) ≡ 0) × T (fits job B)
+      m : (refusal job (probeInputs job B (length s)) ≡ 0) × T (fits job B)
       m = probed-fits job B e
 
       ok : Proper job
-      ok = valid-proper (call-valid job (probeInputs job B s) (m .0))
+      ok = valid-proper ((accepted (m .0)) .valid)
 
       pa : Partition job (walk job B)
       pa = walks.walk-partition ok B
@@ -210,9 +198,9 @@ module _ (job : Job) (B : Bound) (s : List ℕ) where
       rest : List ℕ
       rest = drop (suc (processors job)) s
 
-      written : cond (fits job B) (lentAfter (refusal job (probeInputs job B s)) (walk job B) s) s ≡ walk job B ++ rest
+      written : cond (fits job B) (lentAfter (refusal job (probeInputs job B (length s))) (walk job B) s) s ≡ walk job B ++ rest
       written =
-          ap (λ (b : Bool). cond b (lentAfter (refusal job (probeInputs job B s)) (walk job B) s) s) (truth (fits job B) (m .1))
+          ap (λ (b : Bool). cond b (lentAfter (refusal job (probeInputs job B (length s))) (walk job B) s) s) (truth (fits job B) (m .1))
           ∙ lent-front (walk job B) s (m .0) (pa .count)
 
   -- A failure: the next bid is above the bound, no partition stays within a smaller one, and the list is as it was.
@@ -229,11 +217,11 @@ module _ (job : Job) (B : Bound) (s : List ℕ) where
         least = λ D r t pa w.
             subst (λ (E : Bound). E ≼ D) (sym (m .2)) (bids.next-least ok B D (m .1) r (walks.partition-fits ok r pa w));
         kept =
-            ap (λ (b : Bool). cond b (lentAfter (refusal job (probeInputs job B s)) (walk job B) s) s) (untruth (fits job B) (m .1));
+            ap (λ (b : Bool). cond b (lentAfter (refusal job (probeInputs job B (length s))) (walk job B) s) s) (untruth (fits job B) (m .1));
       }
     where
-      m : (refusal job (probeInputs job B s) ≡ 0) × T (not (fits job B)) × (C ≡ nextBid job B)
+      m : (refusal job (probeInputs job B (length s)) ≡ 0) × T (not (fits job B)) × (C ≡ nextBid job B)
       m = probed-fails job B e
 
       ok : Proper job
-      ok = valid-proper (call-valid job (probeInputs job B s) (m .0))
+      ok = valid-proper ((accepted (m .0)) .valid)

@@ -2,15 +2,16 @@
 -- on the whole input, refusals included. Document 01, "Trial at a bound", "Quick plan", "Who causes which number".
 use Prim.Native.Nat.{ℕ, suc}
 use mathlib.Core.Bool.{cond}
-use mathlib.Core.List.{List, [], _∷_}
+use mathlib.Core.List.{List}
 use lib.ListN.{length, take}
 use lib.Dec.{eqb}
 use Rattle.bound.specs.declared.Bound.{Bound}
 use Rattle.chain.specs.Job.{Job, processors, bottleneck}
 use Rattle.chain.specs.Probe.{walk, fits, nextBid}
 use Rattle.chain.specs.Heuristic.{heuristic}
-use Rattle.chain.specs.Refusal.{Lent, Inputs, refusal}
-use Rattle.jobs.specs.Answers.{lentAfter}
+use Rattle.chain.specs.Refusal.{refusal}
+use Rattle.refusals.specs.Inputs.{measureInputs, probeInputs, heuristicInputs}
+use Rattle.refusals.specs.Answers.{lentAfter}
 use Rattle.calls.specs.declared.Measured.{Measured}
 use Rattle.calls.specs.declared.Measured.the-variants.{Bottleneck, Refused}
 use Rattle.calls.specs.declared.Probed.{Probed}
@@ -25,20 +26,6 @@ abbrev pub probedNumber : Probed → ℕ
 probedNumber Fits = 0
 probedNumber (Fails B) = 0
 probedNumber (ProbeRefused n) = n
-
--- "P + 1 separators": the lent list of them.
-abbrev pub separatorsLent : Job → List ℕ → Lent
-separatorsLent job s = record { needed = suc (processors job); given = length s }
-
--- What each call takes beside the job: measuring a division; a probe a bound and a list; the heuristic a list.
-unfoldable pub measureInputs : Job → List ℕ → Inputs
-measureInputs job s = record { methods = []; lists = separatorsLent job s ∷ []; bounds = []; divisions = s ∷ [] }
-
-unfoldable pub probeInputs : Job → Bound → List ℕ → Inputs
-probeInputs job B s = record { methods = []; lists = separatorsLent job s ∷ []; bounds = B ∷ []; divisions = [] }
-
-unfoldable pub heuristicInputs : Job → List ℕ → Inputs
-heuristicInputs job s = record { methods = []; lists = separatorsLent job s ∷ []; bounds = []; divisions = [] }
 
 -- The answer of measuring and of the heuristic by the number of the refusal: the bottleneck, or that number.
 unfoldable pub measuredOf : ℕ → Bound → Measured
@@ -57,15 +44,15 @@ unfoldable pub probedOf : ℕ → Probed → Probed
 probedOf number answer = cond (eqb number 0) answer (ProbeRefused number)
 
 unfoldable pub probeAnswer : Job → Bound → List ℕ → Probed
-probeAnswer job B s = probedOf (refusal job (probeInputs job B s)) (probed job B)
+probeAnswer job B s = probedOf (refusal job (probeInputs job B (length s))) (probed job B)
 
 -- "the trial fits and the separators are written. A trial that fails .. leaves the separators untouched."
 unfoldable pub probeWrites : Job → Bound → List ℕ → List ℕ
-probeWrites job B s = cond (fits job B) (lentAfter (refusal job (probeInputs job B s)) (walk job B) s) s
+probeWrites job B s = cond (fits job B) (lentAfter (refusal job (probeInputs job B (length s))) (walk job B) s) s
 
 -- "The separators are written and their bottleneck is given."
 unfoldable pub heuristicAnswer : Job → List ℕ → Measured
-heuristicAnswer job s = measuredOf (refusal job (heuristicInputs job s)) (bottleneck job (heuristic job))
+heuristicAnswer job s = measuredOf (refusal job (heuristicInputs job (length s))) (bottleneck job (heuristic job))
 
 unfoldable pub heuristicWrites : Job → List ℕ → List ℕ
-heuristicWrites job s = lentAfter (refusal job (heuristicInputs job s)) (heuristic job) s
+heuristicWrites job s = lentAfter (refusal job (heuristicInputs job (length s))) (heuristic job) s

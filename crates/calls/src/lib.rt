@@ -8,7 +8,6 @@ ghost use mathlib.Core.List.{_++_};
 ghost use lib.ListN.{length, take, drop};
 ghost use Rattle.chain.specs.Job.{Job, jobOf, Valid, processors, Partition, bottleneck};
 ghost use Rattle.chain.specs.Probe.{walk, fits};
-ghost use Rattle.chain.specs.Refusal.{isPartition, boundTest};
 ghost use Rattle.chain.specs.Heuristic as quick;
 ghost use Rattle.chain.proofs.Ranges.{Lendable};
 ghost use Rattle.parts.specs.Prefix.{Ready};
@@ -16,17 +15,14 @@ ghost use Rattle.calls.specs.Answers.{measureAnswer, probed, probeAnswer
 use bound::Bound;
 use heuristic::heuristic_in;
 use heuristic::measure_in;
-use jobs::MAX_PROCESSORS;
-use jobs::MAX_TASKS;
-use jobs::test_job;
 use parts::prefix_sums;
 use probe::Outcome;
 use probe::probe_in;
-
-// The limits of a lent bound.
-pub const MAX_BOUND_LOAD: u64 = 100_000_000_000_000;
-
-pub const MAX_BOUND_SPEED: u64 = 1_000_000_000;
+use refusals::MAX_PROCESSORS;
+use refusals::MAX_TASKS;
+use refusals::test_heuristic;
+use refusals::test_measure;
+use refusals::test_probe;
 
 // The answer of measuring and of the heuristic: the bottleneck, or the refusal's number.
 pub enum Measured {
@@ -41,26 +37,6 @@ pub enum Probed {
     Refused(u32),
 }
 
-// Whether the first P + 1 separators are a partition of the job. Inner: there are so many.
-pub fn is_partition(speeds: &[u32], weights: &[u32], separators: &[u32]) -> bool
-    ghost { Job }
-    requires { λ job. ⌜ jobOf (now speeds) (now weights) ≡ job ⌝ }
-    requires { λ job. ⌜ processors job < length (now separators) ⌝ }
-    ensures { λ job r. ⌜ r ≡ isPartition job (take (suc (processors job)) (now (separators .entry))) ⌝ }
-{
-    if separators[0] != 0 {
-        return false;
-    }
-    let mut p = 0;
-    while p < speeds.len() {
-        if separators[p + 1] < separators[p] {
-            return false;
-        }
-        p += 1;
-    }
-    separators[p] as usize == weights.len()
-}
-
 // Inner. Copies the first n numbers of the one list to the front of the other.
 fn copy_front(from: &[u32], to: &mut [u32], n: usize)
     requires { ⌜ (n ≤ length (now from)) × (n ≤ length (now to)) ⌝ }
@@ -71,19 +47,6 @@ fn copy_front(from: &[u32], to: &mut [u32], n: usize)
         to[i] = from[i];
         i += 1;
     }
-}
-
-// Whether a lent bound is within its limits. Inner.
-fn can_lend(bound: Bound) -> bool
-    ensures { λ r. ⌜ r ≡ (boundTest bound) .passes ⌝ }
-{
-    if MAX_BOUND_LOAD < bound.load {
-        return false;
-    }
-    if bound.speed == 0 {
-        return false;
-    }
-    bound.speed <= MAX_BOUND_SPEED
 }
 
 // Inner. The bottleneck of the partition in front of the list.
@@ -105,15 +68,9 @@ pub fn measure(speeds: &[u32], weights: &[u32], separators: &[u32]) -> Measured
         let job = jobOf (now (speeds .entry)) (now (weights .entry)) in
         ⌜ r ≡ measureAnswer job (now (separators .entry)) ⌝ }
 {
-    let found = test_job(speeds, weights);
-    if found != 0 {
-        return Measured::Refused(found);
-    }
-    if separators.len() <= speeds.len() {
-        return Measured::Refused(9);
-    }
-    if !is_partition(speeds, weights, separators) {
-        return Measured::Refused(11);
+    let number = test_measure(speeds, weights, separators);
+    if number != 0 {
+        return Measured::Refused(number);
     }
     Measured::Bottleneck(measure_tested(speeds, weights, separators))
 }
@@ -133,7 +90,9 @@ fn probe_beside(
     requires { λ job. ⌜ Lendable bound ⌝ }
     requires { λ job. ⌜ (processors job < length (now walked)) × (processors job < length (now separators)) ⌝ }
     ensures { λ job r. ⌜ r ≡ probed job bound ⌝ }
-    ensures { λ job r. ⌜ now (separators .exit) ≡ cond (fits job bound) (walk job bound ++ drop (suc (processors job)) (now (separators .entry))) (now (separators .entry)) ⌝ }
+    ensures { λ job r.
+        let old = now (separators .entry) in
+        ⌜ now (separators .exit) ≡ cond (fits job bound) (walk job bound ++ drop (suc (processors job)) old) old ⌝ }
 {
     let answer = probe_in(speeds, weights, sums, bound, walked);
     match answer {
@@ -153,7 +112,9 @@ fn probe_tested(speeds: &[u32], weights: &[u32], bound: Bound, separators: &mut 
     requires { λ job. ⌜ Lendable bound ⌝ }
     requires { λ job. ⌜ processors job < length (now separators) ⌝ }
     ensures { λ job r. ⌜ r ≡ probed job bound ⌝ }
-    ensures { λ job r. ⌜ now (separators .exit) ≡ cond (fits job bound) (walk job bound ++ drop (suc (processors job)) (now (separators .entry))) (now (separators .entry)) ⌝ }
+    ensures { λ job r.
+        let old = now (separators .entry) in
+        ⌜ now (separators .exit) ≡ cond (fits job bound) (walk job bound ++ drop (suc (processors job)) old) old ⌝ }
 {
     let mut sums = [0u32; MAX_TASKS + 1];
     let mut walked = [0u32; MAX_PROCESSORS + 1];
@@ -171,17 +132,9 @@ pub fn probe(speeds: &[u32], weights: &[u32], bound: Bound, separators: &mut [u3
         let job = jobOf (now (speeds .entry)) (now (weights .entry)) in
         ⌜ now (separators .exit) ≡ probeWrites job bound (now (separators .entry)) ⌝ }
 {
-    let found = test_job(speeds, weights);
-    if found != 0 {
-        return Probed::Refused(found);
-    }
-    let short = separators.len() <= speeds.len();
-    let lendable = can_lend(bound);
-    if short {
-        return Probed::Refused(9);
-    }
-    if !lendable {
-        return Probed::Refused(10);
+    let number = test_probe(speeds, weights, bound, separators.len());
+    if number != 0 {
+        return Probed::Refused(number);
     }
     probe_tested(speeds, weights, bound, separators)
 }
@@ -211,12 +164,9 @@ pub fn heuristic(speeds: &[u32], weights: &[u32], separators: &mut [u32]) -> Mea
         let job = jobOf (now (speeds .entry)) (now (weights .entry)) in
         ⌜ now (separators .exit) ≡ heuristicWrites job (now (separators .entry)) ⌝ }
 {
-    let found = test_job(speeds, weights);
-    if found != 0 {
-        return Measured::Refused(found);
-    }
-    if separators.len() <= speeds.len() {
-        return Measured::Refused(9);
+    let number = test_heuristic(speeds, weights, separators.len());
+    if number != 0 {
+        return Measured::Refused(number);
     }
     Measured::Bottleneck(heuristic_tested(speeds, weights, separators))
 }

@@ -4,9 +4,10 @@
 use Prim.Native.Nat.{ℕ, zero, suc, _≤_, _<_}
 use mathlib.Core.Path.{_≡_, refl, sym, ap, subst, _∙_}
 use mathlib.Core.Bool.{Bool, true, false, cond, _&&_}
-use mathlib.Core.List.{List, [], _∷_, _++_, map, List·Memᴰ, List·Memᴰ·head, List·Memᴰ·tail, List·Memᴰ·not-nil, List·Memᴰ·cases-cons, List·Memᴰ·append-cases, Memᴰ·append-left, Memᴰ·append-right, Memᴰ·of-map}
+use mathlib.Core.List.{List, [], _∷_, _++_, map, List·Memᴰ, List·Memᴰ·head, List·Memᴰ·tail, List·Memᴰ·not-nil, List·Memᴰ·cases-cons, List·Memᴰ·append-cases, Memᴰ·of-map}
 use mathlib.Core.Logic.{_≢_, inl, inr}
 use native.Mathlib.Omega.{arith}
+use native.Mathlib.Decide.{ℕ-discrete}
 use lib.Dec.{T, leb, eqb, leb→le, le→leb, eqb→eq, eqb-refl, lit≤}
 use lib.ListN.{length, getD}
 use Rattle.chain.specs.Limits.{maxTasks, maxWeight, maxProcessors, maxSpeed}
@@ -230,11 +231,34 @@ unfolding refusal
 call-accepted job inputs =
     (accepted-passes (callTests job inputs) (call-numbered job inputs), passes-accepted (callTests job inputs))
 
--- An accepted call has a valid job.
-pub call-valid : (job : Job) (inputs : Inputs) → refusal job inputs ≡ 0 → Valid job
-unfolding callTests
-call-valid job inputs e =
-    accepted-valid (passes-accepted (jobTests job) (λ t m. call-accepted job inputs .0 e t (Memᴰ·append-left (map (partitionTest job) (inputs .divisions)) (Memᴰ·append-left (map boundTest (inputs .bounds)) (Memᴰ·append-left (map (λ l. lengthTest (l .needed) (l .given)) (inputs .lists)) (Memᴰ·append-right (map methodTest (inputs .methods)) m))))))
+-- Where nothing is refused of two lists of tests, nothing is of either.
+pub append-accepted : (ts us : List Test) → Numbered ts → firstRefusal (ts ++ us) ≡ 0 → (firstRefusal ts ≡ 0) × (firstRefusal us ≡ 0)
+append-accepted ts us n e =
+    elim (ℕ-discrete (firstRefusal ts) 0) [
+      | yes z ↦ (z, sym (first-refusal-append ts us n z) ∙ e)
+      | no z ↦ absurd (z (sym (first-refusal-before ts us z) ∙ e))
+    ]
+
+-- A property of every entry of a list.
+abbrev pub Each : {A : Type 0} → (A → Type 0) → List A → Type 0
+Each P [] = Unit {0}
+Each P (x ∷ xs) = P x × Each P xs
+
+-- Where nothing is refused of one kind of test, made of every input, every input has what the test says.
+pub map-accepted : {A : Type 0} (P : A → Type 0) (f : A → Test) → ((a : A) → 0 < (f a) .number) → ((a : A) → T ((f a) .passes) → P a) → (xs : List A)
+    → firstRefusal (map f xs) ≡ 0 → Each P xs
+map-accepted P f pos g [] e = tt
+map-accepted P f pos g (x ∷ xs) e =
+    let p : T ((f x) .passes) = pass-head (f x) (map f xs) (pos x) e in
+    (g x p, map-accepted P f pos g xs (sym (pass-skip (f x) (map f xs) p) ∙ e))
+
+-- Tests as code takes them, where n is what the first ones give: they decide, or the others do.
+module _ {n : ℕ} (ts us : List Test) (tested : n ≡ firstRefusal ts) where
+  pub first-decide : n ≢ 0 → n ≡ firstRefusal (ts ++ us)
+  first-decide h = tested ∙ sym (first-refusal-before ts us (λ z. h (tested ∙ z)))
+
+  pub others-decide : Numbered ts → n ≡ 0 → {m : ℕ} → m ≡ firstRefusal us → m ≡ firstRefusal (ts ++ us)
+  others-decide k z e = e ∙ sym (first-refusal-append ts us k (sym tested ∙ z))
 
 -- The test of a list of separators passes exactly when it is a partition.
 pub partition-test : (job : Job) (s : List ℕ) → (T (isPartition job s) → Partition job s) × (Partition job s → T (isPartition job s))

@@ -17,7 +17,7 @@ use Rattle.chain.specs.Dynamic.{tableValue, moves}
 use Rattle.chain.specs.Bidding.{bidding}
 use Rattle.chain.specs.Bisection.{ends, meet}
 use Rattle.chain.specs.Plan.{planOf, allowance, imbalance}
-use Rattle.chain.specs.Refusal.{refusal}
+use Rattle.chain.specs.Refusal.{nothing, lending, withDivision, refusal}
 
 -- The same list; the same pair, load and speed.
 unfoldable pub sameList : List ℕ → List ℕ → Bool
@@ -72,9 +72,7 @@ pub data Row : Type 0 where
 
 -- Measuring a list: what the call takes beside the job.
 unfoldable pub measureRefusal : Job → List ℕ → ℕ
-measureRefusal job s =
-    refusal job
-    (record { methods = []; lists = record { needed = suc (processors job); given = length s } ∷ []; bounds = []; divisions = s ∷ [] })
+measureRefusal job s = refusal job (lending (suc (processors job)) (length s) (withDivision s nothing))
 
 unfoldable pub isFailing : Outcome → Bound → Bool
 isFailing Fits C = false

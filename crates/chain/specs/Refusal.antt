@@ -87,6 +87,32 @@ pub record Inputs : Type 0 where
   pub bounds : List Bound
   pub divisions : List (List ℕ)
 
+-- A call that takes nothing more,
+abbrev pub nothing : Inputs
+nothing = record { methods = []; lists = []; bounds = []; divisions = [] }
+
+-- and one input more of a kind, before the others of that kind.
+abbrev pub withMethod : ℕ → Inputs → Inputs
+withMethod m inputs =
+    record { methods = m ∷ inputs .methods; lists = inputs .lists; bounds = inputs .bounds; divisions = inputs .divisions }
+
+abbrev pub lending : ℕ → ℕ → Inputs → Inputs
+lending needed given inputs =
+    record {
+      methods = inputs .methods;
+      lists = record { needed = needed; given = given } ∷ inputs .lists;
+      bounds = inputs .bounds;
+      divisions = inputs .divisions;
+    }
+
+abbrev pub withBound : Bound → Inputs → Inputs
+withBound B inputs =
+    record { methods = inputs .methods; lists = inputs .lists; bounds = B ∷ inputs .bounds; divisions = inputs .divisions }
+
+abbrev pub withDivision : List ℕ → Inputs → Inputs
+withDivision s inputs =
+    record { methods = inputs .methods; lists = inputs .lists; bounds = inputs .bounds; divisions = s ∷ inputs .divisions }
+
 -- The tests of a call by lists, in order: 1; 5, 6, 7, 8; 9; 10; 11.
 unfoldable pub callTests : Job → Inputs → List Test
 callTests job inputs =

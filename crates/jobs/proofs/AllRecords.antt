@@ -18,7 +18,7 @@ use Rattle.jobs.specs.Answers.{answerOf}
 use Rattle.jobs.specs.Inner.{recordsRefusal}
 use Rattle.jobs.specs.declared.JobRead.{JobRead}
 use Rattle.chain.proofs.Refusals.{Numbered, numbered-nil, numbered-cons, numbered-append, first-refusal-append, first-refusal-before}
-use Rattle.jobs.proofs.Steps.{fails, passes}
+use Rattle.refusals.proofs.Steps.{fails, passes}
 use Rattle.jobs.proofs.OneRecord.{other-kind}
 
 module _ (file : List ℕ) where

@@ -1,45 +1,18 @@
 -- A record's bytes, both ways: what its places hold makes its bytes, and its bytes are what its places hold.
 -- Assumes nothing.
-use Prim.Native.Nat.{ℕ, zero, suc, _+_, _*_, _/_, _%_, _≤_, _<_}
+use Prim.Native.Nat.{ℕ, zero, suc, _+_, _*_, _≤_, _<_, _^_}
 use mathlib.Core.Path.{_≡_, refl, sym, ap, ap₂, _∙_}
 use mathlib.Core.Bool.{Bool, true, false, _&&_}
 use mathlib.Core.List.{List, [], _∷_, _++_, append-assoc}
 use native.Mathlib.Omega.{arith}
-use native.Mathlib.Nat.{div-div-eq-div-mul}
 use lib.Dec.{eqb}
 use lib.ListN.{length, getD, take, drop, length-drop, List·getD-append}
 use lib.Seq.{take-add, getD-take, getD-drop, getD-append-add, length-take-le, ext-getD}
 use borrow.Author.Tests.{eq-eqb, eqb-true}
-use Rattle.jobs.specs.JobFile.{fieldBytes, recordBytes, recordsBytes}
+use Rattle.fields.proofs.Laws.{Bytes, field-digits, field-held}
+use Rattle.jobs.specs.JobFile.{recordBytes, recordsBytes}
 use Rattle.jobs.specs.Parse.{byteAt, kindAt, valueAt, blank}
 use Rattle.jobs.proofs.Records.{length-record, length-records}
-
--- A file of bytes.
-abbrev pub Bytes : List ℕ → Type 0
-Bytes file = (i : ℕ) → getD file i 0 < 256
-
--- Four digits to the base 256, the lowest first.
-module _ (a b c d : ℕ) (ha : a < 256) (hb : b < 256) (hc : c < 256) (hd : d < 256) where
-  digit-0 : a ≡ (a + 256 * b + 65536 * c + 16777216 * d) % 256
-  digit-0 = omega arith
-
-  digit-1 : b ≡ (a + 256 * b + 65536 * c + 16777216 * d) / 256 % 256
-  digit-1 = omega arith
-
-  digit-2 : c ≡ (a + 256 * b + 65536 * c + 16777216 * d) / 65536 % 256
-  digit-2 = omega arith
-
-  digit-3 : d ≡ (a + 256 * b + 65536 * c + 16777216 * d) / 16777216 % 256
-  digit-3 = omega arith
-
-digits : (v : ℕ) → v < 4294967296 → v % 256 + 256 * (v / 256 % 256) + 65536 * (v / 65536 % 256) + 16777216 * (v / 16777216 % 256) ≡ v
-digits v h =
-    let d : v / 65536 ≡ v / 256 / 256 = sym (div-div-eq-div-mul v 256 256) in
-    let e : v / 16777216 ≡ v / 256 / 256 / 256 = sym (div-div-eq-div-mul v 65536 256) ∙ ap (λ (q : ℕ). q / 256) d in
-    ap₂ (λ (p q : ℕ). v % 256 + 256 * (v / 256 % 256) + 65536 * (p % 256) + 16777216 * (q % 256)) d e ∙ sum (v / 256) (v / 256 / 256) refl refl
-  where
-    sum : (q r : ℕ) → q ≡ v / 256 → r ≡ q / 256 → v % 256 + 256 * (q % 256) + 65536 * (r % 256) + 16777216 * (r / 256 % 256) ≡ v
-    sum q r f g = omega arith
 
 -- The three tests of bytes 1 to 3.
 module _ (file : List ℕ) (i : ℕ) where
@@ -68,16 +41,14 @@ module _ (file : List ℕ) (i : ℕ) where
 
   -- The bytes of record i are those of a record of its kind and its value.
   pub place-bytes : Bytes file → Zeros → (j : ℕ) → j < 8 → byteAt file i j ≡ getD (recordBytes (kindAt file i) (valueAt file i)) j 0
-  unfolding recordBytes fieldBytes kindAt valueAt byteAt
+  unfolding recordBytes kindAt valueAt byteAt
   place-bytes b z zero h = refl
   place-bytes b z (suc zero) h = z .first
   place-bytes b z (suc (suc zero)) h = z .second
   place-bytes b z (suc (suc (suc zero))) h = z .third
-  place-bytes b z (suc (suc (suc (suc zero)))) h = digit-0 (byteAt file i 4) (byteAt file i 5) (byteAt file i 6) (byteAt file i 7) (b (8 * i + 4)) (b (8 * i + 5)) (b (8 * i + 6)) (b (8 * i + 7))
-  place-bytes b z (suc (suc (suc (suc (suc zero))))) h = digit-1 (byteAt file i 4) (byteAt file i 5) (byteAt file i 6) (byteAt file i 7) (b (8 * i + 4)) (b (8 * i + 5)) (b (8 * i + 6)) (b (8 * i + 7))
-  place-bytes b z (suc (suc (suc (suc (suc (suc zero)))))) h = digit-2 (byteAt file i 4) (byteAt file i 5) (byteAt file i 6) (byteAt file i 7) (b (8 * i + 4)) (b (8 * i + 5)) (b (8 * i + 6)) (b (8 * i + 7))
-  place-bytes b z (suc (suc (suc (suc (suc (suc (suc zero))))))) h = digit-3 (byteAt file i 4) (byteAt file i 5) (byteAt file i 6) (byteAt file i 7) (b (8 * i + 4)) (b (8 * i + 5)) (b (8 * i + 6)) (b (8 * i + 7))
-  place-bytes b z (suc (suc (suc (suc (suc (suc (suc (suc j)))))))) h = absurd (let w : ⊥ = omega arith in w)
+  place-bytes b z (suc (suc (suc (suc j)))) h =
+      ap (λ (k : ℕ). getD file k 0) (let e : 8 * i + suc (suc (suc (suc j))) ≡ 8 * i + 4 + j = omega arith in e)
+      ∙ field-digits file (8 * i + 4) b j (omega arith)
 
 -- Eight bytes from the front of record n.
 pub next-record : (file : List ℕ) (n : ℕ) → 8 * suc n ≤ length file → Bytes file → blank file n ≡ true
@@ -111,10 +82,13 @@ module _ {file : List ℕ} {i kind v : ℕ} (h : Holds file i kind v) where
   holds-blank =
       zeros-blank file i (record { first = h .bytes 1 (omega arith); second = h .bytes 2 (omega arith); third = h .bytes 3 (omega arith) })
 
-  pub holds-value : v < 4294967296 → valueAt file i ≡ v
-  unfolding valueAt recordBytes fieldBytes
+  pub holds-value : v < 2 ^ 32 → valueAt file i ≡ v
+  unfolding valueAt byteAt recordBytes
   holds-value l =
-      omega (arith, h .bytes 4 (omega arith), h .bytes 5 (omega arith), h .bytes 6 (omega arith), h .bytes 7 (omega arith), digits v l)
+      field-held file (8 * i + 4) v l
+      (λ j k.
+      ap (λ (n : ℕ). getD file n 0) (let e : 8 * i + 4 + j ≡ 8 * i + suc (suc (suc (suc j))) = omega arith in e)
+      ∙ h .bytes (suc (suc (suc (suc j)))) (omega arith))
 
 -- Record i of a run of records, and what comes after them.
 module _ (kind : ℕ) where

@@ -12,17 +12,20 @@ use borrow.Author.Tests.{le-leb, eqb-true}
 use Rattle.chain.specs.Job.{Job, tasks, processors, Valid}
 use Rattle.chain.specs.Refusal.{Test, lengthTest, processorsTest, tasksTest, firstRefusal, jobTests, callTests, refusal}
 use Rattle.chain.proofs.Refusals.{Numbered, numbered-nil, numbered-cons, numbered-append, first-refusal-append, FirstFailing, failing-refused, refused-failing, job-accepted}
+use Rattle.fields.proofs.Laws.{Bytes}
+use Rattle.refusals.specs.Inputs.{bytesNeeded, writeInputs}
+use Rattle.refusals.specs.Answers.{writtenNumber, writtenBytes, lentAfter}
+use Rattle.refusals.specs.declared.Written.{Written}
+use Rattle.refusals.proofs.Tests.{length-enough, write-bytes}
+use Rattle.refusals.proofs.Answering.{written-number, written-bytes}
 use Rattle.jobs.specs.JobFile.{jobBytes}
 use Rattle.jobs.specs.Parse.{recordCount, multipleTest, speedsOf, weightsOf, jobIn, fileTests, fileRefusal}
-use Rattle.jobs.specs.Answers.{readNumber, readProcessors, readTasks, writtenNumber, writtenBytes, lentAfter, answerOf, readTests, readRefusal, readAnswer, readSpeeds, readWeights, bytesNeeded, writeInputs, writeRefusal, writeAnswer, writeBytes}
-use Rattle.jobs.specs.Inner.{Writes}
+use Rattle.jobs.specs.Answers.{readNumber, readProcessors, readTasks, answerOf, readTests, readRefusal, readAnswer, readSpeeds, readWeights, writeAnswer, writeBytes}
 use Rattle.jobs.specs.declared.JobRead.{JobRead}
-use Rattle.jobs.specs.declared.JobWritten.{JobWritten}
-use Rattle.jobs.proofs.Steps.{passes, passed-all}
-use Rattle.jobs.proofs.Lent.{lent-accepted}
+use Rattle.refusals.proofs.Steps.{passes, passed-all}
+use Rattle.refusals.proofs.Lent.{lent-accepted}
 use Rattle.jobs.proofs.AllRecords.{records-numbered, answer-read}
-use Rattle.jobs.proofs.Writing.{length-bytes, write-all}
-use Rattle.jobs.proofs.Bytes.{Bytes}
+use Rattle.jobs.proofs.Writing.{length-bytes, Writes, write-all}
 use Rattle.jobs.proofs.RoundTrip.{written-back, accepted-valid, speeds-back, weights-back, bytes-accepted}
 
 -- Numbers above 0.
@@ -56,21 +59,13 @@ pub read-tasks : (file : List ℕ) (lentSpeeds lentWeights : ℕ) → readRefusa
 unfolding readTasks readAnswer
 read-tasks file lentSpeeds lentWeights e = ap readTasks (sym (answer-read file e refl refl))
 
-module _ (job : Job) (lent : ℕ) where
-  answered : ℕ → Bool → JobWritten
-  answered m b = cond b (JobWritten.Written (bytesNeeded job)) (JobWritten.Refused m)
+pub write-number : (job : Job) (lent : ℕ) → writtenNumber (writeAnswer job lent) ≡ refusal job (writeInputs job lent)
+unfolding writeAnswer
+write-number job lent = written-number (refusal job (writeInputs job lent)) (bytesNeeded job)
 
-  pub written-number : writtenNumber (writeAnswer job lent) ≡ writeRefusal job lent
-  unfolding writtenNumber writeAnswer answered
-  written-number = go (writeRefusal job lent) (eqb (writeRefusal job lent) 0) refl
-    where
-      go : (m : ℕ) (b : Bool) → eqb m 0 ≡ b → writtenNumber (answered m b) ≡ m
-      go m true e = sym (eqb-true m 0 e)
-      go m false e = refl
-
-  pub written-bytes : writeRefusal job lent ≡ 0 → writtenBytes (writeAnswer job lent) ≡ bytesNeeded job
-  unfolding writtenBytes writeAnswer answered
-  written-bytes e = ap (λ (m : ℕ). writtenBytes (answered m (eqb m 0))) e
+pub write-count : (job : Job) (lent : ℕ) → refusal job (writeInputs job lent) ≡ 0 → writtenBytes (writeAnswer job lent) ≡ bytesNeeded job
+unfolding writeAnswer
+write-count job lent e = written-bytes (bytesNeeded job) e
 
 -- A number is given exactly when its test is the first to fail.
 pub gives : (ts : List Test) {n : ℕ} → n ≢ 0 → (firstRefusal ts ≡ n) ↔ FirstFailing ts n
@@ -87,19 +82,19 @@ read-gives file a b {n} h =
 
 pub write-gives : (job : Job) (lent : ℕ) {n : ℕ} → n ≢ 0
     → (writtenNumber (writeAnswer job lent) ≡ n) ↔ FirstFailing (callTests job (writeInputs job lent)) n
-unfolding writeRefusal refusal
+unfolding refusal
 write-gives job lent {n} h =
-    subst (λ (m : ℕ). (m ≡ n) ↔ FirstFailing (callTests job (writeInputs job lent)) n) (sym (written-number job lent))
+    subst (λ (m : ℕ). (m ≡ n) ↔ FirstFailing (callTests job (writeInputs job lent)) n) (sym (write-number job lent))
     (gives (callTests job (writeInputs job lent)) h)
 
 -- An accepted file, read and then written into a buffer that is long enough, is there again.
 pub record WrittenAgain (file buffer : List ℕ) : Type 0 where
-  pub answer : writeAnswer (jobIn file) (length buffer) ≡ JobWritten.Written (length file)
+  pub answer : writeAnswer (jobIn file) (length buffer) ≡ Written.Bytes (length file)
   pub bytes : writeBytes (jobIn file) buffer ≡ file ++ drop (length file) buffer
 
 pub written-again : (file buffer : List ℕ) → Bytes file → fileRefusal file ≡ 0 → length file ≤ length buffer → WrittenAgain file buffer
 written-again file buffer b e h =
-    record { answer = sym (w .answers) ∙ ap JobWritten.Written (sym long); bytes = sym (w .into-file) ∙ ap (λ (l : List ℕ). l ++ drop (length l) buffer) same }
+    record { answer = sym (w .0) ∙ ap Written.Bytes (sym long); bytes = sym (w .1) ∙ ap (λ (l : List ℕ). l ++ drop (length l) buffer) same }
   where
     same : jobBytes (jobIn file) ≡ file
     same = written-back file b e
@@ -107,8 +102,12 @@ written-again file buffer b e h =
     long : length file ≡ bytesNeeded (jobIn file)
     long = sym (ap length same) ∙ length-bytes (jobIn file)
 
-    w : Writes (weightsOf file) (speedsOf file) buffer (JobWritten.Written (bytesNeeded (jobIn file))) (jobBytes (jobIn file) ++ drop (length (jobBytes (jobIn file))) buffer)
-    w = write-all (weightsOf file) (speedsOf file) buffer (job-accepted .1 (accepted-valid file e)) (omega (arith, long))
+    none : refusal (jobIn file) (writeInputs (jobIn file) (length buffer)) ≡ 0
+    none =
+        sym (write-bytes (jobIn file) (length buffer) refl (job-accepted .1 (accepted-valid file e)) (length-enough (bytesNeeded (jobIn file)) (length buffer) (omega (arith, long))))
+
+    w : Writes (jobIn file) buffer (Written.Bytes (bytesNeeded (jobIn file))) (jobBytes (jobIn file) ++ drop (length (jobBytes (jobIn file))) buffer)
+    w = write-all (jobIn file) buffer none refl
 
 read-fits : (file : List ℕ) (lentSpeeds lentWeights : ℕ) → fileRefusal file ≡ 0 → length (speedsOf file) ≤ lentSpeeds
     → length (weightsOf file) ≤ lentWeights → readRefusal file lentSpeeds lentWeights ≡ 0

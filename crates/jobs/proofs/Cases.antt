@@ -11,7 +11,8 @@ use lib.ListN.{replicate}
 use Rattle.chain.specs.Limits.{maxTasks, maxWeight, maxProcessors, maxSpeed}
 use Rattle.chain.specs.Job.{jobOf}
 use Rattle.chain.specs.Refusal.{eachBetween, speedsTest, weightsTest, processorsTest, tasksTest, lengthTest, firstRefusal, jobTests}
-use Rattle.jobs.specs.JobFile.{fieldBytes, recordBytes, recordsBytes}
+use Rattle.fields.specs.Field.{fieldBytes, fieldAt}
+use Rattle.jobs.specs.JobFile.{recordBytes, recordsBytes}
 use Rattle.jobs.specs.Parse.{byteAt, kindAt, valueAt, isKind, taskBefore, multipleTest, blank, formTest, orderTest, speedTest, weightTest, recordTests, recordsTests, valuesOf, speedsOf, weightsOf, fileTests, fileRefusal}
 use Rattle.jobs.specs.Answers.{readTests, readRefusal}
 
@@ -57,7 +58,7 @@ everyGives [] = true
 everyGives (c ∷ cs) = eqb (fileRefusal (c .file)) (c .number) && everyGives cs
 
 pub files-give : everyGives files ≡ true
-unfolding files everyGives fileRefusal fileTests firstRefusal multipleTest recordsTests recordTests formTest orderTest speedTest weightTest valuesOf speedsOf weightsOf processorsTest tasksTest byteAt kindAt valueAt isKind taskBefore blank maxTasks maxWeight maxProcessors maxSpeed
+unfolding files everyGives fileRefusal fileTests firstRefusal multipleTest recordsTests recordTests formTest orderTest speedTest weightTest valuesOf speedsOf weightsOf processorsTest tasksTest byteAt kindAt valueAt fieldAt isKind taskBefore blank maxTasks maxWeight maxProcessors maxSpeed
 files-give = refl
 
 -- By lists: all speeds, all weights, then the counts.
@@ -72,5 +73,5 @@ lists-give = (refl, refl, refl, refl, refl)
 pub lent-gives :
     (readRefusal (processorRecord 1 ++ taskRecord 2) 0 0 ≡ 9) × (readRefusal (processorRecord 1 ++ taskRecord 2) 1 0 ≡ 9) × (readRefusal (processorRecord 1 ++ taskRecord 2) 0 1 ≡ 9)
     × (readRefusal (processorRecord 1 ++ taskRecord 2) 1 1 ≡ 0) × (readRefusal (taskRecord 2) 0 0 ≡ 7)
-unfolding readRefusal readTests lengthTest fileTests firstRefusal multipleTest recordsTests recordTests formTest orderTest speedTest weightTest valuesOf speedsOf weightsOf processorsTest tasksTest byteAt kindAt valueAt isKind taskBefore blank recordBytes fieldBytes maxTasks maxWeight maxProcessors maxSpeed
+unfolding readRefusal readTests lengthTest fileTests firstRefusal multipleTest recordsTests recordTests formTest orderTest speedTest weightTest valuesOf speedsOf weightsOf processorsTest tasksTest byteAt kindAt valueAt fieldAt isKind taskBefore blank recordBytes fieldBytes maxTasks maxWeight maxProcessors maxSpeed
 lent-gives = (refl, refl, refl, refl, refl)

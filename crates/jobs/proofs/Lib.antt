@@ -1,10 +1,4 @@
-pub mod Limits
-pub mod Each
-pub mod Steps
-pub mod Counts
-pub mod ByLists
 pub mod Records
-pub mod Lent
 pub mod Writing
 pub mod OneRecord
 pub mod AllRecords

@@ -14,9 +14,9 @@ use Rattle.chain.specs.Limits.{maxWeight, maxSpeed}
 use Rattle.chain.specs.Refusal.{between, firstRefusal}
 use Rattle.jobs.specs.JobFile.{processorKind, taskKind}
 use Rattle.jobs.specs.Parse.{byteAt, kindAt, valueAt, isKind, taskBefore, blank, formTest, orderTest, speedTest, weightTest, recordTests, valuesOf}
-use Rattle.jobs.proofs.Limits.{speed-limit, weight-limit}
-use Rattle.jobs.proofs.Each.{between-low, between-high, between-in}
-use Rattle.jobs.proofs.Steps.{fails, passes, passed-all}
+use Rattle.refusals.proofs.Limits.{speed-limit, weight-limit}
+use Rattle.refusals.proofs.Each.{between-low, between-high, between-in}
+use Rattle.refusals.proofs.Steps.{fails, passes, passed-all}
 
 -- Bytes 1 to 3.
 module _ (file : List ℕ) (i : ℕ) where

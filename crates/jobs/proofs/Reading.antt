@@ -12,15 +12,16 @@ use borrow.Author.Tests.{le-leb, lt-leb}
 use Rattle.chain.specs.Limits.{maxProcessors, maxTasks}
 use Rattle.chain.specs.Lists.{tabulate}
 use Rattle.chain.specs.Refusal.{Test, test, between, processorsTest, tasksTest, lengthTest, firstRefusal}
+use Rattle.refusals.specs.Answers.{lentAfter}
 use Rattle.jobs.specs.Parse.{recordCount, valueAt, multipleTest, recordsTests, speedsOf, weightsOf, fileTests, fileRefusal}
-use Rattle.jobs.specs.Answers.{lentAfter, answerOf, readTests, readRefusal, readAnswer, readSpeeds, readWeights}
+use Rattle.jobs.specs.Answers.{answerOf, readTests, readRefusal, readAnswer, readSpeeds, readWeights}
 use Rattle.jobs.specs.Inner.{recordsRefusal, Accepted, Reads}
 use Rattle.jobs.specs.declared.JobRead.{JobRead}
 use Rattle.chain.proofs.Refusals.{Numbered, numbered-nil, numbered-cons, first-refusal-append, first-refusal-before}
-use Rattle.jobs.proofs.Steps.{fails, passes, passed-all}
+use Rattle.refusals.proofs.Steps.{fails, passes, passed-all}
 use Rattle.jobs.proofs.AllRecords.{records-numbered, multiple-fails, multiple-passes, answer-refused, answer-read}
 use Rattle.jobs.proofs.Passed.{Placed, placed}
-use Rattle.jobs.proofs.Lent.{lent-refused, lent-accepted}
+use Rattle.refusals.proofs.Lent.{lent-refused, lent-accepted}
 
 module _ (file : List ℕ) where
   -- The tests 2 to 6.

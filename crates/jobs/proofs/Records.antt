@@ -1,28 +1,38 @@
 -- Records of a job file, in the order in which they are written.
 -- Assumes nothing.
-use Prim.Native.Nat.{ℕ, suc, _+_, _*_, _/_, _%_, _≤_, _<_}
+use Prim.Native.Nat.{ℕ, suc, _+_, _*_, _≤_, _<_}
 use mathlib.Core.Path.{_≡_, refl, sym, ap, _∙_}
 use mathlib.Core.List.{List, [], _∷_, _++_, append-assoc, append-nil}
 use native.Mathlib.Omega.{arith}
 use native.Mathlib.Numerals.{add-one}
 use lib.ListN.{length, getD, take, drop, set, length-append, length-drop, take-append-drop}
-use lib.Seq.{take-at, take-suc, take-length, length-take-le, drop-drop, drop-append-add, sets-eq}
-use Rattle.jobs.specs.JobFile.{fieldBytes, recordBytes, recordsBytes}
+use lib.Seq.{take-suc, take-length, length-take-le, drop-drop, sets-eq}
+use Rattle.fields.specs.Field.{fieldSize, fieldBytes}
+use Rattle.fields.proofs.Stores.{put-between, put-next}
+use Rattle.jobs.specs.JobFile.{recordBytes, recordsBytes}
 
--- Eight stores make a record.
-pub eight-stores : (l : List ℕ) (a kind v : ℕ) → a + 8 ≤ length l
-    → set (set (set (set (set (set (set (set l a kind) (a + 1) 0) (a + 2) 0) (a + 3) 0) (a + 4) (v % 256)) (a + 5) (v / 256 % 256)) (a + 6) (v / 65536 % 256)) (a + 7) (v / 16777216 % 256)
-    ≡ take a l ++ recordBytes kind v ++ drop (a + 8) l
-unfolding recordBytes fieldBytes
-eight-stores l a kind v h =
-    let e1 : a + 1 ≡ suc a = omega arith in
-    let e2 : a + 2 ≡ suc (suc a) = omega arith in
-    let e3 : a + 3 ≡ suc (suc (suc a)) = omega arith in
-    let e4 : a + 4 ≡ suc (suc (suc (suc a))) = omega arith in
-    let e5 : a + 5 ≡ suc (suc (suc (suc (suc a)))) = omega arith in
-    let e6 : a + 6 ≡ suc (suc (suc (suc (suc (suc a))))) = omega arith in
-    let e7 : a + 7 ≡ suc (suc (suc (suc (suc (suc (suc a)))))) = omega arith in
-    rw (e1, e2, e3, e4, e5, e6, e7) (sets-eq (recordBytes kind v) l a h)
+-- Four stores and a field make a record.
+pub record-stores : (l : List ℕ) (a kind v : ℕ) {l′ : List ℕ} → a + 8 ≤ length l
+    → (let one : List ℕ = set (set (set (set l a kind) (a + 1) 0) (a + 2) 0) (a + 3) 0 in
+    l′ ≡ take (a + 4) one ++ fieldBytes v ++ drop (a + 4 + fieldSize) one)
+    → l′ ≡ take a l ++ recordBytes kind v ++ drop (a + 8) l
+unfolding recordBytes
+record-stores l a kind v {l′} h e =
+    e ∙ ap (λ (x : List ℕ). take (a + 4) x ++ fieldBytes v ++ drop (a + 4 + fieldSize) x) stores
+    ∙ put-next l (take a l ++ front) (fieldBytes v) (a + 4) fieldSize
+    (length-append (take a l) front ∙ omega (arith, length-take-le a l (omega arith)))
+    ∙ ap (λ (n : ℕ). take a l ++ front ++ fieldBytes v ++ drop n l) (let x : a + 4 + fieldSize ≡ a + 8 = omega arith in x)
+    ∙ (simp append-assoc)
+  where
+    front : List ℕ
+    front = kind ∷ 0 ∷ 0 ∷ 0 ∷ []
+
+    stores : set (set (set (set l a kind) (a + 1) 0) (a + 2) 0) (a + 3) 0 ≡ take a l ++ front ++ drop (a + 4) l
+    stores =
+        let e1 : a + 1 ≡ suc a = omega arith in
+        let e2 : a + 2 ≡ suc (suc a) = omega arith in
+        let e3 : a + 3 ≡ suc (suc (suc a)) = omega arith in
+        rw (e1, e2, e3) (sets-eq front l a (omega arith))
 
 module _ (kind : ℕ) where
   pub length-record : (v : ℕ) → length (recordBytes kind v) ≡ 8
@@ -41,12 +51,6 @@ module _ (kind : ℕ) where
   records-snoc [] v = append-nil (recordBytes kind v)
   records-snoc (w ∷ vs) v =
       ap (λ (l : List ℕ). recordBytes kind w ++ l) (records-snoc vs v) ∙ sym (append-assoc (recordBytes kind w) (recordsBytes kind vs) (recordBytes kind v))
-
--- A record put where n bytes A end, in place of the first 8 of C.
-pub put-between : (A C R : List ℕ) (n : ℕ) → length A ≡ n → take n (A ++ C) ++ R ++ drop (n + 8) (A ++ C) ≡ A ++ R ++ drop 8 C
-put-between A C R n e =
-    ap (λ (l : List ℕ). l ++ R ++ drop (n + 8) (A ++ C)) (take-at A C n e)
-    ∙ ap (λ (k : ℕ). A ++ R ++ drop (k + 8) (A ++ C)) (sym e) ∙ ap (λ (l : List ℕ). A ++ R ++ l) (drop-append-add A C 8)
 
 -- Records from number `from` on: what the file holds after the first j.
 module _ (kind : ℕ) (vs : List ℕ) (from : ℕ) (file : List ℕ) where
@@ -77,7 +81,7 @@ module _ (kind : ℕ) (vs : List ℕ) (from : ℕ) (file : List ℕ) (fits : 8 *
       ≡ holding kind vs from file (suc j)
   unfolding holding
   holding-next j h =
-      put-between (front ++ recordsBytes kind (take j vs)) (drop (8 * (from + j)) file) (recordBytes kind (getD vs j 0)) (8 * (from + j))
+      put-between (front ++ recordsBytes kind (take j vs)) (drop (8 * (from + j)) file) (recordBytes kind (getD vs j 0)) (8 * (from + j)) 8
       (front-length j (omega arith))
       ∙ ap (λ (l : List ℕ). l ++ drop 8 (drop (8 * (from + j)) file))
       (append-assoc front (recordsBytes kind (take j vs)) (recordBytes kind (getD vs j 0)) ∙ ap (λ (l : List ℕ). front ++ l) more)

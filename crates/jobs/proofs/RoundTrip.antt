@@ -1,7 +1,7 @@
 -- Job files both ways: an accepted file has the bytes of the job that it holds; a valid job's bytes are accepted and hold it; so
 -- the accepted files are exactly the job files.
 -- Assumes nothing.
-use Prim.Native.Nat.{ℕ, zero, suc, _+_, _*_, _≤_, _<_}
+use Prim.Native.Nat.{ℕ, zero, suc, _+_, _*_, _≤_, _<_, _^_}
 use mathlib.Core.Path.{_≡_, refl, sym, ap, ap₂, subst, _∙_}
 use mathlib.Core.Bool.{Bool, true, false, _&&_}
 use mathlib.Core.List.{List, [], _∷_, _++_, append-assoc, append-nil}
@@ -14,19 +14,20 @@ use Rattle.chain.specs.Limits.{maxWeight, maxSpeed, maxTasks, maxProcessors}
 use Rattle.chain.specs.Job.{Job, jobOf, speedOf, Valid}
 use Rattle.chain.specs.Refusal.{between, eachBetween, processorsTest, tasksTest, firstRefusal}
 use Rattle.chain.proofs.Refusals.{job-accepted}
+use Rattle.fields.proofs.Laws.{Bytes}
 use Rattle.jobs.specs.JobFile.{processorKind, taskKind, recordBytes, recordsBytes, jobBytes, JobFile}
 use Rattle.jobs.specs.Parse.{recordCount, kindAt, valueAt, recordTests, recordsTests, valuesOf, speedsOf, weightsOf, jobIn, fileRefusal}
-use Rattle.jobs.proofs.Limits.{speed-limit, weight-limit}
-use Rattle.jobs.proofs.Each.{between-in}
-use Rattle.jobs.proofs.Steps.{passes, passed-all}
-use Rattle.jobs.proofs.ByLists.{counts-decide}
+use Rattle.refusals.proofs.Limits.{speed-limit, weight-limit}
+use Rattle.refusals.proofs.Each.{between-in}
+use Rattle.refusals.proofs.Steps.{passes, passed-all}
+use Rattle.refusals.proofs.ByLists.{counts-decide}
 use Rattle.jobs.proofs.Records.{records-snoc}
 use Rattle.jobs.proofs.Writing.{length-bytes}
 use Rattle.jobs.proofs.OneRecord.{processor-passes, task-passes}
 use Rattle.jobs.proofs.AllRecords.{multiple-passes, records-next, records-fewer, values-more, values-same}
 use Rattle.jobs.proofs.Passed.{OfProcessor, OfTask, passed-blank, passed-record, passed-at}
 use Rattle.jobs.proofs.Reading.{file-early, file-counts, accepted-multiple, accepted-records}
-use Rattle.jobs.proofs.Bytes.{Bytes, next-record, Holds, holds-kind, holds-blank, holds-value, run-record, after-run}
+use Rattle.jobs.proofs.Bytes.{next-record, Holds, holds-kind, holds-blank, holds-value, run-record, after-run}
 
 none : (l : List ℕ) → length l ≡ 0 → l ≡ []
 none [] e = refl
@@ -122,7 +123,7 @@ pub record Back (file : List ℕ) (n : ℕ) (es ws : List ℕ) : Type 0 where
   pub weights : valuesOf taskKind file n ≡ ws
   pub passed : firstRefusal (recordsTests file n) ≡ 0
 
-module _ {file : List ℕ} {n v : ℕ} {es ws : List ℕ} (q : Back file n es ws) (small : v < 4294967296) where
+module _ {file : List ℕ} {n v : ℕ} {es ws : List ℕ} (q : Back file n es ws) (small : v < 2 ^ 32) where
   pub back-processor : Holds file n processorKind v → ws ≡ [] → 1 ≤ v → v ≤ maxSpeed → Back file (suc n) (es ++ v ∷ []) ws
   back-processor h z l k =
       record {

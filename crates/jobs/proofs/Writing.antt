@@ -1,25 +1,20 @@
 -- What writing a job file answers and leaves, by its tests.
 -- Assumes nothing.
-use Prim.Native.Nat.{ℕ, _+_, _*_, _≤_, _<_}
+use Prim.Native.Nat.{ℕ, _+_, _*_}
 use mathlib.Core.Path.{_≡_, refl, sym, ap, _∙_}
-use mathlib.Core.Bool.{Bool, cond}
-use mathlib.Core.List.{List, [], _∷_, _++_}
+use mathlib.Core.List.{List, _++_}
 use mathlib.Core.Logic.{_≢_}
 use native.Mathlib.Omega.{arith}
-use lib.Dec.{eqb}
 use lib.ListN.{length, take, drop, length-append}
 use lib.Seq.{take-at, drop-drop, drop-append-add}
-use borrow.Author.Tests.{le-leb, lt-leb, ne-eqb}
-use Rattle.chain.specs.Job.{Job, jobOf}
-use Rattle.chain.specs.Refusal.{lengthTest, firstRefusal, jobTests, callTests, refusal}
-use Rattle.jobs.specs.declared.JobWritten.{JobWritten}
+use Rattle.chain.specs.Job.{Job, jobOf, tasks, processors}
+use Rattle.chain.specs.Refusal.{refusal}
+use Rattle.refusals.specs.Inputs.{bytesNeeded, writeInputs}
+use Rattle.refusals.specs.declared.Written.{Written}
+use Rattle.refusals.proofs.Answering.{wrote-refused, wrote-all}
 use Rattle.jobs.specs.JobFile.{processorKind, taskKind, recordsBytes, jobBytes}
-use Rattle.jobs.specs.Answers.{lentAfter, bytesNeeded, writeRefusal, writeAnswer, writeBytes}
-use Rattle.jobs.specs.Inner.{Writes}
-use Rattle.chain.proofs.Refusals.{job-numbered, first-refusal-append, first-refusal-before}
-use Rattle.jobs.proofs.Steps.{fails, passes, passed-all}
+use Rattle.jobs.specs.Answers.{writeAnswer, writeBytes}
 use Rattle.jobs.proofs.Records.{length-records}
-use Rattle.jobs.proofs.Lent.{lent-refused, lent-accepted}
 
 -- The bytes of a job.
 pub length-bytes : (job : Job) → length (jobBytes job) ≡ bytesNeeded job
@@ -50,65 +45,31 @@ bytes-put ws es file =
     rest : List ℕ
     rest = drop (8 * (0 + length es)) file
 
-module _ (job : Job) (lent : ℕ) where
-  refusal-is : writeRefusal job lent ≡ firstRefusal (jobTests job ++ lengthTest (bytesNeeded job) lent ∷ [])
-  unfolding writeRefusal refusal callTests jobTests
-  refusal-is = refl
+-- What `write_job` answers and leaves at each of its ends.
+module _ (job : Job) (file : List ℕ) where
+  abbrev pub Writes : Written → List ℕ → Type 0
+  Writes r now = (r ≡ writeAnswer job (length file)) × (now ≡ writeBytes job file)
 
-  by-job : firstRefusal (jobTests job) ≢ 0 → writeRefusal job lent ≡ firstRefusal (jobTests job)
-  by-job h = refusal-is ∙ first-refusal-before (jobTests job) (lengthTest (bytesNeeded job) lent ∷ []) h
+  abbrev number : ℕ
+  number = refusal job (writeInputs job (length file))
 
-  by-length : firstRefusal (jobTests job) ≡ 0 → writeRefusal job lent ≡ firstRefusal (lengthTest (bytesNeeded job) lent ∷ [])
-  by-length e = refusal-is ∙ first-refusal-append (jobTests job) (lengthTest (bytesNeeded job) lent ∷ []) (job-numbered job) e
+  pub write-refused : {n : ℕ} → n ≡ number → n ≢ 0 → Writes (Written.Refused n) file
+  unfolding writeAnswer writeBytes
+  write-refused e h = wrote-refused (bytesNeeded job) (jobBytes job) file e h
 
-  too-short : firstRefusal (jobTests job) ≡ 0 → lent < bytesNeeded job → writeRefusal job lent ≡ 9
-  unfolding lengthTest
-  too-short e h = by-length e ∙ fails 9 [] (lt-leb (bytesNeeded job) lent h)
-
-  long-enough : firstRefusal (jobTests job) ≡ 0 → bytesNeeded job ≤ lent → writeRefusal job lent ≡ 0
-  unfolding lengthTest
-  long-enough e h = by-length e ∙ passes 9 [] (le-leb (bytesNeeded job) lent h) ∙ passed-all
-
--- What a call answers and leaves, by its refusal.
-module _ (ws es file : List ℕ) where
-  abbrev job : Job
-  job = jobOf es ws
-
-  answer : ℕ → JobWritten
-  answer n = cond (eqb n 0) (JobWritten.Written (bytesNeeded job)) (JobWritten.Refused n)
-
-  refused : {n : ℕ} → n ≡ writeRefusal job (length file) → n ≢ 0 → Writes ws es file (JobWritten.Refused n) file
-  unfolding writeAnswer writeBytes answer
-  refused {n} e h =
-      record {
-        answers = sym (ap (λ (b : Bool). cond b (JobWritten.Written (bytesNeeded job)) (JobWritten.Refused n)) (ne-eqb n 0 h)) ∙ ap answer e;
-        into-file = sym (lent-refused h (jobBytes job) file) ∙ ap (λ (k : ℕ). lentAfter k (jobBytes job) file) e;
-      }
-
-  pub write-refused : {n : ℕ} → n ≡ firstRefusal (jobTests job) → n ≢ 0 → Writes ws es file (JobWritten.Refused n) file
-  write-refused {n} e h = refused (e ∙ sym (by-job job (length file) (λ z. h (e ∙ z)))) h
-
-  pub write-short : firstRefusal (jobTests job) ≡ 0 → length file < bytesNeeded job → Writes ws es file (JobWritten.Refused 9) file
-  write-short e h = refused (sym (too-short job (length file) e h)) (omega arith)
-
-  pub write-all : firstRefusal (jobTests job) ≡ 0 → bytesNeeded job ≤ length file
-      → Writes ws es file (JobWritten.Written (bytesNeeded job)) (jobBytes job ++ drop (length (jobBytes job)) file)
-  unfolding writeAnswer writeBytes answer
-  write-all e h =
-      let z : 0 ≡ writeRefusal job (length file) = sym (long-enough job (length file) e h) in
-      record { answers = ap answer z; into-file = sym (lent-accepted (jobBytes job) file) ∙ ap (λ (k : ℕ). lentAfter k (jobBytes job) file) z }
+  pub write-all : {now : List ℕ} → number ≡ 0 → now ≡ jobBytes job ++ drop (length (jobBytes job)) file → Writes (Written.Bytes (bytesNeeded job)) now
+  unfolding writeAnswer writeBytes
+  write-all z e =
+      wrote-all (bytesNeeded job) (jobBytes job) file z (length-bytes job)
+      (e ∙ ap (λ (n : ℕ). jobBytes job ++ drop n file) (length-bytes job))
 
   -- Processors from record 0 on, then tasks from record P on.
-  pub write-both : firstRefusal (jobTests job) ≡ 0 → bytesNeeded job ≤ length file → {one two : List ℕ}
-      → one ≡ take (8 * 0) file ++ recordsBytes 1 es ++ drop (8 * (0 + length es)) file
-      → two ≡ take (8 * length es) one ++ recordsBytes 2 ws ++ drop (8 * (length es + length ws)) one
-      → Writes ws es file (JobWritten.Written (bytesNeeded job)) two
-  write-both e h x y =
-      let w = write-all e h in
-      record {
-        answers = w .answers;
-        into-file = y ∙ ap (λ (l : List ℕ). take (8 * length es) l ++ recordsBytes 2 ws ++ drop (8 * (length es + length ws)) l) x ∙ bytes-put ws es file ∙ w .into-file;
-      }
-
--- For `search`: at each return the law that its tests meet.
-pub ruleset write-laws = (write-short, write-both)
+  pub write-both : number ≡ 0 → {one two : List ℕ}
+      → one ≡ take (8 * 0) file ++ recordsBytes 1 (job .speeds) ++ drop (8 * (0 + processors job)) file
+      → two ≡ take (8 * processors job) one ++ recordsBytes 2 (job .weights) ++ drop (8 * (processors job + tasks job)) one
+      → Writes (Written.Bytes (bytesNeeded job)) two
+  write-both z x y =
+      write-all z
+      (y
+      ∙ ap (λ (l : List ℕ). take (8 * processors job) l ++ recordsBytes 2 (job .weights) ++ drop (8 * (processors job + tasks job)) l) x
+      ∙ bytes-put (job .weights) (job .speeds) file)

@@ -1,15 +1,17 @@
 -- What reading and writing a job file answer, and what they leave in the lent lists, on the whole input.
-use Prim.Native.Nat.{ℕ, _+_, _*_}
+use Prim.Native.Nat.{ℕ}
 use mathlib.Core.Bool.{cond}
 use mathlib.Core.List.{List, [], _∷_, _++_}
-use lib.ListN.{length, drop}
+use lib.ListN.{length}
 use lib.Dec.{eqb}
-use Rattle.chain.specs.Job.{Job, tasks, processors}
-use Rattle.chain.specs.Refusal.{Test, lengthTest, firstRefusal, Inputs, refusal}
+use Rattle.chain.specs.Job.{Job}
+use Rattle.chain.specs.Refusal.{Test, lengthTest, firstRefusal, refusal}
+use Rattle.refusals.specs.Inputs.{bytesNeeded, writeInputs}
+use Rattle.refusals.specs.Answers.{writtenOf, lentAfter}
+use Rattle.refusals.specs.declared.Written.{Written}
 use Rattle.jobs.specs.JobFile.{jobBytes}
 use Rattle.jobs.specs.Parse.{speedsOf, weightsOf, fileTests}
 use Rattle.jobs.specs.declared.JobRead.{JobRead}
-use Rattle.jobs.specs.declared.JobWritten.{JobWritten}
 
 -- Document 01's number of an answer, 0 where the call is accepted; and its values, 0 where it is refused: "A refusal gives its
 -- number only".
@@ -24,19 +26,6 @@ readProcessors (JobRead.Refused number) = 0
 unfoldable pub readTasks : JobRead → ℕ
 readTasks (JobRead.Read processors tasks) = tasks
 readTasks (JobRead.Refused number) = 0
-
-unfoldable pub writtenNumber : JobWritten → ℕ
-writtenNumber (JobWritten.Written bytes) = 0
-writtenNumber (JobWritten.Refused number) = number
-
-unfoldable pub writtenBytes : JobWritten → ℕ
-writtenBytes (JobWritten.Written bytes) = bytes
-writtenBytes (JobWritten.Refused number) = 0
-
--- What a lent list holds after a call that puts these entries in front: "each lent list and buffer keeps its contents" on a
--- refusal, "Entries past the needed length stay" otherwise.
-unfoldable pub lentAfter : ℕ → List ℕ → List ℕ → List ℕ
-lentAfter number new old = cond (eqb number 0) (new ++ drop (length new) old) old
 
 -- The answer of a call that reads the file, by the number that it is refused with: P and N, or that number.
 unfoldable pub answerOf : ℕ → List ℕ → JobRead
@@ -63,21 +52,10 @@ readSpeeds file speeds weights = lentAfter (readRefusal file (length speeds) (le
 unfoldable pub readWeights : List ℕ → List ℕ → List ℕ → List ℕ
 readWeights file speeds weights = lentAfter (readRefusal file (length speeds) (length weights)) (weightsOf file) weights
 
--- Writing. "9, one too short: .. 8 × (N + P) job bytes". The buffer that is lent has this length.
-abbrev pub bytesNeeded : Job → ℕ
-bytesNeeded job = 8 * (tasks job + processors job)
-
-abbrev pub writeInputs : Job → ℕ → Inputs
-writeInputs job lent =
-    record { methods = []; lists = record { needed = bytesNeeded job; given = lent } ∷ []; bounds = []; divisions = [] }
-
-unfoldable pub writeRefusal : Job → ℕ → ℕ
-writeRefusal job lent = refusal job (writeInputs job lent)
-
-unfoldable pub writeAnswer : Job → ℕ → JobWritten
-writeAnswer job lent =
-    cond (eqb (writeRefusal job lent) 0) (JobWritten.Written (bytesNeeded job)) (JobWritten.Refused (writeRefusal job lent))
+-- Writing: the count of bytes, or the number of the refusal.
+unfoldable pub writeAnswer : Job → ℕ → Written
+writeAnswer job lent = writtenOf (refusal job (writeInputs job lent)) (bytesNeeded job)
 
 -- The buffer after writing.
 unfoldable pub writeBytes : Job → List ℕ → List ℕ
-writeBytes job file = lentAfter (writeRefusal job (length file)) (jobBytes job) file
+writeBytes job file = lentAfter (refusal job (writeInputs job (length file))) (jobBytes job) file

@@ -1,8 +1,9 @@
 -- What a job file is: the bytes of a job, as they are written. Document 01, "Files and the C call". Nothing here reads.
-use Prim.Native.Nat.{ℕ, _/_, _%_}
+use Prim.Native.Nat.{ℕ}
 use mathlib.Core.Path.{_≡_}
 use mathlib.Core.List.{List, [], _∷_, _++_}
 use Rattle.chain.specs.Job.{Job, Valid}
+use Rattle.fields.specs.Field.{fieldBytes}
 
 -- "the kind (1 machine, 2 tile)"
 abbrev pub processorKind : ℕ
@@ -10,10 +11,6 @@ processorKind = 1
 
 abbrev pub taskKind : ℕ
 taskKind = 2
-
--- "All fields are little-endian." A field of 32 bits.
-unfoldable pub fieldBytes : ℕ → List ℕ
-fieldBytes v = v % 256 ∷ v / 256 % 256 ∷ v / 65536 % 256 ∷ v / 16777216 % 256 ∷ []
 
 -- "byte 0 is the kind .., bytes 1 to 3 are zero, bytes 4 to 7 are the speed or weight."
 unfoldable pub recordBytes : ℕ → ℕ → List ℕ

@@ -8,23 +8,28 @@ use lib.Dec.{eqb}
 use Rattle.chain.specs.Limits.{maxWeight, maxSpeed}
 use Rattle.chain.specs.Job.{Job, jobOf}
 use Rattle.chain.specs.Refusal.{Test, test, between, processorsTest, tasksTest, firstRefusal}
+use Rattle.fields.specs.Field.{fieldAt}
+use Rattle.refusals.specs.Inputs.{recordSize}
 use Rattle.jobs.specs.JobFile.{processorKind, taskKind}
 
 -- "8-byte records without a header": how many.
 abbrev pub recordCount : List ℕ → ℕ
-recordCount file = length file / 8
+recordCount file = length file / recordSize
 
 -- Byte k of record i.
 unfoldable pub byteAt : List ℕ → ℕ → ℕ → ℕ
-byteAt file i k = getD file (8 * i + k) 0
+byteAt file i k = getD file (recordSize * i + k) 0
 
 -- "byte 0 is the kind"
 unfoldable pub kindAt : List ℕ → ℕ → ℕ
 kindAt file i = byteAt file i 0
 
--- "bytes 4 to 7 are the speed or weight", "little-endian"
+-- "bytes 4 to 7 are the speed or weight": the byte of a record at which its value begins.
+abbrev pub valuePlace : ℕ
+valuePlace = 4
+
 unfoldable pub valueAt : List ℕ → ℕ → ℕ
-valueAt file i = byteAt file i 4 + 256 * byteAt file i 5 + 65536 * byteAt file i 6 + 16777216 * byteAt file i 7
+valueAt file i = fieldAt file (recordSize * i + valuePlace)
 
 -- Record i is of this kind.
 unfoldable pub isKind : ℕ → List ℕ → ℕ → Bool
@@ -37,7 +42,7 @@ taskBefore file (suc i) = taskBefore file i || isKind taskKind file i
 
 -- "2, length not a multiple of 8."
 unfoldable pub multipleTest : List ℕ → Test
-multipleTest file = test 2 (eqb (length file % 8) 0)
+multipleTest file = test 2 (eqb (length file % recordSize) 0)
 
 -- "bytes 1 to 3 are zero"
 unfoldable pub blank : List ℕ → ℕ → Bool

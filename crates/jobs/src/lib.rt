@@ -1,27 +1,31 @@
-// A job by lists and by file: the tests, reading and writing.
+// Job files: reading and writing.
 ghost use Prim.Native.Nat.{_+_, _*_, _<_, _≤_};
 ghost use mathlib.Core.Path.{_≡_};
-ghost use mathlib.Core.Bool.{_&&_};
-ghost use mathlib.Core.List.{[], _∷_, _++_};
+ghost use mathlib.Core.List.{_++_};
 ghost use lib.ListN.{length, take, drop};
-ghost use lib.Dec.{leb};
-ghost use Rattle.chain.specs.Limits.{maxProcessors, maxTasks};
-ghost use Rattle.chain.specs.Job.{Job, jobOf};
-ghost use Rattle.chain.specs.Refusal.{test, between, eachBetween, firstRefusal, jobTests};
+ghost use Rattle.chain.specs.Job.{jobOf};
+ghost use Rattle.chain.specs.Refusal.{firstRefusal};
 ghost use Rattle.chain.specs.Lists.{tabulate};
+ghost use Rattle.refusals.specs.Inputs.{recordSize};
 ghost use Rattle.jobs.specs.JobFile.{taskKind, recordBytes, recordsBytes};
 ghost use Rattle.jobs.specs.Parse.{recordCount, byteAt, kindAt, valueAt, blank, recordTests, valuesOf};
 ghost use Rattle.jobs.specs.Answers.{answerOf, readAnswer, readSpeeds, readWeights, writeAnswer, writeBytes};
-ghost use Rattle.jobs.specs.Inner.{recordsRefusal, Accepted, Reads, Writes};
+ghost use Rattle.jobs.specs.Inner.{recordsRefusal, Accepted, Reads};
+use fields::get_field;
+use fields::put_field;
+use refusals::MAX_SPEED;
+use refusals::MAX_WEIGHT;
+use refusals::RECORD;
+use refusals::Written;
+use refusals::test_counts;
+use refusals::test_write_job;
 
-// The limits of a job.
-pub const MAX_TASKS: usize = 2048;
+// A record of a job file: the byte at which its value begins, and its kinds.
+const VALUE_PLACE: usize = 4;
 
-pub const MAX_WEIGHT: u32 = 1_000_000;
+const PROCESSOR_KIND: u8 = 1;
 
-pub const MAX_PROCESSORS: usize = 256;
-
-pub const MAX_SPEED: u32 = 10_000;
+const TASK_KIND: u8 = 2;
 
 // What reading a job file answers: the counts of processors and tasks, or the refusal's number.
 pub enum JobRead {
@@ -29,90 +33,28 @@ pub enum JobRead {
     Refused(u32),
 }
 
-// What writing a job file answers: the count of bytes, or the refusal's number.
-pub enum JobWritten {
-    Written(usize),
-    Refused(u32),
-}
-
-// Whether all before were and this number is from lo to hi. Inner.
-fn and_between(all: bool, lo: u32, hi: u32, value: u32) -> bool
-    ensures { λ r. ⌜ r ≡ (all && between lo hi value) ⌝ }
-{
-    let mut still = all;
-    if value < lo {
-        still = false;
-    }
-    if hi < value {
-        still = false;
-    }
-    still
-}
-
-// Whether every number of the list is from lo to hi. Inner. It reads them all, so that several are tested at once.
-fn each_between(lo: u32, hi: u32, values: &[u32]) -> bool
-    ensures { λ r. ⌜ r ≡ eachBetween lo hi (now (values .entry)) ⌝ }
-{
-    let mut all = true;
-    let mut i = 0;
-    while i < values.len() {
-        all = and_between(all, lo, hi, values[i]);
-        i += 1;
-    }
-    all
-}
-
-// The tests of the two counts: 0, 7 or 8. Inner.
-fn test_counts(processors: usize, tasks: usize) -> u32
-    ensures { λ r. ⌜ r ≡ firstRefusal (test 7 (between 1 maxProcessors processors) ∷ test 8 (leb tasks maxTasks) ∷ []) ⌝ }
-{
-    if processors == 0 {
-        return 7;
-    }
-    if MAX_PROCESSORS < processors {
-        return 7;
-    }
-    if MAX_TASKS < tasks {
-        return 8;
-    }
-    0
-}
-
-// The test of a job by lists: 0, or the number of the refusal: 5, 6, 7 or 8, in this order.
-pub fn test_job(speeds: &[u32], weights: &[u32]) -> u32
-    ensures { λ r.
-        let job = jobOf (now (speeds .entry)) (now (weights .entry)) in
-        ⌜ r ≡ firstRefusal (jobTests job) ⌝ }
-{
-    if !each_between(1, MAX_SPEED, speeds) {
-        return 5;
-    }
-    if !each_between(0, MAX_WEIGHT, weights) {
-        return 6;
-    }
-    test_counts(speeds.len(), weights.len())
-}
-
-// One record of a job file at its place. Inner: the place is in the file.
+// Inner. One record of a job file at its place.
 fn put_record(kind: u8, value: u32, i: usize, file: &mut [u8])
-    requires { ⌜ 8 * i + 8 ≤ length (now file) ⌝ }
-    ensures { λ _. ⌜ now (file .exit) ≡ take (8 * i) (now (file .entry)) ++ recordBytes kind value ++ drop (8 * i + 8) (now (file .entry)) ⌝ }
+    requires { ⌜ recordSize * i + recordSize ≤ length (now file) ⌝ }
+    ensures { λ _.
+        ⌜ now (file .exit)
+        ≡ take (recordSize * i) (now (file .entry)) ++ recordBytes kind value ++ drop (recordSize * i + recordSize) (now (file .entry)) ⌝ }
 {
-    let at = 8 * i;
+    let at = RECORD * i;
     file[at] = kind;
     file[at + 1] = 0;
     file[at + 2] = 0;
     file[at + 3] = 0;
-    file[at + 4] = (value % 256) as u8;
-    file[at + 5] = (value / 256 % 256) as u8;
-    file[at + 6] = (value / 65536 % 256) as u8;
-    file[at + 7] = (value / 16777216 % 256) as u8;
+    put_field(value, at + VALUE_PLACE, file);
 }
 
-// A record of this kind for each value, from record `from` on. Inner: their places are in the file.
+// Inner. A record of this kind for each value, from record `from` on.
 fn put_records(kind: u8, values: &[u32], from: usize, file: &mut [u8])
-    requires { ⌜ 8 * (from + length (now values)) ≤ length (now file) ⌝ }
-    ensures { λ _. ⌜ now (file .exit) ≡ take (8 * from) (now (file .entry)) ++ recordsBytes kind (now (values .entry)) ++ drop (8 * (from + length (now (values .entry)))) (now (file .entry)) ⌝ }
+    requires { ⌜ recordSize * (from + length (now values)) ≤ length (now file) ⌝ }
+    ensures { λ _.
+        ⌜ now (file .exit)
+        ≡ take (recordSize * from) (now (file .entry)) ++ recordsBytes kind (now (values .entry))
+        ++ drop (recordSize * (from + length (now (values .entry)))) (now (file .entry)) ⌝ }
 {
     let mut j = 0;
     while j < values.len() {
@@ -121,24 +63,8 @@ fn put_records(kind: u8, values: &[u32], from: usize, file: &mut [u8])
     }
 }
 
-// The rest of writing, where the job is accepted: the records, or 9. Inner: the job's tests pass.
-fn write_tested(speeds: &[u32], weights: &[u32], file: &mut [u8]) -> JobWritten
-    ghost { Job }
-    requires { λ job. ⌜ jobOf (now speeds) (now weights) ≡ job ⌝ }
-    requires { λ job. ⌜ firstRefusal (jobTests job) ≡ 0 ⌝ }
-    ensures { λ job r. ⌜ Writes (now (weights .entry)) (now (speeds .entry)) (now (file .entry)) r (now (file .exit)) ⌝ }
-{
-    let needed = 8 * (weights.len() + speeds.len());
-    if file.len() < needed {
-        return JobWritten::Refused(9);
-    }
-    put_records(1, speeds, 0, file);
-    put_records(2, weights, speeds.len(), file);
-    JobWritten::Written(needed)
-}
-
 // Writes a job file: the count of its bytes, or the refusal: 5, 6, 7, 8 or 9, in this order. Later bytes stay.
-pub fn write_job(speeds: &[u32], weights: &[u32], file: &mut [u8]) -> JobWritten
+pub fn write_job(speeds: &[u32], weights: &[u32], file: &mut [u8]) -> Written
     ensures answer { λ r.
         let job = jobOf (now (speeds .entry)) (now (weights .entry)) in
         ⌜ r ≡ writeAnswer job (length (now (file .entry))) ⌝ }
@@ -146,48 +72,40 @@ pub fn write_job(speeds: &[u32], weights: &[u32], file: &mut [u8]) -> JobWritten
         let job = jobOf (now (speeds .entry)) (now (weights .entry)) in
         ⌜ now (file .exit) ≡ writeBytes job (now (file .entry)) ⌝ }
 {
-    let found = test_job(speeds, weights);
-    if found != 0 {
-        return JobWritten::Refused(found);
+    let number = test_write_job(speeds, weights, file.len());
+    if number != 0 {
+        return Written::Refused(number);
     }
-    write_tested(speeds, weights, file)
+    put_records(PROCESSOR_KIND, speeds, 0, file);
+    put_records(TASK_KIND, weights, speeds.len(), file);
+    Written::Bytes(RECORD * (weights.len() + speeds.len()))
 }
 
-// A byte as a wider number. Inner.
-fn wide(x: u8) -> u32
-    ensures { λ r. ⌜ r ≡ x ⌝ }
+// Inner. Byte k of record i.
+fn byte_at(file: &[u8], i: usize, k: usize) -> u8
+    requires { ⌜ (i < recordCount (now file)) × (k < recordSize) ⌝ }
+    ensures { λ r. ⌜ r ≡ byteAt (now (file .entry)) i k ⌝ }
 {
-    x as u32
+    file[RECORD * i + k]
 }
 
-// Byte k of record i. Inner: the record is in the file.
-fn byte_at(file: &[u8], i: usize, k: usize) -> u32
-    requires { ⌜ (i < recordCount (now file)) × (k < 8) ⌝ }
-    ensures { λ r. ⌜ (r ≡ byteAt (now (file .entry)) i k) × (r < 256) ⌝ }
-{
-    wide(file[8 * i + k])
-}
-
-// The kind of record i. Inner: the record is in the file.
-fn kind_at(file: &[u8], i: usize) -> u32
+// Inner. The kind of record i.
+fn kind_at(file: &[u8], i: usize) -> u8
     requires { ⌜ i < recordCount (now file) ⌝ }
     ensures { λ r. ⌜ r ≡ kindAt (now (file .entry)) i ⌝ }
 {
     byte_at(file, i, 0)
 }
 
-// The value of record i. Inner: the record is in the file.
+// Inner. The value of record i.
 fn value_at(file: &[u8], i: usize) -> u32
     requires { ⌜ i < recordCount (now file) ⌝ }
     ensures { λ r. ⌜ r ≡ valueAt (now (file .entry)) i ⌝ }
 {
-    byte_at(file, i, 4)
-        + 256 * byte_at(file, i, 5)
-        + 65536 * byte_at(file, i, 6)
-        + 16777216 * byte_at(file, i, 7)
+    get_field(file, RECORD * i + VALUE_PLACE)
 }
 
-// Whether bytes 1 to 3 of record i are zero. Inner: the record is in the file.
+// Inner. Whether bytes 1 to 3 of record i are zero.
 fn blank_at(file: &[u8], i: usize) -> bool
     requires { ⌜ i < recordCount (now file) ⌝ }
     ensures { λ r. ⌜ r ≡ blank (now (file .entry)) i ⌝ }
@@ -201,7 +119,7 @@ fn blank_at(file: &[u8], i: usize) -> bool
     byte_at(file, i, 3) == 0
 }
 
-// The tests of record i: 0, 3, 4, 5 or 6. Inner: the record is in the file, and `tasks` counts the tasks before it.
+// Inner. The tests of record i: 0, 3, 4, 5 or 6. `tasks` counts the tasks before it.
 fn test_record(file: &[u8], i: usize, tasks: usize) -> u32
     requires { ⌜ (i < recordCount (now file)) × (tasks ≡ length (valuesOf taskKind (now file) i)) ⌝ }
     ensures { λ r. ⌜ r ≡ firstRefusal (recordTests (now (file .entry)) i) ⌝ }
@@ -211,7 +129,7 @@ fn test_record(file: &[u8], i: usize, tasks: usize) -> u32
     if !blank_at(file, i) {
         return 3;
     }
-    if kind == 1 {
+    if kind == PROCESSOR_KIND {
         if 0 < tasks {
             return 4;
         }
@@ -223,7 +141,7 @@ fn test_record(file: &[u8], i: usize, tasks: usize) -> u32
         }
         return 0;
     }
-    if kind == 2 {
+    if kind == TASK_KIND {
         if MAX_WEIGHT < value {
             return 6;
         }
@@ -232,14 +150,14 @@ fn test_record(file: &[u8], i: usize, tasks: usize) -> u32
     3
 }
 
-// The tests of the file's length and of its records: their counts, or the refusal: 2 to 6. Inner.
+// Inner. The tests of the file's length and of its records: their counts, or the refusal: 2 to 6.
 fn test_records(file: &[u8]) -> JobRead
     ensures { λ r. ⌜ r ≡ answerOf (recordsRefusal (now (file .entry))) (now (file .entry)) ⌝ }
 {
-    if file.len() % 8 != 0 {
+    if file.len() % RECORD != 0 {
         return JobRead::Refused(2);
     }
-    let records = file.len() / 8;
+    let records = file.len() / RECORD;
     let mut processors = 0;
     let mut tasks = 0;
     let mut i = 0;
@@ -248,7 +166,7 @@ fn test_records(file: &[u8]) -> JobRead
         if found != 0 {
             return JobRead::Refused(found);
         }
-        if kind_at(file, i) == 1 {
+        if kind_at(file, i) == PROCESSOR_KIND {
             processors += 1;
         } else {
             tasks += 1;
@@ -258,8 +176,7 @@ fn test_records(file: &[u8]) -> JobRead
     JobRead::Read { processors, tasks }
 }
 
-// The values of `count` records from record `from` on, into the first entries of a list. Inner: the records are in the file, and
-// the list is long enough.
+// Inner. The values of `count` records from record `from` on, into the first entries of a list.
 fn copy_values(file: &[u8], from: usize, count: usize, out: &mut [u32])
     requires { ⌜ (from + count ≤ recordCount (now file)) × (count ≤ length (now out)) ⌝ }
     ensures { λ _. ⌜ now (out .exit) ≡ tabulate (λ j. valueAt (now (file .entry)) (from + j)) count ++ drop count (now (out .entry)) ⌝ }
@@ -271,7 +188,7 @@ fn copy_values(file: &[u8], from: usize, count: usize, out: &mut [u32])
     }
 }
 
-// The rest of reading, where the file's length and records are accepted: 7, 8 or 9. Inner: the counts are the file's.
+// Inner. The rest of reading, where the file's length and records are accepted: 7, 8 or 9. The counts are the file's.
 fn read_tested(
     file: &[u8],
     processors: usize,

@@ -6,9 +6,9 @@ use Rattle.chain.specs.Limits.{maxTasks, maxWeight, maxProcessors, maxSpeed}
 use Rattle.chain.specs.Lists.{sum, all}
 use Rattle.chain.specs.Job.{Job, jobOf, speedOf, partWeight, partLoad}
 use Rattle.chain.specs.Refusal.{eachBetween, speedsTest, weightsTest, processorsTest, tasksTest, lengthTest, isPartition, partitionTest, firstRefusal, jobTests, callTests, refusal}
-use Rattle.jobs.specs.JobFile.{fieldBytes}
+use Rattle.fields.specs.Field.{fieldBytes}
+use Rattle.refusals.specs.Inputs.{writePlanInputs}
 use Rattle.planfile.specs.PlanFile.{planRecord, planBytesTo, planBytes}
-use Rattle.planfile.specs.Answers.{writePlanInputs, writePlanRefusal}
 
 abbrev A : Job
 A = jobOf (1 ∷ 3 ∷ []) (1 ∷ 3 ∷ 8 ∷ [])
@@ -21,7 +21,7 @@ unfolding planBytes planBytesTo planRecord fieldBytes partLoad partWeight speedO
 plan-of-A = refl
 
 -- The separators 0 2 2 are no division: 9 with a byte too few, 11 with enough, and 9 with a separator too few.
-pub refusals-of-A : (writePlanRefusal A (0 ∷ 2 ∷ 2 ∷ []) 31 ≡ 9) × (writePlanRefusal A (0 ∷ 2 ∷ 2 ∷ []) 32 ≡ 11) × (writePlanRefusal A (0 ∷ 3 ∷ []) 32 ≡ 9)
-    × (writePlanRefusal A (0 ∷ 1 ∷ 3 ∷ 7 ∷ []) 32 ≡ 0)
-unfolding writePlanRefusal writePlanInputs refusal callTests jobTests firstRefusal speedsTest weightsTest processorsTest tasksTest lengthTest partitionTest isPartition eachBetween all maxTasks maxWeight maxProcessors maxSpeed
+pub refusals-of-A : (refusal A (writePlanInputs A (0 ∷ 2 ∷ 2 ∷ []) 31) ≡ 9) × (refusal A (writePlanInputs A (0 ∷ 2 ∷ 2 ∷ []) 32) ≡ 11) × (refusal A (writePlanInputs A (0 ∷ 3 ∷ []) 32) ≡ 9)
+    × (refusal A (writePlanInputs A (0 ∷ 1 ∷ 3 ∷ 7 ∷ []) 32) ≡ 0)
+unfolding refusal callTests jobTests firstRefusal speedsTest weightsTest processorsTest tasksTest lengthTest partitionTest isPartition eachBetween all maxTasks maxWeight maxProcessors maxSpeed
 refusals-of-A = (refl, refl, refl, refl)

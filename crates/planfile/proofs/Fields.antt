@@ -7,35 +7,11 @@ use native.Mathlib.Omega.{arith}
 use lib.ListN.{length, getD}
 use lib.Seq.{getD-append-add}
 use Rattle.chain.specs.Job.{Job, Valid, processors, speedOf, partLoad, at, Partition}
-use Rattle.jobs.specs.JobFile.{fieldBytes}
-use Rattle.planfile.specs.PlanFile.{planRecord, planBytesTo, planBytes, fieldAt}
+use Rattle.fields.specs.Field.{fieldBytes, fieldAt}
+use Rattle.fields.proofs.Laws.{field-front, field-after}
+use Rattle.planfile.specs.PlanFile.{planRecord, planBytesTo, planBytes}
 use Rattle.planfile.proofs.Records.{length-plan-to}
 use Rattle.planfile.proofs.Parts.{FieldsFit, fields-fit}
-
--- Four digits of base 256.
-digits : (v x y z a b c d : ℕ) → v ≡ 256 * x + a → x ≡ 256 * y + b → y ≡ 256 * z + c → z ≡ d
-    → a + 256 * b + 65536 * c + 16777216 * d ≡ v
-digits v x y z a b c d e f g h = omega arith
-
--- The little-endian value of a field's bytes is the field, whatever follows them.
-pub field-front : (v : ℕ) (C : List ℕ) → v < 2 ^ 32 → fieldAt (fieldBytes v ++ C) 0 ≡ v
-unfolding fieldAt fieldBytes
-field-front v C h =
-    digits v (v / 256) (v / 65536) (v / 16777216) (v % 256) (v / 256 % 256) (v / 65536 % 256) (v / 16777216 % 256)
-    (omega arith) (omega arith) (omega arith) (omega arith)
-
-pub field-reads : (v : ℕ) → v < 2 ^ 32 → fieldAt (fieldBytes v) 0 ≡ v
-unfolding fieldBytes
-field-reads v h = field-front v [] h
-
--- Bytes in front only move the places.
-pub field-after : (A B : List ℕ) (n k : ℕ) → length A ≡ n → fieldAt (A ++ B) (n + k) ≡ fieldAt B k
-unfolding fieldAt
-field-after A B n k e =
-    rw (byte (n + k) k (omega arith), byte (n + k + 1) (k + 1) (omega arith), byte (n + k + 2) (k + 2) (omega arith), byte (n + k + 3) (k + 3) (omega arith))
-  where
-    byte : (i j : ℕ) → i ≡ length A + j → getD (A ++ B) i 0 ≡ getD B j 0
-    byte i j f = ap (λ (m : ℕ). getD (A ++ B) m 0) f ∙ getD-append-add A B j 0
 
 -- The record of processor p stands after those of the processors before it.
 plan-split : (job : Job) (s : List ℕ) (p d : ℕ)

@@ -1,37 +1,17 @@
 -- Records of a plan file, in the order in which they are written.
 -- Assumes nothing.
-use Prim.Native.Nat.{ℕ, zero, suc, _+_, _*_, _/_, _%_, _≤_, _<_}
+use Prim.Native.Nat.{ℕ, zero, suc, _+_, _*_, _≤_, _<_}
 use mathlib.Core.Path.{_≡_, refl, sym, ap, ap₂, _∙_}
 use mathlib.Core.List.{List, _++_, append-assoc}
 use native.Mathlib.Omega.{arith}
 use native.Mathlib.Numerals.{add-one}
-use lib.ListN.{length, take, drop, set, length-append, length-drop, take-append-drop}
-use lib.Seq.{take-at, length-take-le, drop-drop, drop-append-add, sets-eq, getD-take}
+use lib.ListN.{length, take, drop, length-append, length-drop, take-append-drop}
+use lib.Seq.{length-take-le, getD-take}
 use Rattle.chain.specs.Job.{Job, processors, speedOf, partLoad, at}
-use Rattle.jobs.specs.JobFile.{fieldBytes}
+use Rattle.fields.specs.Field.{fieldBytes}
+use Rattle.fields.proofs.Laws.{length-field}
+use Rattle.fields.proofs.Stores.{put-next}
 use Rattle.planfile.specs.PlanFile.{planRecord, planBytesTo, planBytes}
-
--- Four stores make a field.
-pub four-stores : (l : List ℕ) (a v : ℕ) → a + 4 ≤ length l
-    → set (set (set (set l a (v % 256)) (a + 1) (v / 256 % 256)) (a + 2) (v / 65536 % 256)) (a + 3) (v / 16777216 % 256)
-    ≡ take a l ++ fieldBytes v ++ drop (a + 4) l
-unfolding fieldBytes
-four-stores l a v h =
-    let e1 : a + 1 ≡ suc a = omega arith in
-    let e2 : a + 2 ≡ suc (suc a) = omega arith in
-    let e3 : a + 3 ≡ suc (suc (suc a)) = omega arith in
-    rw (e1, e2, e3) (sets-eq (fieldBytes v) l a h)
-
--- The first n bytes are A and the others are still those of l: k bytes R are put next.
-pub put-next : (l A R : List ℕ) (n k : ℕ) → length A ≡ n
-    → take n (A ++ drop n l) ++ R ++ drop (n + k) (A ++ drop n l) ≡ A ++ R ++ drop (n + k) l
-put-next l A R n k e =
-    ap₂ (λ (x y : List ℕ). x ++ R ++ y) (take-at A (drop n l) n e)
-    (ap (λ (m : ℕ). drop (m + k) (A ++ drop n l)) (sym e) ∙ drop-append-add A (drop n l) k ∙ drop-drop k n l)
-
-pub length-field : (v : ℕ) → length (fieldBytes v) ≡ 4
-unfolding fieldBytes
-length-field v = refl
 
 -- One field more, from place m to place k.
 next-field : (l now next A : List ℕ) (m k v : ℕ) → length A ≡ m → now ≡ A ++ drop m l → m + 4 ≡ k

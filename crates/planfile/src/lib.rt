@@ -4,20 +4,17 @@ ghost use mathlib.Core.Path.{_≡_};
 ghost use mathlib.Core.List.{_++_};
 ghost use lib.ListN.{length, take, drop};
 ghost use Rattle.chain.specs.Job.{Job, jobOf, tasks, processors, Partition, partLoad};
-ghost use Rattle.jobs.specs.JobFile.{fieldBytes};
+ghost use Rattle.refusals.specs.Inputs.{planRecordSize, planNeeded};
 ghost use Rattle.parts.specs.Prefix.{Ready};
 ghost use Rattle.planfile.specs.PlanFile.{planRecord, planBytes};
-ghost use Rattle.planfile.specs.Answers.{writePlanRefusal, writePlanAnswer, writePlanBytes};
-use calls::is_partition;
-use jobs::MAX_TASKS;
-use jobs::test_job;
+ghost use Rattle.planfile.specs.Answers.{writePlanAnswer, writePlanBytes};
+use fields::FIELD;
+use fields::put_field;
 use parts::prefix_sums;
-
-// What writing a plan file answers: the count of bytes, or the refusal's number.
-pub enum PlanWritten {
-    Written(usize),
-    Refused(u32),
-}
+use refusals::MAX_TASKS;
+use refusals::PLAN_RECORD;
+use refusals::Written;
+use refusals::test_write_plan;
 
 // Inner. The load of the part from a to b.
 fn part_load(speeds: &[u32], weights: &[u32], sums: &[u32], a: u32, b: u32) -> u32
@@ -28,17 +25,6 @@ fn part_load(speeds: &[u32], weights: &[u32], sums: &[u32], a: u32, b: u32) -> u
     ensures { λ job r. ⌜ r ≡ partLoad job a b ⌝ }
 {
     sums[b as usize] - sums[a as usize]
-}
-
-// Inner. One 32-bit field at its place, the least byte first.
-fn put_field(value: u32, place: usize, plan: &mut [u8])
-    requires { ⌜ place + 4 ≤ length (now plan) ⌝ }
-    ensures { λ _. ⌜ now (plan .exit) ≡ take place (now (plan .entry)) ++ fieldBytes value ++ drop (place + 4) (now (plan .entry)) ⌝ }
-{
-    plan[place] = (value % 256) as u8;
-    plan[place + 1] = (value / 256 % 256) as u8;
-    plan[place + 2] = (value / 65536 % 256) as u8;
-    plan[place + 3] = (value / 16777216 % 256) as u8;
 }
 
 // Inner. The record of processor p at its place.
@@ -54,16 +40,23 @@ fn put_plan_record(
     requires { λ job. ⌜ jobOf (now speeds) (now weights) ≡ job ⌝ }
     requires { λ job. ⌜ Ready job (now sums) ⌝ }
     requires { λ job. ⌜ Partition job (take (suc (processors job)) (now separators)) ⌝ }
-    requires { λ job. ⌜ (p < processors job) × (16 * p + 16 ≤ length (now plan)) ⌝ }
-    ensures { λ job _. ⌜ now (plan .exit) ≡ take (16 * p) (now (plan .entry)) ++ planRecord job (now (separators .entry)) p ++ drop (16 * p + 16) (now (plan .entry)) ⌝ }
+    requires { λ job. ⌜ (p < processors job) × (planRecordSize * p + planRecordSize ≤ length (now plan)) ⌝ }
+    ensures { λ job _.
+        ⌜ now (plan .exit)
+        ≡ take (planRecordSize * p) (now (plan .entry)) ++ planRecord job (now (separators .entry)) p
+        ++ drop (planRecordSize * p + planRecordSize) (now (plan .entry)) ⌝ }
 {
-    let place = 16 * p;
+    let place = PLAN_RECORD * p;
     let a = separators[p];
     let b = separators[p + 1];
     put_field(a, place, plan);
-    put_field(b, place + 4, plan);
-    put_field(part_load(speeds, weights, sums, a, b), place + 8, plan);
-    put_field(speeds[p], place + 12, plan);
+    put_field(b, place + FIELD, plan);
+    put_field(
+        part_load(speeds, weights, sums, a, b),
+        place + 2 * FIELD,
+        plan,
+    );
+    put_field(speeds[p], place + 3 * FIELD, plan);
 }
 
 // Inner. The records of all processors to the front of the buffer. Later bytes stay.
@@ -72,8 +65,9 @@ pub fn put_plan(speeds: &[u32], weights: &[u32], sums: &[u32], separators: &[u32
     requires { λ job. ⌜ jobOf (now speeds) (now weights) ≡ job ⌝ }
     requires { λ job. ⌜ Ready job (now sums) ⌝ }
     requires { λ job. ⌜ Partition job (take (suc (processors job)) (now separators)) ⌝ }
-    requires { λ job. ⌜ 16 * processors job ≤ length (now plan) ⌝ }
-    ensures { λ job _. ⌜ now (plan .exit) ≡ planBytes job (now (separators .entry)) ++ drop (16 * processors job) (now (plan .entry)) ⌝ }
+    requires { λ job. ⌜ planNeeded job ≤ length (now plan) ⌝ }
+    ensures { λ job _.
+        ⌜ now (plan .exit) ≡ planBytes job (now (separators .entry)) ++ drop (planNeeded job) (now (plan .entry)) ⌝ }
 {
     let mut p = 0;
     while p < speeds.len() {
@@ -82,37 +76,8 @@ pub fn put_plan(speeds: &[u32], weights: &[u32], sums: &[u32], separators: &[u32
     }
 }
 
-// Inner. The tests of writing a plan file: 0, or the refusal: 5, 6, 7, 8, 9 or 11, in this order.
-fn test_plan(speeds: &[u32], weights: &[u32], separators: &[u32], lent: usize) -> u32
-    ensures { λ r.
-        let job = jobOf (now (speeds .entry)) (now (weights .entry)) in
-        ⌜ r ≡ writePlanRefusal job (now (separators .entry)) lent ⌝ }
-{
-    let found = test_job(speeds, weights);
-    if found != 0 {
-        return found;
-    }
-    if separators.len() <= speeds.len() {
-        return 9; // too few separators
-    }
-    let needed = 16 * speeds.len();
-    let divided = is_partition(speeds, weights, separators);
-    if lent < needed {
-        return 9; // too few bytes
-    }
-    if !divided {
-        return 11;
-    }
-    0
-}
-
 // Writes a plan file: the count of its bytes, or the refusal: 5, 6, 7, 8, 9 or 11, in this order. Later bytes stay.
-pub fn write_plan(
-    speeds: &[u32],
-    weights: &[u32],
-    separators: &[u32],
-    plan: &mut [u8],
-) -> PlanWritten
+pub fn write_plan(speeds: &[u32], weights: &[u32], separators: &[u32], plan: &mut [u8]) -> Written
     ensures answer { λ r.
         let job = jobOf (now (speeds .entry)) (now (weights .entry)) in
         ⌜ r ≡ writePlanAnswer job (now (separators .entry)) (length (now (plan .entry))) ⌝ }
@@ -120,12 +85,12 @@ pub fn write_plan(
         let job = jobOf (now (speeds .entry)) (now (weights .entry)) in
         ⌜ now (plan .exit) ≡ writePlanBytes job (now (separators .entry)) (now (plan .entry)) ⌝ }
 {
-    let found = test_plan(speeds, weights, separators, plan.len());
-    if found != 0 {
-        return PlanWritten::Refused(found);
+    let number = test_write_plan(speeds, weights, separators, plan.len());
+    if number != 0 {
+        return Written::Refused(number);
     }
     let mut sums = [0u32; MAX_TASKS + 1];
     prefix_sums(speeds, weights, &mut sums);
     put_plan(speeds, weights, &sums, separators, plan);
-    PlanWritten::Written(16 * speeds.len())
+    Written::Bytes(PLAN_RECORD * speeds.len())
 }

@@ -1,12 +1,9 @@
 -- Laws for planning: what each method ends with, the closing walk, and the answer.
 -- Assumes nothing.
 use Prim.Native.Nat.{ℕ, zero, suc, _+_, _-_, _*_, _≤_, _<_}
-use mathlib.Core.Path.{_≡_, refl, sym, ap, subst, _∙_}
-use mathlib.Core.Bool.{Bool, cond, _&&_}
-use mathlib.Core.List.{List, [], _∷_, _++_}
+use mathlib.Core.Path.{_≡_, sym, ap, subst, _∙_}
+use mathlib.Core.List.{List, _++_}
 use native.Mathlib.Omega.{arith}
-use lib.Dec.{leb}
-use borrow.Author.Tests.{le-leb, lt-leb}
 use lib.ListN.{length, drop, length-append, length-drop}
 use lib.Seq.{drop-append-add, drop-drop}
 use Rattle.bound.specs.declared.Bound.{Bound}
@@ -15,14 +12,13 @@ use Rattle.chain.specs.Job.{Job, Valid, partWeight, tasks, processors, bottlene
 use Rattle.chain.specs.Probe.{walk}
 use Rattle.chain.specs.Search.{bidding}
 use Rattle.chain.specs.Plan.{Method, MethodEnds, BiddingEnds, BisectionEnds, planOf, PlanBy, allowance, imbalance}
-use Rattle.chain.specs.Refusal.{Test, between, methodTest, lengthTest, firstRefusal, jobTests, callTests, refusal}
-use Rattle.chain.proofs.Refusals.{first-refusal-append, first-refusal-before, job-numbered, job-accepted}
 use Rattle.chain.proofs.Indices.{length-tabulate}
 use Rattle.chain.proofs.Parts.{valid-proper, weight-all}
 use Rattle.chain.proofs.Ideal.{ideal-least}
 use Rattle.chain.proofs.Best.{least-alike}
 use Rattle.chain.proofs.Demand.{least-bottleneck, method-least, method-allowed, plan-of-best}
 use Rattle.chain.proofs.Ranges.{Small, Lendable, small-lendable, ideal-lendable, next-bid-small, bottleneck-small}
+use Rattle.refusals.specs.Inputs.{scratchNeeded}
 use Rattle.parts.specs.Prefix.{Ready, Prefix, prefixes}
 use Rattle.parts.proofs.Laws.{prefixes-are}
 use Rattle.parts.specs.Kept.{KeptFrom}
@@ -30,7 +26,7 @@ use Rattle.figures.specs.Methods.{methodOf}
 use Rattle.figures.proofs.Laws.{method-table, method-bidding, method-bisection}
 use Rattle.dynamic.specs.Rows.{Tabled}
 use Rattle.planner.specs.declared.Figures.{Figures}
-use Rattle.planner.specs.Answers.{scratchNeeded, planInputs, planRefusal, planWith, PlanGiven}
+use Rattle.planner.specs.Answers.{planWith, PlanGiven}
 
 -- The three methods by their numbers.
 pub ends-table : {job : Job} {xs ys : List ℕ} {B : Bound} {n : ℕ} (m : ℕ) → m ≡ 1 → Tabled job xs ys B n → MethodEnds (methodOf m) job n B
@@ -114,53 +110,3 @@ summed-behind job xs {ys} e h =
 
     count : length (prefixes job) ≡ suc (tasks job)
     count = length-tabulate (partWeight job 0) (suc (tasks job))
-
--- The order of the tests: the method, the job, the two lists.
-module _ (job : Job) (m a b : ℕ) where
-  lists : List Test
-  lists = lengthTest (suc (processors job)) a ∷ lengthTest (scratchNeeded job) b ∷ []
-
-  in-order : planRefusal job m a b ≡ cond (between 1 3 m) (firstRefusal (jobTests job ++ lists)) 1
-  unfolding planRefusal planInputs refusal callTests methodTest firstRefusal jobTests lists
-  in-order = refl
-
-  pub few-method : m < 1 → planRefusal job m a b ≡ 1
-  few-method h = in-order ∙ ap (λ (t : Bool). cond (t && leb m 3) (firstRefusal (jobTests job ++ lists)) 1) (lt-leb 1 m h)
-
-  pub many-method : 1 ≤ m → 3 < m → planRefusal job m a b ≡ 1
-  many-method h k =
-      in-order ∙ ap (λ (t : Bool). cond (t && leb m 3) (firstRefusal (jobTests job ++ lists)) 1) (le-leb 1 m h)
-      ∙ ap (λ (t : Bool). cond t (firstRefusal (jobTests job ++ lists)) 1) (lt-leb m 3 k)
-
-  module _ (low : 1 ≤ m) (high : m ≤ 3) where
-    tested-method : planRefusal job m a b ≡ firstRefusal (jobTests job ++ lists)
-    tested-method =
-        in-order ∙ ap (λ (t : Bool). cond (t && leb m 3) (firstRefusal (jobTests job ++ lists)) 1) (le-leb 1 m low)
-        ∙ ap (λ (t : Bool). cond t (firstRefusal (jobTests job ++ lists)) 1) (le-leb m 3 high)
-
-    pub refused-job : (n : ℕ) → n ≡ firstRefusal (jobTests job) → (n ≡ 0 → ⊥) → planRefusal job m a b ≡ n
-    refused-job n e h = tested-method ∙ first-refusal-before (jobTests job) lists (λ x. h (e ∙ x)) ∙ sym e
-
-    module _ (n : ℕ) (is : n ≡ firstRefusal (jobTests job)) (passed : n ≡ 0) where
-      tested-job : planRefusal job m a b ≡ firstRefusal lists
-      tested-job = tested-method ∙ first-refusal-append (jobTests job) lists (job-numbered job) (sym is ∙ passed)
-
-      pub job-valid : Valid job
-      job-valid = job-accepted .0 (sym is ∙ passed)
-
-      pub short-separators : a ≤ processors job → planRefusal job m a b ≡ 9
-      unfolding firstRefusal lists lengthTest
-      short-separators h =
-          tested-job ∙ ap (λ (t : Bool). cond t (firstRefusal (lengthTest (scratchNeeded job) b ∷ [])) 9) (lt-leb (suc (processors job)) a (omega arith))
-
-      pub short-scratch : processors job < a → b < scratchNeeded job → planRefusal job m a b ≡ 9
-      unfolding firstRefusal lists lengthTest
-      short-scratch h k =
-          tested-job ∙ ap (λ (t : Bool). cond t (firstRefusal (lengthTest (scratchNeeded job) b ∷ [])) 9) (le-leb (suc (processors job)) a h)
-          ∙ ap (λ (t : Bool). cond t 0 9) (lt-leb (scratchNeeded job) b k)
-
-      pub accepted : processors job < a → scratchNeeded job ≤ b → planRefusal job m a b ≡ 0
-      unfolding firstRefusal lists lengthTest
-      accepted h k =
-          tested-job ∙ ap (λ (t : Bool). cond t (firstRefusal (lengthTest (scratchNeeded job) b ∷ [])) 9) (le-leb (suc (processors job)) a h)
-          ∙ ap (λ (t : Bool). cond t 0 9) (le-leb (scratchNeeded job) b k)

@@ -14,16 +14,17 @@ use Rattle.chain.specs.Plan.{planOf}
 use Rattle.chain.specs.Refusal.{Test, between, methodTest, lengthTest, firstRefusal}
 use Rattle.chain.proofs.Refusals.{first-refusal-append, first-refusal-before}
 use Rattle.jobs.specs.Parse.{speedsOf, weightsOf, jobIn, fileTests, fileRefusal}
-use Rattle.jobs.specs.Answers.{lentAfter, readNumber, readProcessors, readTasks, answerOf, readTests, readRefusal, readAnswer, readSpeeds, readWeights}
+use Rattle.refusals.specs.Answers.{lentAfter}
+use Rattle.jobs.specs.Answers.{readNumber, readProcessors, readTasks, answerOf, readTests, readRefusal, readAnswer, readSpeeds, readWeights}
 use Rattle.jobs.specs.declared.JobRead.{JobRead}
 use Rattle.jobs.proofs.Calls.{file-numbered, read-number, read-processors, read-tasks}
-use Rattle.jobs.proofs.Lent.{lent-refused, lent-accepted}
-use Rattle.jobs.proofs.Limits.{tasks-limit, processors-limit}
+use Rattle.refusals.proofs.Lent.{lent-refused, lent-accepted}
+use Rattle.refusals.proofs.Limits.{tasks-limit, processors-limit}
 use Rattle.jobs.proofs.RoundTrip.{accepted-valid}
 use Rattle.planfile.specs.PlanFile.{planBytes}
 use Rattle.planfile.proofs.Records.{length-plan, plan-take}
 use Rattle.parts.proofs.Front.{taken}
-use Rattle.planner.specs.Answers.{scratchNeeded}
+use Rattle.refusals.specs.Inputs.{scratchNeeded}
 use Rattle.planner.specs.HostCall.{Host, hostTests, hostAnswer, hostBytes}
 
 -- The local lists of the call are long enough for every job.

@@ -1,31 +1,17 @@
 -- What planning answers and leaves in the lent lists, refusals included. Document 01, "The three methods", "Who causes which
 -- number"; demand 3.
-use Prim.Native.Nat.{ℕ, suc, _+_, _*_, _≤_, _<_}
+use Prim.Native.Nat.{ℕ, suc, _≤_, _<_}
 use mathlib.Core.Path.{_≡_}
-use mathlib.Core.List.{List, [], _∷_, _++_}
+use mathlib.Core.List.{List, _++_}
 use lib.ListN.{length, drop}
-use Rattle.chain.specs.Job.{Job, tasks, processors}
+use Rattle.chain.specs.Job.{Job, processors}
 use Rattle.chain.specs.Plan.{planOf, Best, Plan, PlanBy}
-use Rattle.chain.specs.Refusal.{Inputs, refusal}
+use Rattle.chain.specs.Refusal.{refusal}
+use Rattle.refusals.specs.Inputs.{scratchNeeded, planInputs}
 use Rattle.figures.specs.Methods.{methodOf}
 use Rattle.planner.specs.declared.Figures.{Figures}
 use Rattle.planner.specs.declared.Planned.{Planned}
 use Rattle.planner.specs.declared.Planned.the-variants.{Accepted, Refused}
-
--- "5 × (N + 1) work numbers of 32 bits"
-abbrev pub scratchNeeded : Job → ℕ
-scratchNeeded job = 5 * suc (tasks job)
-
--- What planning takes beside the job: a method, P + 1 separators and the work numbers, in lists of these lengths.
-unfoldable pub planInputs : Job → ℕ → ℕ → ℕ → Inputs
-planInputs job m separators scratch =
-    record {
-      methods = m ∷ [];
-      lists =
-          record { needed = suc (processors job); given = separators } ∷ record { needed = scratchNeeded job; given = scratch } ∷ [];
-      bounds = [];
-      divisions = [];
-    }
 
 -- The number that planning is refused with, 0 where it is accepted.
 unfoldable pub planRefusal : Job → ℕ → ℕ → ℕ → ℕ

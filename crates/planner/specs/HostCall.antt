@@ -7,7 +7,7 @@ use Rattle.chain.specs.Job.{Job, processors}
 use Rattle.chain.specs.Plan.{planOf}
 use Rattle.chain.specs.Refusal.{Test, methodTest, lengthTest, firstRefusal}
 use Rattle.jobs.specs.Parse.{jobIn, fileTests}
-use Rattle.jobs.specs.Answers.{lentAfter}
+use Rattle.refusals.specs.Answers.{lentAfter}
 use Rattle.planfile.specs.PlanFile.{planBytes}
 
 -- The tests in their order: the method; the file; "16 × P plan bytes", in a buffer of this length.

@@ -18,11 +18,11 @@ use dynamic::table_in;
 use figures::allowance_of;
 use figures::imbalance_of;
 use heuristic::measure_in;
-use jobs::test_job;
 use parts::Found;
 use parts::prefix_sums;
 use parts::wide;
 use probe::probe_in;
+use refusals::test_plan;
 use search::bidding_in;
 use search::bisection_in;
 

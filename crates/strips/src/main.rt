@@ -8,13 +8,13 @@ ghost use Rattle.chain.specs.Limits.{maxProcessors, maxTasks};
 ghost use Rattle.chain.specs.Lists.{sum};
 ghost use Rattle.strips.specs.Widths.{digits, spaced, figureCount, planLine, countsLine, refusalLine, listing};
 use jobs::JobRead;
-use jobs::MAX_PROCESSORS;
-use jobs::MAX_TASKS;
 use jobs::read_job;
 use parts::wide;
 use planner::Figures;
 use planner::Planned;
 use planner::plan;
+use refusals::MAX_PROCESSORS;
+use refusals::MAX_TASKS;
 
 // One record more than the longest job allowed: a longer file is judged by that much.
 const FILE_BYTES: usize = 8 * (MAX_PROCESSORS + MAX_TASKS + 1);

@@ -4,11 +4,10 @@ use Prim.Native.Nat.{ℕ}
 use mathlib.Core.List.{List}
 use lib.ListN.{set}
 use Rattle.bound.specs.declared.Bound.{Bound}
+use Rattle.refusals.specs.declared.Written.{Written}
 use Rattle.jobs.specs.declared.JobRead.{JobRead}
-use Rattle.jobs.specs.declared.JobWritten.{JobWritten}
 use Rattle.calls.specs.declared.Measured.{Measured}
 use Rattle.calls.specs.declared.Probed.{Probed}
-use Rattle.planfile.specs.declared.PlanWritten.{PlanWritten}
 use Rattle.planner.specs.declared.Planned.{Planned}
 
 -- A bound's load at entry i, its speed at entry j.
@@ -21,9 +20,9 @@ readPut (JobRead.Read processors tasks) xs = set (set xs 0 processors) 1 tasks
 readPut (JobRead.Refused number) xs = xs
 
 -- The bytes written.
-abbrev pub writtenPut : JobWritten → List ℕ → List ℕ
-writtenPut (JobWritten.Written bytes) xs = set xs 0 bytes
-writtenPut (JobWritten.Refused number) xs = xs
+abbrev pub writtenPut : Written → List ℕ → List ℕ
+writtenPut (Written.Bytes bytes) xs = set xs 0 bytes
+writtenPut (Written.Refused number) xs = xs
 
 -- The bottleneck's load, speed.
 abbrev pub measuredPut : Measured → List ℕ → List ℕ
@@ -40,8 +39,3 @@ probedPut (Probed.Refused number) xs = xs
 abbrev pub plannedPut : Planned → List ℕ → List ℕ
 plannedPut (Planned.Accepted f) xs = set (boundPut (set (set xs 0 (f .count)) 1 (f .allowance)) 2 3 (f .bottleneck)) 4 (f .imbalance)
 plannedPut (Planned.Refused number) xs = xs
-
--- The bytes written.
-abbrev pub planWrittenPut : PlanWritten → List ℕ → List ℕ
-planWrittenPut (PlanWritten.Written bytes) xs = set xs 0 bytes
-planWrittenPut (PlanWritten.Refused number) xs = xs

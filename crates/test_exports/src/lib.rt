@@ -5,12 +5,14 @@ ghost use mathlib.Core.Path.{_≡_};
 ghost use Rattle.chain.specs.Job.{jobOf};
 ghost use Rattle.chain.specs.Refusal.{firstRefusal, jobTests};
 ghost use lib.ListN.{length, set};
-ghost use Rattle.jobs.specs.Answers.{readNumber, readAnswer, readSpeeds, readWeights, writtenNumber, writeAnswer, writeBytes};
-ghost use Rattle.calls.specs.Answers.{measuredNumber, measureAnswer, heuristicAnswer, heuristicWrites, probedNumber, probeAnswer, probeWrites};
-ghost use Rattle.planfile.specs.Answers.{planWrittenNumber, writePlanAnswer, writePlanBytes};
+ghost use Rattle.refusals.specs.Answers.{writtenNumber};
+ghost use Rattle.jobs.specs.Answers.{readNumber, readAnswer, readSpeeds, readWeights, writeAnswer, writeBytes};
+ghost use Rattle.calls.specs.Answers.{measuredNumber, measureAnswer, heuristicAnswer, heuristicWrites};
+ghost use Rattle.calls.specs.Answers.{probedNumber, probeAnswer, probeWrites};
+ghost use Rattle.planfile.specs.Answers.{writePlanAnswer, writePlanBytes};
 ghost use Rattle.planner.specs.Answers.{plannedNumber, PlanAnswer};
 ghost use Rattle.planner.specs.declared.Planned.{Planned};
-ghost use Rattle.test_exports.specs.Answer.{boundPut, readPut, writtenPut, measuredPut, probedPut, plannedPut, planWrittenPut};
+ghost use Rattle.test_exports.specs.Answer.{boundPut, readPut, writtenPut, measuredPut, probedPut, plannedPut};
 use bound::Bound;
 use calls::Measured;
 use calls::Probed;
@@ -18,15 +20,14 @@ use calls::heuristic;
 use calls::measure;
 use calls::probe;
 use jobs::JobRead;
-use jobs::JobWritten;
 use jobs::read_job;
-use jobs::test_job;
 use jobs::write_job;
 use parts::wide;
-use planfile::PlanWritten;
 use planfile::write_plan;
 use planner::Planned;
 use planner::plan;
+use refusals::Written;
+use refusals::test_job;
 
 // Inner. Writes an entry if the list is long enough.
 fn put(answer: &mut [u64], i: usize, value: u64)
@@ -60,14 +61,14 @@ fn put_read(answer: &mut [u64], read: JobRead) -> u32
     }
 }
 
-// Inner. What writing a job answers.
-fn put_written(answer: &mut [u64], written: JobWritten) -> u32
+// Inner. What writing a file answers.
+fn put_written(answer: &mut [u64], written: Written) -> u32
     ensures number { λ r. ⌜ r ≡ writtenNumber written ⌝ }
     ensures answer { λ _. ⌜ now (answer .exit) ≡ writtenPut written (now (answer .entry)) ⌝ }
 {
     match written {
-        JobWritten::Refused(number) => number,
-        JobWritten::Written(bytes) => {
+        Written::Refused(number) => number,
+        Written::Bytes(bytes) => {
             put(answer, 0, bytes as u64);
             0
         }
@@ -88,20 +89,6 @@ fn put_probed(answer: &mut [u64], probed: Probed) -> u32
         Probed::Fails(next) => {
             put(answer, 0, 0);
             put_bound(answer, 1, 2, next);
-            0
-        }
-    }
-}
-
-// Inner. What writing a plan answers.
-fn put_plan_written(answer: &mut [u64], written: PlanWritten) -> u32
-    ensures number { λ r. ⌜ r ≡ planWrittenNumber written ⌝ }
-    ensures answer { λ _. ⌜ now (answer .exit) ≡ planWrittenPut written (now (answer .entry)) ⌝ }
-{
-    match written {
-        PlanWritten::Refused(number) => number,
-        PlanWritten::Written(bytes) => {
-            put(answer, 0, bytes as u64);
             0
         }
     }
@@ -280,14 +267,14 @@ pub extern "C" fn exported_write_plan(
 ) -> u32
     ensures number { λ r.
         let job = jobOf (now (speeds .entry)) (now (weights .entry)) in
-        ⌜ r ≡ planWrittenNumber (writePlanAnswer job (now (separators .entry)) (length (now (plan .entry)))) ⌝ }
+        ⌜ r ≡ writtenNumber (writePlanAnswer job (now (separators .entry)) (length (now (plan .entry)))) ⌝ }
     ensures bytes { λ _.
         let job = jobOf (now (speeds .entry)) (now (weights .entry)) in
         ⌜ now (plan .exit) ≡ writePlanBytes job (now (separators .entry)) (now (plan .entry)) ⌝ }
     ensures answer { λ _.
         let job = jobOf (now (speeds .entry)) (now (weights .entry)) in
-        ⌜ now (answer .exit) ≡ planWrittenPut (writePlanAnswer job (now (separators .entry)) (length (now (plan .entry)))) (now (answer .entry)) ⌝ }
+        ⌜ now (answer .exit) ≡ writtenPut (writePlanAnswer job (now (separators .entry)) (length (now (plan .entry)))) (now (answer .entry)) ⌝ }
 {
     let written = write_plan(speeds, weights, separators, plan);
-    put_plan_written(answer, written)
+    put_written(answer, written)
 }

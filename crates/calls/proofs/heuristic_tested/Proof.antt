@@ -7,7 +7,7 @@ use Rattle.chain.specs.Job.{Job, jobOf}
 use Rattle.chain.specs.Heuristic.{heuristic}
 use Rattle.chain.proofs.Parts.{valid-proper}
 use Rattle.chain.proofs.Heuristic.{heuristic-partition}
-use Rattle.jobs.proofs.Limits.{tasks-limit}
+use Rattle.refusals.proofs.Limits.{tasks-limit}
 use Rattle.parts.proofs.Front.{front-partition, front-bottleneck}
 use Rattle.calls.proofs.Ends.{sums-ready}
 use borrow.Author.Needs.{needs}

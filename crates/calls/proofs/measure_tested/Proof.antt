@@ -1,7 +1,7 @@
 -- `measure_tested` meets its contract.
 -- Assumes nothing.
 use native.Mathlib.Omega.{arith}
-use Rattle.jobs.proofs.Limits.{tasks-limit}
+use Rattle.refusals.proofs.Limits.{tasks-limit}
 use Rattle.calls.proofs.Ends.{sums-ready}
 use borrow.Author.Needs.{needs}
 use Rattle.calls.proofs.measure_tested.Statement.{statement}

@@ -2,7 +2,7 @@
 -- Assumes nothing.
 use native.Mathlib.Omega.{arith}
 use borrow.Author.Needs.{needs}
-use Rattle.jobs.proofs.Limits.{tasks-limit, processors-limit}
+use Rattle.refusals.proofs.Limits.{tasks-limit, processors-limit}
 use Rattle.calls.proofs.Ends.{sums-ready}
 use Rattle.calls.proofs.probe_tested.Statement.{statement}
 use Rattle.calls.proofs.probe_tested.Tie as tie

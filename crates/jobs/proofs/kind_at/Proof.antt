@@ -10,7 +10,7 @@ byte-at-requires c κs = search needs
 
 returns : tie.Need-returns
 unfolding kindAt
-returns c = c .byte-at .ensures .0
+returns c = c .byte-at .ensures
 
 pub kind-at-spec : {M : Type 1} → statement M
 kind-at-spec = tie.close (tie.spec byte-at-requires returns)

@@ -1,12 +1,21 @@
--- `put_record` meets its contract: its eight stores make the record.
+-- `put_record` meets its contract: four stores and a field make the record.
 -- Assumes nothing.
 use Prim.Native.Nat.{_*_}
+use mathlib.Core.Path.{ap, _∙_}
 use native.Mathlib.Omega.{arith}
-use lib.ListN.{length-set}
+use lib.ListN.{length, length-set}
+use Rattle.fields.proofs.Stores.{put-length}
+use Rattle.jobs.specs.JobFile.{recordBytes}
+use Rattle.jobs.proofs.Records.{length-record, record-stores}
 use borrow.Author.Needs.{needs}
-use Rattle.jobs.proofs.Records.{eight-stores}
 use Rattle.jobs.proofs.put_record.Statement.{statement}
 use Rattle.jobs.proofs.put_record.Tie as tie
+
+-- The file after the stores and the field.
+put : tie.Need-returns
+put c =
+    let s = c .before .before .before .before .before in
+    record-stores (s .args .file .now) (8 * s .args .i) (s .args .kind) (s .args .value) (s .pre) (c .before .before .put-field .ensures)
 
 mul-at : tie.Need-mul-at
 mul-at c = search needs
@@ -32,47 +41,19 @@ add-file-3 c = search needs
 slice-write-file-4 : tie.Need-slice-write-file-4
 slice-write-file-4 c = simp length-set (omega arith)
 
-cast-file : tie.Need-cast-file
-cast-file c = search needs
+add-put-field : tie.Need-add-put-field
+add-put-field c = search needs
 
-add-file-4 : tie.Need-add-file-4
-add-file-4 c = search needs
-
-slice-write-file-5 : tie.Need-slice-write-file-5
-slice-write-file-5 c = simp length-set (omega arith)
-
-cast-file-2 : tie.Need-cast-file-2
-cast-file-2 c = search needs
-
-add-file-5 : tie.Need-add-file-5
-add-file-5 c = search needs
-
-slice-write-file-6 : tie.Need-slice-write-file-6
-slice-write-file-6 c = simp length-set (omega arith)
-
-cast-file-3 : tie.Need-cast-file-3
-cast-file-3 c = search needs
-
-add-file-6 : tie.Need-add-file-6
-add-file-6 c = search needs
-
-slice-write-file-7 : tie.Need-slice-write-file-7
-slice-write-file-7 c = simp length-set (omega arith)
-
-cast-file-4 : tie.Need-cast-file-4
-cast-file-4 c = search needs
-
-add-file-7 : tie.Need-add-file-7
-add-file-7 c = search needs
-
-slice-write-file-8 : tie.Need-slice-write-file-8
-slice-write-file-8 c = simp length-set (omega arith)
+put-field-requires : tie.Need-put-field-requires
+put-field-requires c κs = simp length-set (omega arith)
 
 same-length : tie.Need-same-length
-same-length c = search needs
+same-length c =
+    let a = c .before .before .before .before .before .args in
+    ap length (put c) ∙ put-length (a .file .now) (recordBytes (a .kind) (a .value)) (8 * a .i) 8 (length-record (a .kind) (a .value)) (omega arith)
 
 returns : tie.Need-returns
-returns c = eight-stores (c .args .file .now) (8 * c .args .i) (c .args .kind) (c .args .value) (c .pre)
+returns c = put c
 
 pub put-record-spec : {M : Type 1} → statement M
 put-record-spec =
@@ -86,17 +67,7 @@ put-record-spec =
     slice-write-file-3
     add-file-3
     slice-write-file-4
-    cast-file
-    add-file-4
-    slice-write-file-5
-    cast-file-2
-    add-file-5
-    slice-write-file-6
-    cast-file-3
-    add-file-6
-    slice-write-file-7
-    cast-file-4
-    add-file-7
-    slice-write-file-8
+    add-put-field
+    put-field-requires
     same-length
     returns)

@@ -1,28 +1,67 @@
--- `write_job` meets its contract: the job's tests, then the rest.
+-- `write_job` meets its contract: the tests, then the records of both kinds.
 -- Assumes nothing.
-use Rattle.jobs.proofs.Writing.{write-refused}
+use mathlib.Core.Path.{_≡_, sym, _∙_}
+use native.Mathlib.Omega.{arith}
+use lib.ListN.{length}
+use Rattle.chain.specs.Job.{jobOf}
+use Rattle.chain.specs.Refusal.{refusal}
+use Rattle.refusals.specs.Inputs.{writeInputs}
+use Rattle.refusals.proofs.Accepted.{Accepted, accepted}
+use Rattle.refusals.proofs.Limits.{tasks-limit, processors-limit}
+use Rattle.jobs.proofs.Writing.{write-refused, write-both}
 use borrow.Author.Needs.{needs}
 use Rattle.jobs.proofs.write_job.Statement.{statement}
 use Rattle.jobs.proofs.write_job.Tie as tie
 
-test-job-requires : tie.Need-test-job-requires
-test-job-requires c κs = search needs
+-- Past the tests nothing is refused.
+abbrev Zero : tie.Start → Type 0
+Zero s =
+    let job = jobOf (s .args .speeds .now) (s .args .weights .now) in
+    refusal job (writeInputs job (length (s .args .file .now))) ≡ 0
+
+zero : (c : tie.Else1) → Zero (c .before .before .before .before .before)
+zero c = sym (c .before .test-write-job .ensures) ∙ c .if1 .left
+
+test-write-job-requires : tie.Need-test-write-job-requires
+test-write-job-requires c κs = search needs
 
 returns : tie.Need-returns
 returns c =
     let a = c .before .before .before .before .before .args in
-    let w = write-refused (a .weights .now) (a .speeds .now) (a .file .now) (c .before .test-job .ensures) (c .if1 .taken) in
-    (w .answers, w .into-file)
+    write-refused (jobOf (a .speeds .now) (a .weights .now)) (a .file .now) (c .before .test-write-job .ensures) (c .if1 .taken)
 
-write-tested-requires : tie.Need-write-tested-requires
-write-tested-requires c κs = search needs
+put-records-requires : tie.Need-put-records-requires
+put-records-requires c κs = omega (arith, (accepted (zero (c .before))) .lists .0)
+
+put-records-requires-2 : tie.Need-put-records-requires-2
+put-records-requires-2 c κs = omega (arith, (accepted (zero (c .before .before .before .before .before))) .lists .0)
+
+add-t13 : tie.Need-add-t13
+add-t13 c = search needs
+
+mul-t14 : tie.Need-mul-t14
+mul-t14 c =
+    let a = accepted (zero (c .before .before .before .before .before .before .before .before)) in
+    omega (arith, a .valid .tasks-limit, a .valid .processors-limit, tasks-limit, processors-limit)
 
 same-length : tie.Need-same-length
 same-length c = search needs
 
 returns-2 : tie.Need-returns-2
-returns-2 c = search needs
+returns-2 c =
+    let e = c .before .before .before .before .before .before .before .before in
+    let a = e .before .before .before .before .before .args in
+    write-both (jobOf (a .speeds .now) (a .weights .now)) (a .file .now) (zero e) (c .before .before .before .before .before .before .put-records .ensures) (c .before .before .put-records2 .ensures)
 
 pub write-job-spec : {M : Type 1} → statement M
 write-job-spec =
-    tie.close (tie.spec test-job-requires returns write-tested-requires same-length returns-2)
+    tie.close
+    (tie.spec
+    test-write-job-requires
+    returns
+    put-records-requires
+    put-records-requires-2
+    add-t13
+    mul-t14
+    same-length
+    returns-2)

@@ -52,17 +52,23 @@ part-load-requires c κs =
     let k : getD (s .args .separators .now) (suc (s .args .p)) 0 ≡ getD (s .args .separators .now) (s .args .p + 1) 0 = ap (λ (i : ℕ). getD (s .args .separators .now) i 0) (sym (add-one (s .args .p))) in
     (s .pre .0, (omega (arith, e .grows), omega (arith, e .below)))
 
+mul-put-field : tie.Need-mul-put-field
+mul-put-field c = search needs
+
 add-put-field-2 : tie.Need-add-put-field-2
 add-put-field-2 c = search needs
 
 put-field-requires-3 : tie.Need-put-field-requires-3
 put-field-requires-3 c κs = search needs
 
-mul-put-field : tie.Need-mul-put-field
-mul-put-field c = search needs
+mul-put-field-2 : tie.Need-mul-put-field-2
+mul-put-field-2 c = search needs
 
 shared-slice-read-put-field : tie.Need-shared-slice-read-put-field
 shared-slice-read-put-field c = search needs
+
+mul-put-field-3 : tie.Need-mul-put-field-3
+mul-put-field-3 c = search needs
 
 add-put-field-3 : tie.Need-add-put-field-3
 add-put-field-3 c = search needs
@@ -100,10 +106,12 @@ put-plan-record-spec =
     add-put-field
     put-field-requires-2
     part-load-requires
+    mul-put-field
     add-put-field-2
     put-field-requires-3
-    mul-put-field
+    mul-put-field-2
     shared-slice-read-put-field
+    mul-put-field-3
     add-put-field-3
     put-field-requires-4
     same-length

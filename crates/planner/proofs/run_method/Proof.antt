@@ -9,7 +9,7 @@ use Rattle.chain.proofs.Ranges.{small-lendable}
 use Rattle.parts.proofs.Front.{kept-start, kept-written}
 use Rattle.probe.proofs.Answer.{walk-count}
 use Rattle.dynamic.proofs.Laws.{tabled-ready, tabled-small}
-use Rattle.planner.specs.Answers.{scratchNeeded}
+use Rattle.refusals.specs.Inputs.{scratchNeeded}
 use Rattle.planner.proofs.Laws.{ends-table, ends-bidding, ends-bisection, ended-lendable, tabled-kept}
 use borrow.Author.Needs.{needs}
 use Rattle.planner.proofs.run_method.Statement.{statement}

@@ -1,8 +1,8 @@
 -- `exported_write_job` meets its contract: number, lists and figures are those of `write_job`.
 -- Assumes nothing.
 use mathlib.Core.Path.{ap, _∙_}
-use Rattle.jobs.specs.declared.JobWritten.{JobWritten}
-use Rattle.jobs.specs.Answers.{writtenNumber}
+use Rattle.refusals.specs.declared.Written.{Written}
+use Rattle.refusals.specs.Answers.{writtenNumber}
 use Rattle.test_exports.specs.Answer.{writtenPut}
 use borrow.Author.Needs.{needs}
 use Rattle.test_exports.proofs.exported_write_job.Statement.{statement}
@@ -25,7 +25,7 @@ returns c =
     let a = c .before .before .before .before .before .before .before .before .before .before .before .before .args in
     let r = c .before .before .before .before .before .before .write-job .ensures in
     let p = c .before .before .put-written .ensures in
-    (p .0 ∙ ap writtenNumber (r .0), (r .1, p .1 ∙ ap (λ (w : JobWritten). writtenPut w (a .answer .now)) (r .0)))
+    (p .0 ∙ ap writtenNumber (r .0), (r .1, p .1 ∙ ap (λ (w : Written). writtenPut w (a .answer .now)) (r .0)))
 
 pub exported-write-job-spec : {M : Type 1} → statement M
 exported-write-job-spec =

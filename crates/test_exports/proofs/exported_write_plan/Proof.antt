@@ -1,9 +1,9 @@
 -- `exported_write_plan` meets its contract: number, lists and figures are those of `write_plan`.
 -- Assumes nothing.
 use mathlib.Core.Path.{ap, _∙_}
-use Rattle.planfile.specs.declared.PlanWritten.{PlanWritten}
-use Rattle.planfile.specs.Answers.{planWrittenNumber}
-use Rattle.test_exports.specs.Answer.{planWrittenPut}
+use Rattle.refusals.specs.declared.Written.{Written}
+use Rattle.refusals.specs.Answers.{writtenNumber}
+use Rattle.test_exports.specs.Answer.{writtenPut}
 use borrow.Author.Needs.{needs}
 use Rattle.test_exports.proofs.exported_write_plan.Statement.{statement}
 use Rattle.test_exports.proofs.exported_write_plan.Tie as tie
@@ -11,8 +11,8 @@ use Rattle.test_exports.proofs.exported_write_plan.Tie as tie
 write-plan-requires : tie.Need-write-plan-requires
 write-plan-requires c κs = search needs
 
-put-plan-written-requires : tie.Need-put-plan-written-requires
-put-plan-written-requires c κs = search needs
+put-written-requires : tie.Need-put-written-requires
+put-written-requires c κs = search needs
 
 same-length : tie.Need-same-length
 same-length c = search needs
@@ -24,10 +24,10 @@ returns : tie.Need-returns
 returns c =
     let a = c .before .before .before .before .before .before .before .before .before .before .before .before .before .args in
     let r = c .before .before .before .before .before .before .write-plan .ensures in
-    let p = c .before .before .put-plan-written .ensures in
-    (p .0 ∙ ap planWrittenNumber (r .0), (r .1, p .1 ∙ ap (λ (w : PlanWritten). planWrittenPut w (a .answer .now)) (r .0)))
+    let p = c .before .before .put-written .ensures in
+    (p .0 ∙ ap writtenNumber (r .0), (r .1, p .1 ∙ ap (λ (w : Written). writtenPut w (a .answer .now)) (r .0)))
 
 pub exported-write-plan-spec : {M : Type 1} → statement M
 exported-write-plan-spec =
     tie.close
-    (tie.spec write-plan-requires put-plan-written-requires same-length same-length-2 returns)
+    (tie.spec write-plan-requires put-written-requires same-length same-length-2 returns)

@@ -1,8 +1,8 @@
 -- `put_written` meets its contract: the number and the figures of the answer.
 -- Assumes nothing.
 use mathlib.Core.Path.{sym, ap, _∙_}
-use Rattle.jobs.specs.declared.JobWritten.{JobWritten}
-use Rattle.jobs.specs.Answers.{writtenNumber}
+use Rattle.refusals.specs.declared.Written.{Written}
+use Rattle.refusals.specs.Answers.{writtenNumber}
 use Rattle.test_exports.specs.Answer.{writtenPut}
 use borrow.Author.Needs.{needs}
 use Rattle.test_exports.proofs.put_written.Statement.{statement}
@@ -22,7 +22,7 @@ unfolding writtenNumber
 returns c =
     let a = c .before .before .before .before .args in
     let g = c .before .written .given .1 in
-    (sym (ap writtenNumber g), sym (ap (λ (w : JobWritten). writtenPut w (a .answer .now)) g))
+    (sym (ap writtenNumber g), sym (ap (λ (w : Written). writtenPut w (a .answer .now)) g))
 
 same-length : tie.Need-same-length
 same-length c = search needs
@@ -32,7 +32,7 @@ unfolding writtenNumber
 returns-2 c =
     let a = c .before .before .before .before .before .before .before .before .args in
     let g = c .before .before .before .before .before .written2 .given .1 in
-    (sym (ap writtenNumber g), c .before .before .put .ensures ∙ sym (ap (λ (w : JobWritten). writtenPut w (a .answer .now)) g))
+    (sym (ap writtenNumber g), c .before .before .put .ensures ∙ sym (ap (λ (w : Written). writtenPut w (a .answer .now)) g))
 
 pub put-written-spec : {M : Type 1} → statement M
 put-written-spec =

@@ -5,7 +5,7 @@ use native.Mathlib.Omega.{arith}
 use Prim.Native.Nat.{zero}
 use lib.ListN.{length, replicate, length-replicate}
 use lib.Seq.{length-take-le}
-use Rattle.jobs.proofs.Limits.{processors-limit, tasks-limit}
+use Rattle.refusals.proofs.Limits.{processors-limit, tasks-limit}
 use Rattle.planner.proofs.Reading.{host-few, host-many, host-file, host-stays, read-taken, read-rejected, taken-valid, host-done}
 use borrow.Author.Needs.{needs}
 use Rattle.planner.proofs.host.plan_job.Statement.{statement}

@@ -2,7 +2,7 @@
 -- Assumes nothing.
 use native.Mathlib.Omega.{arith}
 use Rattle.chain.specs.Job.{Job, jobOf}
-use Rattle.jobs.proofs.Limits.{processors-limit}
+use Rattle.refusals.proofs.Limits.{processors-limit}
 use Rattle.planner.proofs.Reading.{host-short, host-full}
 use borrow.Author.Needs.{needs}
 use Rattle.planner.proofs.host.plan_read.Statement.{statement}

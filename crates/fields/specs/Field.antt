@@ -1,0 +1,17 @@
+-- A field of 32 bits in a list of bytes. Document 01, "Files and the C call": "All fields are little-endian."
+use Prim.Native.Nat.{ℕ, _+_, _*_, _/_, _%_}
+use mathlib.Core.List.{List, [], _∷_}
+use lib.ListN.{getD}
+
+-- The bytes of a field: how many.
+abbrev pub fieldSize : ℕ
+fieldSize = 4
+
+-- The bytes of a field.
+unfoldable pub fieldBytes : ℕ → List ℕ
+fieldBytes v = v % 256 ∷ v / 256 % 256 ∷ v / 65536 % 256 ∷ v / 16777216 % 256 ∷ []
+
+-- The value of the field whose first byte is at this place.
+unfoldable pub fieldAt : List ℕ → ℕ → ℕ
+fieldAt bytes k =
+    getD bytes k 0 + 256 * getD bytes (k + 1) 0 + 65536 * getD bytes (k + 2) 0 + 16777216 * getD bytes (k + 3) 0

@@ -1,0 +1,58 @@
+-- What a call has that none of its tests refuses.
+-- Assumes nothing.
+use Prim.Native.Nat.{ℕ, suc, _≤_}
+use mathlib.Core.Path.{_≡_, sym, _∙_}
+use mathlib.Core.List.{List, map, _++_}
+use native.Mathlib.Omega.{arith}
+use lib.Dec.{leb, leb→le}
+use lib.ListN.{take}
+use Rattle.chain.specs.Job.{Job, Valid, processors, Partition}
+use Rattle.chain.specs.Refusal.{Test, methodTest, lengthTest, boundTest, partitionTest, firstRefusal, jobTests, Inputs, callTests, refusal}
+use Rattle.chain.proofs.Ranges.{Lendable, lendable-test}
+use Rattle.chain.proofs.Refusals.{Numbered, numbered-append, numbered-map, job-numbered, append-accepted, Each, map-accepted, job-accepted, partition-test, and-left, and-right}
+
+-- Its method is one of the three, its job valid, its lists long enough, its bound within the limits, its list a division: of each
+-- kind, what the call takes.
+pub record Accepted (job : Job) (inputs : Inputs) : Type 0 where
+  pub methods : Each (λ m. (1 ≤ m) × (m ≤ 3)) (inputs .methods)
+  pub valid : Valid job
+  pub lists : Each (λ l. l .needed ≤ l .given) (inputs .lists)
+  pub bounds : Each Lendable (inputs .bounds)
+  pub divisions : Each (λ s. Partition job (take (suc (processors job)) s)) (inputs .divisions)
+
+pub accepted : {job : Job} {inputs : Inputs} → refusal job inputs ≡ 0 → Accepted job inputs
+unfolding refusal callTests methodTest lengthTest boundTest partitionTest
+accepted {job} {inputs} e =
+    let d = append-accepted (((ms ++ jobTests job) ++ ls) ++ bs) (map (partitionTest job) (inputs .divisions)) (numbered-append (numbered-append (numbered-append ms-numbered (job-numbered job)) ls-numbered) bs-numbered) e in
+    let b = append-accepted ((ms ++ jobTests job) ++ ls) bs (numbered-append (numbered-append ms-numbered (job-numbered job)) ls-numbered) (d .0) in
+    let l = append-accepted (ms ++ jobTests job) ls (numbered-append ms-numbered (job-numbered job)) (b .0) in
+    let m = append-accepted ms (jobTests job) ms-numbered (l .0) in
+    record {
+      methods = map-accepted (λ m. (1 ≤ m) × (m ≤ 3)) methodTest (λ m. omega arith) (λ m t. (leb→le 1 m (and-left (leb 1 m) (leb m 3) t), leb→le m 3 (and-right (leb 1 m) (leb m 3) t))) (inputs .methods) (m .0);
+      valid = job-accepted .0 (m .1);
+      lists = map-accepted (λ l. l .needed ≤ l .given) (λ l. lengthTest (l .needed) (l .given)) (λ l. omega arith) (λ l t. leb→le (l .needed) (l .given) t) (inputs .lists) (l .1);
+      bounds = map-accepted Lendable boundTest (λ B. omega arith) (λ B t. lendable-test B .0 t) (inputs .bounds) (b .1);
+      divisions = map-accepted (λ s. Partition job (take (suc (processors job)) s)) (partitionTest job) (λ s. omega arith) (λ s t. partition-test job (take (suc (processors job)) s) .0 t) (inputs .divisions) (d .1);
+    }
+  where
+    ms : List Test
+    ms = map methodTest (inputs .methods)
+
+    ls : List Test
+    ls = map (λ l. lengthTest (l .needed) (l .given)) (inputs .lists)
+
+    bs : List Test
+    bs = map boundTest (inputs .bounds)
+
+    ms-numbered : Numbered ms
+    ms-numbered = numbered-map methodTest (λ m. omega arith) (inputs .methods)
+
+    ls-numbered : Numbered ls
+    ls-numbered = numbered-map (λ l. lengthTest (l .needed) (l .given)) (λ l. omega arith) (inputs .lists)
+
+    bs-numbered : Numbered bs
+    bs-numbered = numbered-map boundTest (λ B. omega arith) (inputs .bounds)
+
+-- From a number that a call's tests gave, and that is 0.
+pub passed : {job : Job} {inputs : Inputs} {n : ℕ} → n ≡ refusal job inputs → n ≡ 0 → Accepted job inputs
+passed e z = accepted (sym e ∙ z)

@@ -1,0 +1,10 @@
+pub mod Limits
+pub mod Each
+pub mod Steps
+pub mod Counts
+pub mod ByLists
+pub mod Division
+pub mod Tests
+pub mod Accepted
+pub mod Lent
+pub mod Answering

@@ -1,0 +1,43 @@
+-- `test_write_job` meets its contract: the job, then the buffer.
+-- Assumes nothing.
+use mathlib.Core.Path.{sym, _∙_}
+use native.Mathlib.Omega.{arith}
+use Rattle.chain.specs.Job.{jobOf, Valid}
+use Rattle.chain.proofs.Refusals.{job-accepted}
+use Rattle.refusals.proofs.Limits.{tasks-limit, processors-limit}
+use Rattle.refusals.proofs.Tests.{write-job-laws}
+use borrow.Author.Needs.{needs}
+use Rattle.refusals.proofs.test_write_job.Statement.{statement}
+use Rattle.refusals.proofs.test_write_job.Tie as tie
+
+test-job-requires : tie.Need-test-job-requires
+test-job-requires c κs = search needs
+
+returns : tie.Need-returns
+returns c = search write-job-laws
+
+add-test-length : tie.Need-add-test-length
+add-test-length c = search needs
+
+mul-test-length : tie.Need-mul-test-length
+mul-test-length c =
+    let a = c .before .before .before .before .args in
+    let v : Valid (jobOf (a .speeds .now) (a .weights .now)) = job-accepted .0 (sym (c .before .test-job .ensures) ∙ c .if1 .left) in
+    omega (arith, v .tasks-limit, v .processors-limit, tasks-limit, processors-limit)
+
+test-length-requires : tie.Need-test-length-requires
+test-length-requires c κs = search needs
+
+returns-2 : tie.Need-returns-2
+returns-2 c = search write-job-laws
+
+pub test-write-job-spec : {M : Type 1} → statement M
+test-write-job-spec =
+    tie.close
+    (tie.spec
+    test-job-requires
+    returns
+    add-test-length
+    mul-test-length
+    test-length-requires
+    returns-2)

@@ -1,0 +1,57 @@
+-- What each call by lists takes beside the job. Document 01, "Who causes which number": "A call makes only the tests whose inputs it
+-- takes."
+use Prim.Native.Nat.{ℕ, suc, _+_, _*_}
+use mathlib.Core.List.{List}
+use lib.ListN.{length}
+use Rattle.bound.specs.declared.Bound.{Bound}
+use Rattle.chain.specs.Job.{Job, tasks, processors}
+use Rattle.chain.specs.Refusal.{Inputs, nothing, withMethod, lending, withBound, withDivision}
+
+-- "8-byte records", of a job file.
+abbrev pub recordSize : ℕ
+recordSize = 8
+
+-- "one 16-byte record a machine", of a plan file.
+abbrev pub planRecordSize : ℕ
+planRecordSize = 16
+
+-- "9, one too short: P + 1 separators;
+abbrev pub separatorsNeeded : Job → ℕ
+separatorsNeeded job = suc (processors job)
+
+-- 5 × (N + 1) work numbers of 32 bits;
+abbrev pub scratchNeeded : Job → ℕ
+scratchNeeded job = 5 * suc (tasks job)
+
+-- 16 × P plan bytes;
+abbrev pub planNeeded : Job → ℕ
+planNeeded job = planRecordSize * processors job
+
+-- 8 × (N + P) job bytes".
+abbrev pub bytesNeeded : Job → ℕ
+bytesNeeded job = recordSize * (tasks job + processors job)
+
+-- Measuring: the separators, "a division".
+abbrev pub measureInputs : Job → List ℕ → Inputs
+measureInputs job s = lending (separatorsNeeded job) (length s) (withDivision s nothing)
+
+-- The probe ("trial"): the bound, and a list of this length for the separators.
+abbrev pub probeInputs : Job → Bound → ℕ → Inputs
+probeInputs job B lent = lending (separatorsNeeded job) lent (withBound B nothing)
+
+-- The heuristic ("quick plan"): a list of this length for the separators.
+abbrev pub heuristicInputs : Job → ℕ → Inputs
+heuristicInputs job lent = lending (separatorsNeeded job) lent nothing
+
+-- Planning: the method, and lists of these lengths for the separators and the work numbers.
+abbrev pub planInputs : Job → ℕ → ℕ → ℕ → Inputs
+planInputs job m separators scratch =
+    withMethod m (lending (separatorsNeeded job) separators (lending (scratchNeeded job) scratch nothing))
+
+-- Writing a job file: a buffer of this length.
+abbrev pub writeInputs : Job → ℕ → Inputs
+writeInputs job lent = lending (bytesNeeded job) lent nothing
+
+-- Writing a plan file: the separators, "a division", and a buffer of this length.
+abbrev pub writePlanInputs : Job → List ℕ → ℕ → Inputs
+writePlanInputs job s lent = lending (separatorsNeeded job) (length s) (lending (planNeeded job) lent (withDivision s nothing))

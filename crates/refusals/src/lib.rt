@@ -1,0 +1,263 @@
+// The limits of the code, and the tests of every call by lists.
+ghost use Prim.Native.Nat.{suc, _<_};
+ghost use mathlib.Core.Path.{_≡_};
+ghost use mathlib.Core.Bool.{_&&_};
+ghost use mathlib.Core.List.{[], _∷_};
+ghost use lib.ListN.{length, take};
+ghost use lib.Dec.{leb};
+ghost use Rattle.chain.specs.Limits.{maxProcessors, maxTasks};
+ghost use Rattle.chain.specs.Job.{Job, jobOf, processors};
+ghost use Rattle.chain.specs.Refusal.{test, between, eachBetween, methodTest, lengthTest, boundTest, isPartition, partitionTest};
+ghost use Rattle.chain.specs.Refusal.{firstRefusal, jobTests, refusal};
+ghost use Rattle.refusals.specs.Inputs.{measureInputs, probeInputs, heuristicInputs, planInputs, writeInputs, writePlanInputs};
+use bound::Bound;
+
+// The limits of a job.
+pub const MAX_TASKS: usize = 2048;
+
+pub const MAX_WEIGHT: u32 = 1_000_000;
+
+pub const MAX_PROCESSORS: usize = 256;
+
+pub const MAX_SPEED: u32 = 10_000;
+
+// The limits of a lent bound.
+pub const MAX_BOUND_LOAD: u64 = 100_000_000_000_000;
+
+pub const MAX_BOUND_SPEED: u64 = 1_000_000_000;
+
+// The bytes of a record of a job file, and of one of a plan file.
+pub const RECORD: usize = 8;
+
+pub const PLAN_RECORD: usize = 16;
+
+// What writing a file answers: the count of its bytes, or the refusal's number.
+pub enum Written {
+    Bytes(usize),
+    Refused(u32),
+}
+
+// Inner. Whether all before were and this number is from lo to hi.
+fn and_between(all: bool, lo: u32, hi: u32, value: u32) -> bool
+    ensures { λ r. ⌜ r ≡ (all && between lo hi value) ⌝ }
+{
+    let mut still = all;
+    if value < lo {
+        still = false;
+    }
+    if hi < value {
+        still = false;
+    }
+    still
+}
+
+// Inner. Whether every number of the list is from lo to hi. It reads them all, so that several are tested at once.
+fn each_between(lo: u32, hi: u32, values: &[u32]) -> bool
+    ensures { λ r. ⌜ r ≡ eachBetween lo hi (now (values .entry)) ⌝ }
+{
+    let mut all = true;
+    let mut i = 0;
+    while i < values.len() {
+        all = and_between(all, lo, hi, values[i]);
+        i += 1;
+    }
+    all
+}
+
+// Inner. The tests of the two counts: 0, 7 or 8.
+pub fn test_counts(processors: usize, tasks: usize) -> u32
+    ensures { λ r. ⌜ r ≡ firstRefusal (test 7 (between 1 maxProcessors processors) ∷ test 8 (leb tasks maxTasks) ∷ []) ⌝ }
+{
+    if processors == 0 {
+        return 7;
+    }
+    if MAX_PROCESSORS < processors {
+        return 7;
+    }
+    if MAX_TASKS < tasks {
+        return 8;
+    }
+    0
+}
+
+// The test of a job by lists: 0, or the number of the refusal: 5, 6, 7 or 8, in this order.
+pub fn test_job(speeds: &[u32], weights: &[u32]) -> u32
+    ensures { λ r.
+        let job = jobOf (now (speeds .entry)) (now (weights .entry)) in
+        ⌜ r ≡ firstRefusal (jobTests job) ⌝ }
+{
+    if !each_between(1, MAX_SPEED, speeds) {
+        return 5;
+    }
+    if !each_between(0, MAX_WEIGHT, weights) {
+        return 6;
+    }
+    test_counts(speeds.len(), weights.len())
+}
+
+// Inner. Whether the first P + 1 separators are a partition of the job.
+fn is_partition(speeds: &[u32], weights: &[u32], separators: &[u32]) -> bool
+    ghost { Job }
+    requires { λ job. ⌜ jobOf (now speeds) (now weights) ≡ job ⌝ }
+    requires { λ job. ⌜ processors job < length (now separators) ⌝ }
+    ensures { λ job r. ⌜ r ≡ isPartition job (take (suc (processors job)) (now (separators .entry))) ⌝ }
+{
+    if separators[0] != 0 {
+        return false;
+    }
+    let mut p = 0;
+    while p < speeds.len() {
+        if separators[p + 1] < separators[p] {
+            return false;
+        }
+        p += 1;
+    }
+    separators[p] as usize == weights.len()
+}
+
+// Inner. The test of a method: 0 or 1.
+pub fn test_method(method: u32) -> u32
+    ensures { λ r. ⌜ r ≡ firstRefusal (methodTest method ∷ []) ⌝ }
+{
+    if method < 1 {
+        return 1;
+    }
+    if 3 < method {
+        return 1;
+    }
+    0
+}
+
+// Inner. The test of a lent list's length: 0 or 9.
+pub fn test_length(needed: usize, given: usize) -> u32
+    ensures { λ r. ⌜ r ≡ firstRefusal (lengthTest needed given ∷ []) ⌝ }
+{
+    if given < needed {
+        return 9;
+    }
+    0
+}
+
+// Inner. The test of a lent bound: 0 or 10.
+fn test_bound(bound: Bound) -> u32
+    ensures { λ r. ⌜ r ≡ firstRefusal (boundTest bound ∷ []) ⌝ }
+{
+    if MAX_BOUND_LOAD < bound.load {
+        return 10;
+    }
+    if bound.speed == 0 {
+        return 10;
+    }
+    if MAX_BOUND_SPEED < bound.speed {
+        return 10;
+    }
+    0
+}
+
+// Inner. The test of a division: 0 or 11.
+fn test_division(speeds: &[u32], weights: &[u32], separators: &[u32]) -> u32
+    ghost { Job }
+    requires { λ job. ⌜ jobOf (now speeds) (now weights) ≡ job ⌝ }
+    requires { λ job. ⌜ processors job < length (now separators) ⌝ }
+    ensures { λ job r. ⌜ r ≡ firstRefusal (partitionTest job (now (separators .entry)) ∷ []) ⌝ }
+{
+    if !is_partition(speeds, weights, separators) {
+        return 11;
+    }
+    0
+}
+
+// The tests of the heuristic, and those that every call with a list of separators begins with: 0, or the refusal: 5, 6, 7, 8 or 9,
+// in this order.
+pub fn test_heuristic(speeds: &[u32], weights: &[u32], lent: usize) -> u32
+    ensures { λ r.
+        let job = jobOf (now (speeds .entry)) (now (weights .entry)) in
+        ⌜ r ≡ refusal job (heuristicInputs job lent) ⌝ }
+{
+    let by_job = test_job(speeds, weights);
+    if by_job != 0 {
+        return by_job;
+    }
+    test_length(speeds.len() + 1, lent)
+}
+
+// The tests of measuring: 0, or the refusal: 5, 6, 7, 8, 9 or 11, in this order.
+pub fn test_measure(speeds: &[u32], weights: &[u32], separators: &[u32]) -> u32
+    ensures { λ r.
+        let job = jobOf (now (speeds .entry)) (now (weights .entry)) in
+        ⌜ r ≡ refusal job (measureInputs job (now (separators .entry))) ⌝ }
+{
+    let by_list = test_heuristic(speeds, weights, separators.len());
+    if by_list != 0 {
+        return by_list;
+    }
+    test_division(speeds, weights, separators)
+}
+
+// The tests of a probe: 0, or the refusal: 5, 6, 7, 8, 9 or 10, in this order.
+pub fn test_probe(speeds: &[u32], weights: &[u32], bound: Bound, lent: usize) -> u32
+    ensures { λ r.
+        let job = jobOf (now (speeds .entry)) (now (weights .entry)) in
+        ⌜ r ≡ refusal job (probeInputs job bound lent) ⌝ }
+{
+    let by_list = test_heuristic(speeds, weights, lent);
+    let by_bound = test_bound(bound);
+    if by_list != 0 {
+        return by_list;
+    }
+    by_bound
+}
+
+// The tests of planning into lists of these lengths: 0, or the refusal: 1, 5, 6, 7, 8 or 9, in this order.
+pub fn test_plan(
+    method: u32,
+    speeds: &[u32],
+    weights: &[u32],
+    separators: usize,
+    scratch: usize,
+) -> u32
+    ensures { λ r.
+        let job = jobOf (now (speeds .entry)) (now (weights .entry)) in
+        ⌜ r ≡ refusal job (planInputs job method separators scratch) ⌝ }
+{
+    let by_method = test_method(method);
+    if by_method != 0 {
+        return by_method;
+    }
+    let by_list = test_heuristic(speeds, weights, separators);
+    if by_list != 0 {
+        return by_list;
+    }
+    test_length(5 * (weights.len() + 1), scratch)
+}
+
+// The tests of writing a job file: 0, or the refusal: 5, 6, 7, 8 or 9, in this order.
+pub fn test_write_job(speeds: &[u32], weights: &[u32], lent: usize) -> u32
+    ensures { λ r.
+        let job = jobOf (now (speeds .entry)) (now (weights .entry)) in
+        ⌜ r ≡ refusal job (writeInputs job lent) ⌝ }
+{
+    let by_job = test_job(speeds, weights);
+    if by_job != 0 {
+        return by_job;
+    }
+    test_length(RECORD * (weights.len() + speeds.len()), lent)
+}
+
+// The tests of writing a plan file: 0, or the refusal: 5, 6, 7, 8, 9 or 11, in this order.
+pub fn test_write_plan(speeds: &[u32], weights: &[u32], separators: &[u32], lent: usize) -> u32
+    ensures { λ r.
+        let job = jobOf (now (speeds .entry)) (now (weights .entry)) in
+        ⌜ r ≡ refusal job (writePlanInputs job (now (separators .entry)) lent) ⌝ }
+{
+    let by_list = test_heuristic(speeds, weights, separators.len());
+    if by_list != 0 {
+        return by_list;
+    }
+    let by_bytes = test_length(PLAN_RECORD * speeds.len(), lent);
+    let by_division = test_division(speeds, weights, separators);
+    if by_bytes != 0 {
+        return by_bytes;
+    }
+    by_division
+}
