@@ -12,7 +12,9 @@ use lib.ListN.{length, take, drop, length-append}
 use borrow.Author.Tests.{ne-eqb}
 use Rattle.bound.specs.declared.Bound.{Bound}
 use Rattle.chain.specs.Job.{Job, Valid, processors, bottleneck}
-use Rattle.chain.specs.Probe.{walk, fits, nextBid}
+use Rattle.chain.specs.declared.Outcome.{Outcome}
+use Rattle.chain.specs.declared.Outcome.the-variants.{Fits, Fails}
+use Rattle.chain.specs.Probe.{walk, fits, nextBid, probe}
 use Rattle.chain.specs.Heuristic.{heuristic}
 use Rattle.chain.specs.Refusal.{refusal}
 use Rattle.chain.proofs.Parts.{valid-proper}
@@ -21,19 +23,14 @@ use Rattle.refusals.specs.Inputs.{measureInputs, probeInputs, heuristicInputs}
 use Rattle.refusals.specs.Answers.{lentAfter}
 use Rattle.refusals.proofs.Lent.{lent-front, lent-kept}
 use Rattle.refusals.proofs.Accepted.{passed}
-use Rattle.parts.specs.Prefix.{prefixes, Prefix, Ready}
 use Rattle.parts.proofs.Front.{taken}
-use Rattle.parts.proofs.Laws.{prefixes-are}
-use Rattle.probe.proofs.Answer.{walk-count}
+use Rattle.chain.proofs.Tests.{T-true, T-false}
+use Rattle.probe.proofs.Answer.{walk-count, outcome-fits, outcome-fails}
 use Rattle.calls.specs.declared.Measured.{Measured}
 use Rattle.calls.specs.declared.Measured.the-variants.{Bottleneck, Refused}
 use Rattle.calls.specs.declared.Probed.{Probed}
-use Rattle.calls.specs.declared.Probed.the-variants.{Fits, Fails, Refused as ProbeRefused}
-use Rattle.calls.specs.Answers.{measuredOf, measureAnswer, probed, probedOf, probeAnswer, probeWrites, heuristicAnswer, heuristicWrites}
-
--- A list in whose front the prefix sums were written.
-pub sums-ready : {job : Job} {xs : List ℕ} (l : List ℕ) → Valid job → xs ≡ prefixes job ++ l → Ready job xs
-sums-ready {job} {xs} l v e = record { valid = v; prefix = subst (Prefix job) (sym e) (prefixes-are job l) }
+use Rattle.calls.specs.declared.Probed.the-variants.{Answered, Refused as ProbeRefused}
+use Rattle.calls.specs.Answers.{measuredOf, measureAnswer, probedOf, probeAnswer, probeWrites, heuristicAnswer, heuristicWrites}
 
 -- A list in whose front a walk was written has P + 1 entries.
 pub walk-room : {job : Job} (B : Bound) {xs : List ℕ} (l : List ℕ) → Valid job → xs ≡ walk job B ++ l → processors job + 1 ≤ length xs
@@ -41,30 +38,25 @@ walk-room {job} B l v e = omega (arith, ap length e, length-append (walk job B) 
 
 -- What the probe of a valid job answers, and the list then: the walk is copied where it fits, and else nothing is written.
 module _ (job : Job) (B : Bound) (s : List ℕ) where
-  abbrev pub Probes : Probed → List ℕ → Type 0
-  Probes r now = (r ≡ probed job B) × (now ≡ cond (fits job B) (walk job B ++ drop (suc (processors job)) s) s)
+  abbrev pub Probes : Outcome → List ℕ → Type 0
+  Probes r now = (r ≡ probe job B) × (now ≡ cond (fits job B) (walk job B ++ drop (suc (processors job)) s) s)
+
+  left : Bool → List ℕ
+  left b = cond b (walk job B ++ drop (suc (processors job)) s) s
 
   pub probe-fits : {walked now : List ℕ} (l : List ℕ) → Valid job → T (fits job B) → walked ≡ walk job B ++ l
       → now ≡ take (processors job + 1) walked ++ drop (processors job + 1) s → Probes Fits now
-  unfolding probed
-  probe-fits {walked} {now} l v t e f = go (fits job B) t
+  unfolding left
+  probe-fits {walked} {now} l v t e f = (sym (outcome-fits job B (T-true (fits job B) t)), written ∙ sym (ap left (T-true (fits job B) t)))
     where
       written : now ≡ walk job B ++ drop (suc (processors job)) s
       written =
           f ∙ ap (λ (n : ℕ). take n walked ++ drop n s) (add-one (processors job))
           ∙ ap (λ (x : List ℕ). x ++ drop (suc (processors job)) s) (taken (walk job B) l (walk-count v B) e)
 
-      go : (b : Bool) → T b → (Fits ≡ cond b Fits (Fails (nextBid job B))) × (now ≡ cond b (walk job B ++ drop (suc (processors job)) s) s)
-      go true u = (refl, written)
-      go false u = absurd u
-
   pub probe-fails : {C : Bound} → T (not (fits job B)) → C ≡ nextBid job B → Probes (Fails C) s
-  unfolding probed
-  probe-fails {C} t e = go (fits job B) t
-    where
-      go : (b : Bool) → T (not b) → (Fails C ≡ cond b Fits (Fails (nextBid job B))) × (s ≡ cond b (walk job B ++ drop (suc (processors job)) s) s)
-      go true u = absurd u
-      go false u = (ap Fails e, refl)
+  unfolding left
+  probe-fails {C} t e = (ap Fails e ∙ sym (outcome-fails job B (T-false (fits job B) t)), sym (ap left (T-false (fits job B) t)))
 
 -- An answer that is refused, and one that is not: n is what the tests gave.
 measured-refused : {n number : ℕ} (B : Bound) → n ≡ number → n ≢ 0 → Refused n ≡ measuredOf number B
@@ -76,9 +68,9 @@ measured-accepted : {number : ℕ} {B C : Bound} → number ≡ 0 → C ≡ B �
 unfolding measuredOf
 measured-accepted {number} {B} z f = ap (measuredOf 0) f ∙ ap (λ (k : ℕ). measuredOf k B) (sym z)
 
-probed-refused : {n number : ℕ} (r : Probed) → n ≡ number → n ≢ 0 → ProbeRefused n ≡ probedOf number r
+probed-refused : {n number : ℕ} (r : Outcome) → n ≡ number → n ≢ 0 → ProbeRefused n ≡ probedOf number r
 unfolding probedOf
-probed-refused {n} r e h = sym (ap (λ (b : Bool). cond b r (ProbeRefused n)) (ne-eqb n 0 h)) ∙ ap (λ (k : ℕ). probedOf k r) e
+probed-refused {n} r e h = sym (ap (λ (b : Bool). cond b (Answered r) (ProbeRefused n)) (ne-eqb n 0 h)) ∙ ap (λ (k : ℕ). probedOf k r) e
 
 module _ (job : Job) (s : List ℕ) where
   pub measure-refused : {n : ℕ} → n ≡ refusal job (measureInputs job s) → n ≢ 0 → Refused n ≡ measureAnswer job s
@@ -113,17 +105,17 @@ module _ (job : Job) (s : List ℕ) where
 
     pub probe-refused : {n : ℕ} → n ≡ refusal job (probeInputs job B (length s)) → n ≢ 0 → Tried (ProbeRefused n) s
     unfolding probeAnswer probeWrites
-    probe-refused e h = (probed-refused (probed job B) e h, kept (fits job B) (lent-kept (walk job B) s e h))
+    probe-refused e h = (probed-refused (probe job B) e h, kept (fits job B) (lent-kept (walk job B) s e h))
       where
         kept : (t : Bool) {l : List ℕ} → s ≡ l → s ≡ cond t l s
         kept true x = x
         kept false x = refl
 
-    pub probe-accepted : {n : ℕ} → n ≡ refusal job (probeInputs job B (length s)) → n ≡ 0 → {r : Probed} {now : List ℕ} → r ≡ probed job B
-        → now ≡ cond (fits job B) (walk job B ++ drop (suc (processors job)) s) s → Tried r now
+    pub probe-accepted : {n : ℕ} → n ≡ refusal job (probeInputs job B (length s)) → n ≡ 0 → {r : Outcome} {now : List ℕ} → r ≡ probe job B
+        → now ≡ cond (fits job B) (walk job B ++ drop (suc (processors job)) s) s → Tried (Answered r) now
     unfolding probeAnswer probeWrites probedOf
     probe-accepted e z f g = (
-      f ∙ ap (λ (k : ℕ). probedOf k (probed job B)) (sym (sym e ∙ z)),
+      ap Answered f ∙ ap (λ (k : ℕ). probedOf k (probe job B)) (sym (sym e ∙ z)),
       g ∙ ap (λ (l : List ℕ). cond (fits job B) l s) (sym (lent-front (walk job B) s (sym e ∙ z) (walk-count ((passed e z) .valid) B))),
     )
 

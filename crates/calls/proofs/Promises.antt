@@ -10,13 +10,15 @@ use lib.Dec.{T, eqb, eqb→eq}
 use lib.ListN.{length, take, drop}
 use lib.Seq.{drop-at}
 use Rattle.bound.specs.declared.Bound.{Bound}
-use Rattle.bound.specs.Order.{over, plus, _≼_, _≺_, Real}
-use Rattle.bound.proofs.Order.{speed-real}
+use Rattle.bound.specs.Order.{over, plus, _≼_, _≺_}
 use Rattle.chain.specs.Job.{Job, Valid, Partition, Within, processors, heaviest, slowest, ideal, bottleneck}
-use Rattle.chain.specs.Probe.{walk, fits, nextBid}
+use Rattle.chain.specs.declared.Outcome.{Outcome}
+use Rattle.chain.specs.declared.Outcome.the-variants.{Fits, Fails}
+use Rattle.chain.specs.Probe.{walk, fits, nextBid, probe}
 use Rattle.chain.specs.Heuristic.{heuristic}
 use Rattle.chain.specs.Refusal.{refusal}
-use Rattle.chain.proofs.Parts.{Proper, valid-proper}
+use Rattle.chain.proofs.Tests.{T-true, T-false}
+use Rattle.chain.proofs.Parts.{Proper, valid-proper, valid-plannable}
 use Rattle.chain.proofs.Walk as walks
 use Rattle.chain.proofs.NextBid as bids
 use Rattle.chain.proofs.Heuristic.{heuristic-partition, heuristic-bound}
@@ -25,18 +27,10 @@ use Rattle.refusals.specs.Answers.{lentAfter}
 use Rattle.refusals.proofs.Accepted.{accepted}
 use Rattle.refusals.proofs.Lent.{lent-refused, lent-front}
 use Rattle.calls.specs.declared.Measured.the-variants.{Bottleneck, Refused}
-use Rattle.calls.specs.declared.Probed.{Probed}
-use Rattle.calls.specs.declared.Probed.the-variants.{Fits, Fails, Refused as ProbeRefused}
-use Rattle.calls.specs.Answers.{measuredNumber, probedNumber, measuredOf, measureAnswer, probed, probedOf, probeAnswer, probeWrites, heuristicAnswer, heuristicWrites}
+use Rattle.calls.specs.declared.Probed.the-variants.{Answered, Refused as ProbeRefused}
+use Rattle.calls.specs.Answers.{measuredNumber, probedNumber, measuredOf, measureAnswer, probedOf, probeAnswer, probeWrites, heuristicAnswer, heuristicWrites}
 use Rattle.parts.proofs.Front.{taken, front-partition}
-
-truth : (b : Bool) → T b → b ≡ true
-truth true t = refl
-truth false t = absurd t
-
-untruth : (b : Bool) → T (not b) → b ≡ false
-untruth true t = absurd t
-untruth false t = refl
+use Rattle.probe.proofs.Answer.{outcome-fits, fits-outcome, fails-outcome}
 
 -- An answer by its number.
 measured-number : (n : ℕ) (B : Bound) → measuredNumber (measuredOf n B) ≡ n
@@ -47,12 +41,12 @@ measured-number n B = go (eqb n 0) refl
     go true e = sym (eqb→eq n 0 (subst T (sym e) tt))
     go false e = refl
 
-probed-number : (n : ℕ) (r : Probed) → probedNumber r ≡ 0 → probedNumber (probedOf n r) ≡ n
+probed-number : (n : ℕ) (r : Outcome) → probedNumber (probedOf n r) ≡ n
 unfolding probedOf
-probed-number n r h = go (eqb n 0) refl
+probed-number n r = go (eqb n 0) refl
   where
-    go : (b : Bool) → eqb n 0 ≡ b → probedNumber (cond b r (ProbeRefused n)) ≡ n
-    go true e = h ∙ sym (eqb→eq n 0 (subst T (sym e) tt))
+    go : (b : Bool) → eqb n 0 ≡ b → probedNumber (cond b (Answered r) (ProbeRefused n)) ≡ n
+    go true e = sym (eqb→eq n 0 (subst T (sym e) tt))
     go false e = refl
 
 measured-bottleneck : {n : ℕ} {B C : Bound} → measuredOf n B ≡ Bottleneck C → (n ≡ 0) × (C ≡ B)
@@ -62,14 +56,6 @@ measured-bottleneck {n} {B} {C} e = go (eqb n 0) refl e
     go : (b : Bool) → eqb n 0 ≡ b → cond b (Bottleneck B) (Refused n) ≡ Bottleneck C → (n ≡ 0) × (C ≡ B)
     go true f h = (eqb→eq n 0 (subst T (sym f) tt), cc)
     go false f h = let z : _≡_ {A = ℕ} 0 1 = cc in absurd (let y : ⊥ = omega arith in y)
-
-probed-number-zero : (job : Job) (B : Bound) → probedNumber (probed job B) ≡ 0
-unfolding probed
-probed-number-zero job B = go (fits job B)
-  where
-    go : (b : Bool) → probedNumber (cond b Fits (Fails (nextBid job B))) ≡ 0
-    go true = refl
-    go false = refl
 
 -- Measuring.
 module _ (job : Job) (s : List ℕ) where
@@ -128,29 +114,18 @@ module _ (job : Job) (s : List ℕ) where
       written = lent-front (heuristic job) s (m .0) (pa .count)
 
 -- The probe.
-probed-fits : {n : ℕ} (job : Job) (B : Bound) → probedOf n (probed job B) ≡ Fits → (n ≡ 0) × T (fits job B)
-unfolding probedOf probed
-probed-fits {n} job B e = go (eqb n 0) refl (fits job B) e
+answered : {n : ℕ} {r o : Outcome} → probedOf n r ≡ Answered o → (n ≡ 0) × (r ≡ o)
+unfolding probedOf
+answered {n} {r} {o} e = go (eqb n 0) refl e
   where
-    go : (b : Bool) → eqb n 0 ≡ b → (t : Bool) → cond b (cond t Fits (Fails (nextBid job B))) (ProbeRefused n) ≡ Fits → (n ≡ 0) × T t
-    go true f true h = (eqb→eq n 0 (subst T (sym f) tt), tt)
-    go true f false h = let z : _≡_ {A = ℕ} 0 1 = cc in absurd (let y : ⊥ = omega arith in y)
-    go false f t h = let z : _≡_ {A = ℕ} 0 1 = cc in absurd (let y : ⊥ = omega arith in y)
-
-probed-fails : {n : ℕ} (job : Job) (B : Bound) {C : Bound} → probedOf n (probed job B) ≡ Fails C → (n ≡ 0) × T (not (fits job B)) × (C ≡ nextBid job B)
-unfolding probedOf probed
-probed-fails {n} job B {C} e = go (eqb n 0) refl (fits job B) e
-  where
-    go : (b : Bool) → eqb n 0 ≡ b → (t : Bool) → cond b (cond t Fits (Fails (nextBid job B))) (ProbeRefused n) ≡ Fails C
-        → (n ≡ 0) × T (not t) × (C ≡ nextBid job B)
-    go true f true h = let z : _≡_ {A = ℕ} 0 1 = cc in absurd (let y : ⊥ = omega arith in y)
-    go true f false h = (eqb→eq n 0 (subst T (sym f) tt), tt, cc)
-    go false f t h = let z : _≡_ {A = ℕ} 0 1 = cc in absurd (let y : ⊥ = omega arith in y)
+    go : (b : Bool) → eqb n 0 ≡ b → cond b (Answered r) (ProbeRefused n) ≡ Answered o → (n ≡ 0) × (r ≡ o)
+    go true f h = (eqb→eq n 0 (subst T (sym f) tt), cc)
+    go false f h = let z : _≡_ {A = ℕ} 0 1 = cc in absurd (let y : ⊥ = omega arith in y)
 
 module _ (job : Job) (B : Bound) (s : List ℕ) where
   pub probe-number : probedNumber (probeAnswer job B s) ≡ refusal job (probeInputs job B (length s))
   unfolding probeAnswer
-  probe-number = probed-number (refusal job (probeInputs job B (length s))) (probed job B) (probed-number-zero job B)
+  probe-number = probed-number (refusal job (probeInputs job B (length s))) (probe job B)
 
   -- A refusal leaves the list as it was.
   pub probe-keeps : refusal job (probeInputs job B (length s)) ≢ 0 → probeWrites job B s ≡ s
@@ -161,15 +136,15 @@ module _ (job : Job) (B : Bound) (s : List ℕ) where
       go true e = e
       go false e = refl
 
-  accepted-real : refusal job (probeInputs job B (length s)) ≡ 0 → Real B
-  accepted-real e = speed-real ((accepted e) .bounds .0 .speed-positive)
-
   -- Demand 2: an accepted probe fits exactly when some partition stays within the bound.
-  pub probe-fits-exactly : refusal job (probeInputs job B (length s)) ≡ 0 → (probeAnswer job B s ≡ Fits) ↔ ((t : List ℕ) × Partition job t × Within job t B)
-  unfolding probeAnswer probedOf probed
+  pub probe-fits-exactly : refusal job (probeInputs job B (length s)) ≡ 0
+      → (probeAnswer job B s ≡ Answered Fits) ↔ ((t : List ℕ) × Partition job t × Within job t B)
+  unfolding probeAnswer probedOf
   probe-fits-exactly e =
-      let f = walks.fits-exactly (valid-proper ((accepted e) .valid)) B (accepted-real e) in
-      (λ h. f .0 (probed-fits {n = refusal job (probeInputs job B (length s))} job B h .1), λ x. ap (λ (n : ℕ). probedOf n (probed job B)) e ∙ ap (λ (b : Bool). cond b Fits (Fails (nextBid job B))) (truth (fits job B) (f .1 x)))
+      let f = walks.fits-exactly (valid-proper ((accepted e) .valid)) B in (
+        λ h. f .0 (fits-outcome job B (answered {n = refusal job (probeInputs job B (length s))} h .1)),
+        λ x. ap (λ (n : ℕ). probedOf n (probe job B)) e ∙ ap Answered (outcome-fits job B (T-true (fits job B) (f .1 x))),
+      )
 
   -- A fit: the list then begins with a partition within the bound, and the entries behind it stay.
   pub record Fitted : Type 0 where
@@ -177,51 +152,54 @@ module _ (job : Job) (B : Bound) (s : List ℕ) where
     pub within : Within job (take (suc (processors job)) (probeWrites job B s)) B
     pub behind : drop (suc (processors job)) (probeWrites job B s) ≡ drop (suc (processors job)) s
 
-  pub probe-fitted : probeAnswer job B s ≡ Fits → Fitted
+  pub probe-fitted : probeAnswer job B s ≡ Answered Fits → Fitted
   unfolding probeAnswer probeWrites
   probe-fitted e =
       record {
         partition = front-partition (walk job B) rest pa written;
-        within = subst (λ (t : List ℕ). Within job t B) (sym (taken (walk job B) rest (pa .count) written)) (walks.walk-within ok B (m .1));
+        within = subst (λ (t : List ℕ). Within job t B) (sym (taken (walk job B) rest (pa .count) written)) (walks.walk-within job B (m .1));
         behind = ap (drop (suc (processors job))) written ∙ drop-at (walk job B) rest (suc (processors job)) (pa .count);
       }
     where
       m : (refusal job (probeInputs job B (length s)) ≡ 0) × T (fits job B)
-      m = probed-fits job B e
+      m = let a = answered e in (a .0, fits-outcome job B (a .1))
 
       ok : Proper job
       ok = valid-proper ((accepted (m .0)) .valid)
 
       pa : Partition job (walk job B)
-      pa = walks.walk-partition ok B
+      pa = walks.walk-partition ok B (m .1)
 
       rest : List ℕ
       rest = drop (suc (processors job)) s
 
       written : cond (fits job B) (lentAfter (refusal job (probeInputs job B (length s))) (walk job B) s) s ≡ walk job B ++ rest
       written =
-          ap (λ (b : Bool). cond b (lentAfter (refusal job (probeInputs job B (length s))) (walk job B) s) s) (truth (fits job B) (m .1))
+          ap (λ (b : Bool). cond b (lentAfter (refusal job (probeInputs job B (length s))) (walk job B) s) s) (T-true (fits job B) (m .1))
           ∙ lent-front (walk job B) s (m .0) (pa .count)
 
   -- A failure: the next bid is above the bound, no partition stays within a smaller one, and the list is as it was.
   pub record Failed (C : Bound) : Type 0 where
     pub above : B ≺ C
-    pub least : (D : Bound) → Real D → (t : List ℕ) → Partition job t → Within job t D → C ≼ D
+    pub least : (D : Bound) → (t : List ℕ) → Partition job t → Within job t D → C ≼ D
     pub kept : probeWrites job B s ≡ s
 
-  pub probe-failed : {C : Bound} → probeAnswer job B s ≡ Fails C → Failed C
+  pub probe-failed : {C : Bound} → probeAnswer job B s ≡ Answered (Fails C) → Failed C
   unfolding probeAnswer probeWrites
   probe-failed {C} e =
       record {
-        above = subst (λ (D : Bound). B ≺ D) (sym (m .2)) (bids.next-above ok B (m .1));
-        least = λ D r t pa w.
-            subst (λ (E : Bound). E ≼ D) (sym (m .2)) (bids.next-least ok B D (m .1) r (walks.partition-fits ok r pa w));
+        above = subst (λ (D : Bound). B ≺ D) (sym (m .2)) (bids.next-above (valid-plannable v) B (m .1));
+        least = λ D t pa w.
+            subst (λ (E : Bound). E ≼ D) (sym (m .2)) (bids.next-least (valid-proper v) B D (m .1) (walks.partition-fits (valid-proper v) pa w));
         kept =
-            ap (λ (b : Bool). cond b (lentAfter (refusal job (probeInputs job B (length s))) (walk job B) s) s) (untruth (fits job B) (m .1));
+            ap (λ (b : Bool). cond b (lentAfter (refusal job (probeInputs job B (length s))) (walk job B) s) s) (T-false (fits job B) (m .1));
       }
     where
       m : (refusal job (probeInputs job B (length s)) ≡ 0) × T (not (fits job B)) × (C ≡ nextBid job B)
-      m = probed-fails job B e
+      m =
+          let a = answered e in
+          let f = fails-outcome job B (a .1) in
+          (a .0, f .0, f .1)
 
-      ok : Proper job
-      ok = valid-proper ((accepted (m .0)) .valid)
+      v : Valid job
+      v = (accepted (m .0)) .valid

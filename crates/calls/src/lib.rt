@@ -7,16 +7,17 @@ ghost use mathlib.Core.Bool.{cond};
 ghost use mathlib.Core.List.{_++_};
 ghost use lib.ListN.{length, take, drop};
 ghost use Rattle.chain.specs.Job.{Job, jobOf, Valid, processors, Partition, bottleneck};
+ghost use Rattle.chain.specs.Probe as trial;
 ghost use Rattle.chain.specs.Probe.{walk, fits};
 ghost use Rattle.chain.specs.Heuristic as quick;
-ghost use Rattle.chain.proofs.Ranges.{Lendable};
+ghost use Rattle.chain.specs.Ranges.{Lendable};
 ghost use Rattle.parts.specs.Prefix.{Ready};
-ghost use Rattle.calls.specs.Answers.{measureAnswer, probed, probeAnswer, probeWrites, heuristicAnswer, heuristicWrites};
+ghost use Rattle.calls.specs.Answers.{measureAnswer, probeAnswer, probeWrites, heuristicAnswer, heuristicWrites};
 use bound::Bound;
+use chain::Outcome;
 use heuristic::heuristic_in;
-use heuristic::measure_in;
+use parts::measure_in;
 use parts::prefix_sums;
-use probe::Outcome;
 use probe::probe_in;
 use refusals::MAX_PROCESSORS;
 use refusals::MAX_TASKS;
@@ -30,10 +31,9 @@ pub enum Measured {
     Refused(u32),
 }
 
-// The answer of a probe: it fits, it fails with the least next bid, or the refusal's number.
+// The answer of a probe call: the probe's outcome, or the refusal's number.
 pub enum Probed {
-    Fits,
-    Fails(Bound),
+    Answered(Outcome),
     Refused(u32),
 }
 
@@ -58,7 +58,7 @@ fn measure_tested(speeds: &[u32], weights: &[u32], separators: &[u32]) -> Bound
     ensures { λ job r. ⌜ r ≡ bottleneck job (take (suc (processors job)) (now (separators .entry))) ⌝ }
 {
     let mut sums = [0u32; MAX_TASKS + 1];
-    prefix_sums(speeds, weights, &mut sums);
+    prefix_sums(weights, &mut sums);
     measure_in(speeds, weights, &sums, separators)
 }
 
@@ -83,13 +83,13 @@ fn probe_beside(
     bound: Bound,
     walked: &mut [u32],
     separators: &mut [u32],
-) -> Probed
+) -> Outcome
     ghost { Job }
     requires { λ job. ⌜ jobOf (now speeds) (now weights) ≡ job ⌝ }
     requires { λ job. ⌜ Ready job (now sums) ⌝ }
     requires { λ job. ⌜ Lendable bound ⌝ }
     requires { λ job. ⌜ (processors job < length (now walked)) × (processors job < length (now separators)) ⌝ }
-    ensures { λ job r. ⌜ r ≡ probed job bound ⌝ }
+    ensures { λ job r. ⌜ r ≡ trial.probe job bound ⌝ }
     ensures { λ job r.
         let old = now (separators .entry) in
         ⌜ now (separators .exit) ≡ cond (fits job bound) (walk job bound ++ drop (suc (processors job)) old) old ⌝ }
@@ -98,27 +98,27 @@ fn probe_beside(
     match answer {
         Outcome::Fits => {
             copy_front(walked, separators, speeds.len() + 1);
-            Probed::Fits
+            Outcome::Fits
         }
-        Outcome::Fails(next) => Probed::Fails(next),
+        Outcome::Fails(next) => Outcome::Fails(next),
     }
 }
 
 // Inner. The probe at the bound: a fit writes the walk's P + 1 separators, a failure writes nothing.
-fn probe_tested(speeds: &[u32], weights: &[u32], bound: Bound, separators: &mut [u32]) -> Probed
+fn probe_tested(speeds: &[u32], weights: &[u32], bound: Bound, separators: &mut [u32]) -> Outcome
     ghost { Job }
     requires { λ job. ⌜ jobOf (now speeds) (now weights) ≡ job ⌝ }
     requires { λ job. ⌜ Valid job ⌝ }
     requires { λ job. ⌜ Lendable bound ⌝ }
     requires { λ job. ⌜ processors job < length (now separators) ⌝ }
-    ensures { λ job r. ⌜ r ≡ probed job bound ⌝ }
+    ensures { λ job r. ⌜ r ≡ trial.probe job bound ⌝ }
     ensures { λ job r.
         let old = now (separators .entry) in
         ⌜ now (separators .exit) ≡ cond (fits job bound) (walk job bound ++ drop (suc (processors job)) old) old ⌝ }
 {
     let mut sums = [0u32; MAX_TASKS + 1];
     let mut walked = [0u32; MAX_PROCESSORS + 1];
-    prefix_sums(speeds, weights, &mut sums);
+    prefix_sums(weights, &mut sums);
     probe_beside(speeds, weights, &sums, bound, &mut walked, separators)
 }
 
@@ -136,7 +136,7 @@ pub fn probe(speeds: &[u32], weights: &[u32], bound: Bound, separators: &mut [u3
     if number != 0 {
         return Probed::Refused(number);
     }
-    probe_tested(speeds, weights, bound, separators)
+    Probed::Answered(probe_tested(speeds, weights, bound, separators))
 }
 
 // Inner. Writes the heuristic's separators and gives their bottleneck.
@@ -149,7 +149,7 @@ fn heuristic_tested(speeds: &[u32], weights: &[u32], separators: &mut [u32]) -> 
     ensures { λ job r. ⌜ now (separators .exit) ≡ quick.heuristic job ++ drop (suc (processors job)) (now (separators .entry)) ⌝ }
 {
     let mut sums = [0u32; MAX_TASKS + 1];
-    prefix_sums(speeds, weights, &mut sums);
+    prefix_sums(weights, &mut sums);
     heuristic_in(speeds, weights, &sums, separators);
     measure_in(speeds, weights, &sums, separators)
 }

@@ -75,6 +75,10 @@ prefixes-are job l =
       sums = λ i h. at-tabulate (λ i. sum (take i (job .weights))) (suc (tasks job)) l i (omega arith) ∙ weight-front job i;
     }
 
+-- So is every list in whose front they were written.
+pub sums-ready : {job : Job} {xs : List ℕ} (l : List ℕ) → Valid job → xs ≡ prefixes (job .weights) ++ l → Ready job xs
+sums-ready {job} {xs} l v e = record { valid = v; prefix = subst (Prefix job) (sym e) (prefixes-are job l) }
+
 -- A prefix sum fits 32 bits, and so does all weight; all speed fits 64.
 pub prefix-fits : {job : Job} → Valid job → (i : ℕ) → partWeight job 0 i < 2 ^ 32
 prefix-fits {job} v i = omega (arith, weight-le-total job 0 i, total-weight-limit v, loads-fit)

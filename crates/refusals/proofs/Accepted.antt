@@ -8,8 +8,10 @@ use lib.Dec.{leb, leb→le}
 use lib.ListN.{take}
 use Rattle.chain.specs.Job.{Job, Valid, processors, Partition}
 use Rattle.chain.specs.Refusal.{Test, methodTest, lengthTest, boundTest, partitionTest, firstRefusal, jobTests, Inputs, callTests, refusal}
-use Rattle.chain.proofs.Ranges.{Lendable, lendable-test}
-use Rattle.chain.proofs.Refusals.{Numbered, numbered-append, numbered-map, job-numbered, append-accepted, Each, map-accepted, job-accepted, partition-test, and-left, and-right}
+use Rattle.chain.specs.Ranges.{Lendable}
+use Rattle.chain.proofs.Ranges.{lendable-test}
+use Rattle.chain.proofs.Refusals.{Numbered, numbered-append, numbered-map, job-numbered, append-accepted, Each, map-accepted, job-accepted, partition-test}
+use Rattle.chain.proofs.Tests.{and-left, and-right}
 
 -- Its method is one of the three, its job valid, its lists long enough, its bound within the limits, its list a division: of each
 -- kind, what the call takes.

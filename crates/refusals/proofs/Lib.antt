@@ -5,6 +5,7 @@ pub mod Counts
 pub mod ByLists
 pub mod Division
 pub mod Tests
+pub mod Methods
 pub mod Accepted
 pub mod Lent
 pub mod Answering

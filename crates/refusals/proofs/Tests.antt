@@ -15,7 +15,7 @@ use Rattle.chain.specs.Limits.{maxBoundLoad, maxBoundSpeed}
 use Rattle.chain.specs.Job.{Job, tasks, processors}
 use Rattle.chain.specs.Refusal.{Test, between, methodTest, lengthTest, boundTest, isPartition, partitionTest, firstRefusal, jobTests, callTests, refusal}
 use Rattle.chain.proofs.Refusals.{numbered-nil, numbered-cons, first-decide, others-decide, job-numbered, call-numbered}
-use Rattle.refusals.specs.Inputs.{separatorsNeeded, scratchNeeded, planNeeded, bytesNeeded, measureInputs, probeInputs, heuristicInputs, planInputs, writeInputs, writePlanInputs}
+use Rattle.refusals.specs.Inputs.{separatorsNeeded, scratchLists, scratchNeeded, planNeeded, bytesNeeded, measureInputs, probeInputs, heuristicInputs, planLists, planInputs, writeInputs, writePlanInputs}
 use Rattle.refusals.proofs.Each.{between-low, between-high, between-in}
 use Rattle.refusals.proofs.Limits.{bound-load-limit, bound-speed-limit}
 use Rattle.refusals.proofs.Steps.{fails, passes, passed-all}
@@ -87,8 +87,6 @@ module _ (job : Job) (s : List ℕ) {b : Bool} (is : b ≡ isPartition job (take
   division h = sym (passes 11 [] (sym is ∙ not-false b h) ∙ passed-all)
 
 -- For `search`: at each return the law that its tests meet.
-pub ruleset method-laws = (method-low, method-high, method-in)
-
 pub ruleset length-laws = (length-short, length-enough)
 
 pub ruleset bound-laws = (load-far, speed-none, speed-far, bound-in, bound-load-limit, bound-speed-limit)
@@ -140,31 +138,30 @@ module _ (job : Job) where
     unfolding refusal callTests jobTests
     probe-bound z f = by-others lent (boundTest B ∷ []) e z f
 
-  -- Planning: the method, then the job and the list of separators, then the work numbers.
-  module _ (m separators scratch : ℕ) {n : ℕ} (e : n ≡ firstRefusal (methodTest m ∷ [])) where
-    later : List Test
-    later = callTests job (heuristicInputs job separators) ++ lengthTest (scratchNeeded job) scratch ∷ []
+  -- Planning by a method that is known: then the work numbers.
+  module _ (separators scratch : ℕ) {n : ℕ} (e : n ≡ refusal job (heuristicInputs job separators)) where
+    pub plan-list : n ≢ 0 → n ≡ refusal job (planLists job separators scratch)
+    unfolding refusal callTests jobTests
+    plan-list h = by-list separators (lengthTest (scratchNeeded job) scratch ∷ []) e h
 
-    pub plan-method : n ≢ 0 → n ≡ refusal job (planInputs job m separators scratch)
-    unfolding refusal callTests jobTests later
-    plan-method h = first-decide (methodTest m ∷ []) later e h
+    pub plan-scratch : n ≡ 0 → {k : ℕ} → k ≡ firstRefusal (lengthTest (scratchLists * (tasks job + 1)) scratch ∷ [])
+        → k ≡ refusal job (planLists job separators scratch)
+    unfolding refusal callTests jobTests
+    plan-scratch z f =
+        by-others separators (lengthTest (scratchNeeded job) scratch ∷ []) e z
+        (f ∙ ap (λ (n : ℕ). firstRefusal (lengthTest (scratchLists * n) scratch ∷ [])) (add-one (tasks job)))
 
-    module _ (z : n ≡ 0) {k : ℕ} (f : k ≡ refusal job (heuristicInputs job separators)) where
-      by-later : {l : ℕ} → l ≡ firstRefusal later → l ≡ refusal job (planInputs job m separators scratch)
-      unfolding refusal callTests jobTests later methodTest
-      by-later g = others-decide (methodTest m ∷ []) later e (numbered-cons (omega arith) numbered-nil) z g
+  -- Planning by a number: the method, then those.
+  module _ (m separators scratch : ℕ) where
+    pub plan-unknown : 1 ≡ firstRefusal (methodTest m ∷ []) → 1 ≡ refusal job (planInputs job m separators scratch)
+    unfolding refusal callTests
+    plan-unknown e = first-decide (methodTest m ∷ []) (callTests job (planLists job separators scratch)) e (λ z. omega arith)
 
-      pub plan-list : k ≢ 0 → k ≡ refusal job (planInputs job m separators scratch)
-      unfolding later
-      plan-list h = by-later (by-list separators (lengthTest (scratchNeeded job) scratch ∷ []) f h)
-
-      pub plan-scratch : k ≡ 0 → {l : ℕ} → l ≡ firstRefusal (lengthTest (5 * (tasks job + 1)) scratch ∷ [])
-          → l ≡ refusal job (planInputs job m separators scratch)
-      unfolding later
-      plan-scratch y g =
-          by-later
-          (by-others separators (lengthTest (scratchNeeded job) scratch ∷ []) f y
-          (g ∙ ap (λ (n : ℕ). firstRefusal (lengthTest (5 * n) scratch ∷ [])) (add-one (tasks job))))
+    pub plan-known : 0 ≡ firstRefusal (methodTest m ∷ []) → {n : ℕ} → n ≡ refusal job (planLists job separators scratch)
+        → n ≡ refusal job (planInputs job m separators scratch)
+    unfolding refusal callTests methodTest
+    plan-known e f =
+        others-decide (methodTest m ∷ []) (callTests job (planLists job separators scratch)) e (numbered-cons (omega arith) numbered-nil) refl f
 
   -- Writing a job file: the job, then the buffer.
   module _ (lent : ℕ) {n : ℕ} (e : n ≡ firstRefusal (jobTests job)) where
@@ -205,7 +202,7 @@ pub ruleset measure-laws = (measure-list, measure-division)
 
 pub ruleset probe-laws = (probe-list, probe-bound)
 
-pub ruleset plan-laws = (plan-method, plan-list, plan-scratch)
+pub ruleset plan-laws = (plan-list, plan-scratch)
 
 pub ruleset write-job-laws = (write-job-tests, write-bytes)
 

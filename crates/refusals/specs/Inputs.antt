@@ -20,8 +20,11 @@ abbrev pub separatorsNeeded : Job → ℕ
 separatorsNeeded job = suc (processors job)
 
 -- 5 × (N + 1) work numbers of 32 bits;
+abbrev pub scratchLists : ℕ
+scratchLists = 5
+
 abbrev pub scratchNeeded : Job → ℕ
-scratchNeeded job = 5 * suc (tasks job)
+scratchNeeded job = scratchLists * suc (tasks job)
 
 -- 16 × P plan bytes;
 abbrev pub planNeeded : Job → ℕ
@@ -43,10 +46,12 @@ probeInputs job B lent = lending (separatorsNeeded job) lent (withBound B nothin
 abbrev pub heuristicInputs : Job → ℕ → Inputs
 heuristicInputs job lent = lending (separatorsNeeded job) lent nothing
 
--- Planning: the method, and lists of these lengths for the separators and the work numbers.
+-- Planning: lists of these lengths for the separators and the work numbers, and the number of the method.
+abbrev pub planLists : Job → ℕ → ℕ → Inputs
+planLists job separators scratch = lending (separatorsNeeded job) separators (lending (scratchNeeded job) scratch nothing)
+
 abbrev pub planInputs : Job → ℕ → ℕ → ℕ → Inputs
-planInputs job m separators scratch =
-    withMethod m (lending (separatorsNeeded job) separators (lending (scratchNeeded job) scratch nothing))
+planInputs job m separators scratch = withMethod m (planLists job separators scratch)
 
 -- Writing a job file: a buffer of this length.
 abbrev pub writeInputs : Job → ℕ → Inputs

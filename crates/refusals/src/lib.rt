@@ -7,10 +7,12 @@ ghost use lib.ListN.{length, take};
 ghost use lib.Dec.{leb};
 ghost use Rattle.chain.specs.Limits.{maxProcessors, maxTasks};
 ghost use Rattle.chain.specs.Job.{Job, jobOf, processors};
-ghost use Rattle.chain.specs.Refusal.{test, between, eachBetween, methodTest, lengthTest, boundTest, isPartition, partitionTest};
+ghost use Rattle.chain.specs.Refusal.{test, between, eachBetween, lengthTest, boundTest, isPartition, partitionTest};
 ghost use Rattle.chain.specs.Refusal.{firstRefusal, jobTests, refusal};
-ghost use Rattle.refusals.specs.Inputs.{measureInputs, probeInputs, heuristicInputs, planInputs, writeInputs, writePlanInputs};
+ghost use Rattle.refusals.specs.Methods.{chosenOf};
+ghost use Rattle.refusals.specs.Inputs.{measureInputs, probeInputs, heuristicInputs, planLists, writeInputs, writePlanInputs};
 use bound::Bound;
+use chain::Method;
 
 // The limits of a job.
 pub const MAX_TASKS: usize = 2048;
@@ -26,10 +28,19 @@ pub const MAX_BOUND_LOAD: u64 = 100_000_000_000_000;
 
 pub const MAX_BOUND_SPEED: u64 = 1_000_000_000;
 
+// Planning takes so many lists of N + 1 work numbers: the prefix sums, and two rows of pairs.
+pub const SCRATCH_LISTS: usize = 5;
+
 // The bytes of a record of a job file, and of one of a plan file.
 pub const RECORD: usize = 8;
 
 pub const PLAN_RECORD: usize = 16;
+
+// A method by its number, or a number that is no method's.
+pub enum Chosen {
+    Known(Method),
+    Unknown,
+}
 
 // What writing a file answers: the count of its bytes, or the refusal's number.
 pub enum Written {
@@ -115,17 +126,16 @@ fn is_partition(speeds: &[u32], weights: &[u32], separators: &[u32]) -> bool
     separators[p] as usize == weights.len()
 }
 
-// Inner. The test of a method: 0 or 1.
-pub fn test_method(method: u32) -> u32
-    ensures { λ r. ⌜ r ≡ firstRefusal (methodTest method ∷ []) ⌝ }
+// The method with this number. No other number is a method's: refusal 1.
+pub fn choose(number: u32) -> Chosen
+    ensures { λ r. ⌜ r ≡ chosenOf number ⌝ }
 {
-    if method < 1 {
-        return 1;
+    match number {
+        1 => Chosen::Known(Method::Table),
+        2 => Chosen::Known(Method::Bidding),
+        3 => Chosen::Known(Method::Bisection),
+        _ => Chosen::Unknown,
     }
-    if 3 < method {
-        return 1;
-    }
-    0
 }
 
 // Inner. The test of a lent list's length: 0 or 9.
@@ -208,27 +218,17 @@ pub fn test_probe(speeds: &[u32], weights: &[u32], bound: Bound, lent: usize) ->
     by_bound
 }
 
-// The tests of planning into lists of these lengths: 0, or the refusal: 1, 5, 6, 7, 8 or 9, in this order.
-pub fn test_plan(
-    method: u32,
-    speeds: &[u32],
-    weights: &[u32],
-    separators: usize,
-    scratch: usize,
-) -> u32
+// The tests of planning into lists of these lengths, the method apart: 0, or the refusal: 5, 6, 7, 8 or 9, in this order.
+pub fn test_plan(speeds: &[u32], weights: &[u32], separators: usize, scratch: usize) -> u32
     ensures { λ r.
         let job = jobOf (now (speeds .entry)) (now (weights .entry)) in
-        ⌜ r ≡ refusal job (planInputs job method separators scratch) ⌝ }
+        ⌜ r ≡ refusal job (planLists job separators scratch) ⌝ }
 {
-    let by_method = test_method(method);
-    if by_method != 0 {
-        return by_method;
-    }
     let by_list = test_heuristic(speeds, weights, separators);
     if by_list != 0 {
         return by_list;
     }
-    test_length(5 * (weights.len() + 1), scratch)
+    test_length(SCRATCH_LISTS * (weights.len() + 1), scratch)
 }
 
 // The tests of writing a job file: 0, or the refusal: 5, 6, 7, 8 or 9, in this order.

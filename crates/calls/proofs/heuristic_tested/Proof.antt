@@ -9,7 +9,7 @@ use Rattle.chain.proofs.Parts.{valid-proper}
 use Rattle.chain.proofs.Heuristic.{heuristic-partition}
 use Rattle.refusals.proofs.Limits.{tasks-limit}
 use Rattle.parts.proofs.Front.{front-partition, front-bottleneck}
-use Rattle.calls.proofs.Ends.{sums-ready}
+use Rattle.parts.proofs.Laws.{sums-ready, weights-fit}
 use borrow.Author.Needs.{needs}
 use Rattle.calls.proofs.heuristic_tested.Statement.{statement}
 use Rattle.calls.proofs.heuristic_tested.Tie as tie
@@ -19,7 +19,7 @@ slice-aggregate-prefix-sums c = search needs
 
 prefix-sums-requires : tie.Need-prefix-sums-requires
 prefix-sums-requires c κs =
-    let s = c .before .before .before .before in (s .pre .0, omega (arith, s .pre .0 .tasks-limit, tasks-limit))
+    let s = c .before .before .before .before in (weights-fit (s .pre .0), omega (arith, s .pre .0 .tasks-limit, tasks-limit))
 
 slice-aggregate-heuristic-in : tie.Need-slice-aggregate-heuristic-in
 slice-aggregate-heuristic-in c = search needs

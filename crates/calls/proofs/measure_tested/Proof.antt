@@ -2,7 +2,7 @@
 -- Assumes nothing.
 use native.Mathlib.Omega.{arith}
 use Rattle.refusals.proofs.Limits.{tasks-limit}
-use Rattle.calls.proofs.Ends.{sums-ready}
+use Rattle.parts.proofs.Laws.{sums-ready, weights-fit}
 use borrow.Author.Needs.{needs}
 use Rattle.calls.proofs.measure_tested.Statement.{statement}
 use Rattle.calls.proofs.measure_tested.Tie as tie
@@ -12,7 +12,7 @@ slice-aggregate-prefix-sums c = search needs
 
 prefix-sums-requires : tie.Need-prefix-sums-requires
 prefix-sums-requires c κs =
-    let s = c .before .before .before .before in (s .pre .0, omega (arith, s .pre .0 .tasks-limit, tasks-limit))
+    let s = c .before .before .before .before in (weights-fit (s .pre .0), omega (arith, s .pre .0 .tasks-limit, tasks-limit))
 
 slice-aggregate-measure-in : tie.Need-slice-aggregate-measure-in
 slice-aggregate-measure-in c = search needs

@@ -3,7 +3,7 @@
 use native.Mathlib.Omega.{arith}
 use borrow.Author.Needs.{needs}
 use Rattle.refusals.proofs.Limits.{tasks-limit, processors-limit}
-use Rattle.calls.proofs.Ends.{sums-ready}
+use Rattle.parts.proofs.Laws.{sums-ready, weights-fit}
 use Rattle.calls.proofs.probe_tested.Statement.{statement}
 use Rattle.calls.proofs.probe_tested.Tie as tie
 
@@ -11,7 +11,7 @@ slice-aggregate-prefix-sums : tie.Need-slice-aggregate-prefix-sums
 slice-aggregate-prefix-sums c = search needs
 
 prefix-sums-requires : tie.Need-prefix-sums-requires
-prefix-sums-requires c κs = let s = c .before .before .before .before in (s .pre .0, omega (arith, s .pre .0 .tasks-limit, tasks-limit))
+prefix-sums-requires c κs = let s = c .before .before .before .before in (weights-fit (s .pre .0), omega (arith, s .pre .0 .tasks-limit, tasks-limit))
 
 slice-aggregate-probe-beside : tie.Need-slice-aggregate-probe-beside
 slice-aggregate-probe-beside c = search needs

@@ -1,21 +1,15 @@
--- `test_plan` meets its contract: the method, the job and the list, then the work numbers.
+-- `test_plan` meets its contract: the job and the list of separators, then the work numbers.
 -- Assumes nothing.
 use Rattle.refusals.proofs.Tests.{plan-laws}
 use borrow.Author.Needs.{needs}
 use Rattle.refusals.proofs.test_plan.Statement.{statement}
 use Rattle.refusals.proofs.test_plan.Tie as tie
 
-test-method-requires : tie.Need-test-method-requires
-test-method-requires c κs = search needs
-
-returns : tie.Need-returns
-returns c = search plan-laws
-
 test-heuristic-requires : tie.Need-test-heuristic-requires
 test-heuristic-requires c κs = search needs
 
-returns-2 : tie.Need-returns-2
-returns-2 c = search plan-laws
+returns : tie.Need-returns
+returns c = search plan-laws
 
 add-test-length : tie.Need-add-test-length
 add-test-length c = search needs
@@ -26,18 +20,16 @@ mul-test-length c = search needs
 test-length-requires : tie.Need-test-length-requires
 test-length-requires c κs = search needs
 
-returns-3 : tie.Need-returns-3
-returns-3 c = search plan-laws
+returns-2 : tie.Need-returns-2
+returns-2 c = search plan-laws
 
 pub test-plan-spec : {M : Type 1} → statement M
 test-plan-spec =
     tie.close
     (tie.spec
-    test-method-requires
-    returns
     test-heuristic-requires
-    returns-2
+    returns
     add-test-length
     mul-test-length
     test-length-requires
-    returns-3)
+    returns-2)
