@@ -62,43 +62,21 @@ fn say_probed(answer: Probed) {
     }
 }
 
-fn set(byte: u8, at: usize, file: &mut [u8]) {
-    if at < file.len() {
-        file[at] = byte;
-    }
-}
-
-// Puts record i, of a value below 2^24, where zeros were.
-fn put(kind: u8, value: u32, i: usize, file: &mut [u8]) {
-    if i < 4096 {
-        let at = 8 * i;
-        set(kind, at, file);
-        set((value % 256) as u8, at + 4, file);
-        set((value / 256 % 256) as u8, at + 5, file);
-        set((value / 65536 % 256) as u8, at + 6, file);
-    }
-}
-
-// Puts the same record from place `from` to before place `to`.
-fn fill(kind: u8, value: u32, from: usize, to: usize, file: &mut [u8]) {
-    let mut i = from;
-    while i < to {
-        put(kind, value, i, file);
-        i += 1;
-    }
-}
-
-// Reads the first bytes of a file of so many equal machines, and equal tiles behind them.
-fn read(case: u64, machines: usize, speed: u32, weight: u32, bytes: usize) {
-    let mut file = [0u8; 16400];
-    let mut speeds = [0u32; 256];
-    let mut weights = [0u32; 2048];
-    fill(1, speed, 0, machines, &mut file);
-    fill(2, weight, machines, 2050, &mut file);
+// Reads a file into lists of one speed and one weight that hold 9, and says what they then hold.
+fn read(case: u64, file: &[u8]) {
+    let mut speeds = [9u32; 1];
+    let mut weights = [9u32; 1];
     io::print_decimal(1, case);
-    if bytes <= 16400 {
-        say_read(jobs::read_job(&file[..bytes], &mut speeds, &mut weights));
-    }
+    say_read(jobs::read_job(file, &mut speeds, &mut weights));
+    say_list(&speeds);
+    say_list(&weights);
+    end_line();
+}
+
+// Measures a division of a job by lists.
+fn measure(case: u64, speeds: &[u32], weights: &[u32], separators: &[u32]) {
+    io::print_decimal(1, case);
+    say_measured(calls::measure(speeds, weights, separators));
     end_line();
 }
 
@@ -111,13 +89,6 @@ fn probe(case: u64, load: u64, speed: u64) {
     end_line();
 }
 
-// Measures a division of job A.
-fn measure(case: u64, separators: &[u32]) {
-    io::print_decimal(1, case);
-    say_measured(calls::measure(&[1, 3], &[1, 3, 8], separators));
-    end_line();
-}
-
 // The heuristic on job A.
 fn heuristic(case: u64) {
     let mut separators = [7u32; 4];
@@ -127,41 +98,44 @@ fn heuristic(case: u64) {
     end_line();
 }
 
-// Each with its number, machines, their speed, the weight of the tiles behind them, and the bytes that are read.
+fn one_record() {
+    read(1, &[]); // an empty file: 7
+    read(2, &[1, 0, 0, 0, 1, 0, 0]); // 7 bytes: 2
+    read(3, &[1, 0, 0, 1, 0, 0, 0, 0]); // byte 3 not zero, before speed 0: 3
+    read(4, &[1, 0, 0, 0, 0, 0, 0, 0]); // speed 0: 5
+    read(5, &[1, 0, 0, 0, 16, 39, 0, 0]); // speed 10,000 is read
+    read(6, &[1, 0, 0, 0, 17, 39, 0, 0]); // speed 10,001: 5
+}
+
+fn two_records() {
+    read(7, &[1, 0, 0, 0, 1, 0, 0, 0, 2, 0, 0, 0, 64, 66, 15, 0]); // weight 1,000,000 is read
+    read(8, &[1, 0, 0, 0, 1, 0, 0, 0, 2, 0, 0, 0, 65, 66, 15, 0]); // weight 1,000,001: 6
+    read(9, &[2, 0, 0, 0, 1, 0, 0, 0, 1, 0, 0, 0, 0, 0, 0, 0]); // a machine after a tile, before its speed 0: 4
+    read(10, &[1, 0, 0, 0, 1, 0, 0, 0, 1, 0, 0, 0, 1, 0, 0, 0]); // two machines, one speed lent: 9
+}
+
+// With no separators, so that counts that pass give 9.
 fn counts() {
-    read(1, 0, 1, 1, 0); // an empty file: 7
-    read(2, 1, 1, 1, 7); // 7 bytes: 2
-    read(3, 256, 1, 1, 2048); // 256 machines are read
-    read(4, 257, 1, 1, 2056); // 257 machines: 7
-    read(5, 257, 1, 1, 2057); // 257 machines and a byte: 2
-    read(6, 1, 1, 1, 16392); // 2,048 tiles are read
-    read(7, 1, 1, 1, 16400); // 2,049 tiles: 8
-    read(8, 0, 1, 1, 16392); // no machine and 2,049 tiles: 7
+    measure(11, &[1; 256], &[], &[]); // 256 machines pass
+    measure(12, &[1; 257], &[], &[]); // 257 machines: 7
+    measure(13, &[1], &[0; 2048], &[]); // 2,048 tiles pass
+    measure(14, &[1], &[0; 2049], &[]); // 2,049 tiles: 8
 }
 
-fn ranges() {
-    read(9, 1, 0, 1, 8); // speed 0: 5
-    read(10, 1, 10000, 1, 8); // speed 10,000 is read
-    read(11, 1, 10001, 1, 8); // speed 10,001: 5
-    read(12, 1, 1, 1000000, 16); // weight 1,000,000 is read
-    read(13, 1, 1, 1000001, 16); // weight 1,000,001: 6
-    read(14, 1, 0, 1000001, 16); // speed 0 before weight 1,000,001: 5
-}
-
-// Each with its number and a bound, or a division.
 fn calls_on_a() {
     probe(15, 3, 1); // fails, next 11/3
     probe(16, 11, 3); // fits
     probe(17, 23, 6); // fits
     probe(18, 3, 0); // a bound of speed 0: 10
     heuristic(19); // 0 2 3, bottleneck 4/1
-    measure(20, &[0, 3, 3]); // 12/1
-    measure(21, &[0, 2, 2]); // no division: 11
-    measure(22, &[0, 3]); // a separator too few: 9
+    measure(20, &[1, 3], &[1, 3, 8], &[0, 3, 3]); // 12/1
+    measure(21, &[1, 3], &[1, 3, 8], &[0, 2, 2]); // no division: 11
+    measure(22, &[1, 3], &[1, 3, 8], &[0, 3]); // a separator too few: 9
 }
 
 fn main() {
+    one_record();
+    two_records();
     counts();
-    ranges();
     calls_on_a();
 }
