@@ -11,19 +11,10 @@ use lib.Seq.{getD-take}
 use Rattle.bound.specs.declared.Bound.{Bound}
 use Rattle.bound.specs.Order.{le, greater, pick}
 use Rattle.chain.specs.Job.{Job, Valid, tasks, processors, last, partBound, at, Partition, boundAt, bottleneckTo, bottleneck}
+use Rattle.chain.proofs.Parts.{separator-below}
 use Rattle.chain.specs.Ranges.{Small}
 use Rattle.chain.proofs.Ranges.{bound-small, small-products}
 use Rattle.bound.proofs.Order.{greater-cases}
-
--- The entries of a partition are indices of the job.
-module _ {job : Job} {s : List ℕ} (part : Partition job s) where
-  rest-grows : (d p : ℕ) → p + d ≡ processors job → at s p ≤ tasks job
-  rest-grows zero p e =
-      subst (λ (n : ℕ). at s n ≤ tasks job) (let x : processors job ≡ p = omega arith in x) (omega (arith, part .end))
-  rest-grows (suc d) p e = omega (arith, part .grows p (omega arith), rest-grows d (suc p) (omega arith))
-
-  pub partition-to : (p : ℕ) → p ≤ processors job → at s p ≤ tasks job
-  partition-to p h = rest-grows (processors job - p) p (omega arith)
 
 -- A list that begins with a partition.
 module _ {job : Job} (s : List ℕ) (part : Partition job (take (suc (processors job)) s)) where
@@ -37,7 +28,7 @@ module _ {job : Job} (s : List ℕ) (part : Partition job (take (suc (processors
   pub front-part : {i j p : ℕ} → p < processors job → i ≡ at s p → j ≡ at s (p + 1) → (i ≤ j) × (j ≤ tasks job)
   front-part {i} {j} {p} h x y =
       let e : at s (p + 1) ≡ at s (suc p) = ap (at s) (add-one p) in
-      let g : at s (suc p) ≤ tasks job = omega (arith, front-entry (suc p) h, partition-to part (suc p) h) in
+      let g : at s (suc p) ≤ tasks job = omega (arith, front-entry (suc p) h, separator-below part (suc p) h) in
       (omega (arith, front-entry p (omega arith), front-entry (suc p) h, part .grows p h), omega arith)
 
 -- The bound of the part between two entries.

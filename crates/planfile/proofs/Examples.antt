@@ -4,7 +4,7 @@ use mathlib.Core.Path.{_≡_, refl}
 use mathlib.Core.List.{[], _∷_, _++_}
 use Rattle.chain.specs.Limits.{maxTasks, maxWeight, maxProcessors, maxSpeed}
 use Rattle.chain.specs.Lists.{sum, all}
-use Rattle.chain.specs.Job.{Job, jobOf, speedOf, partWeight, partLoad}
+use Rattle.chain.specs.Job.{Job, jobOf, speedOf, partOf, partWeight, partLoad}
 use Rattle.chain.specs.Refusal.{eachBetween, speedsTest, weightsTest, processorsTest, tasksTest, lengthTest, isPartition, partitionTest, firstRefusal, jobTests, callTests, refusal}
 use Rattle.fields.specs.Field.{fieldBytes}
 use Rattle.refusals.specs.Inputs.{writePlanInputs}
@@ -17,7 +17,7 @@ A = jobOf (1 ∷ 3 ∷ []) (1 ∷ 3 ∷ 8 ∷ [])
 pub plan-of-A : planBytes A (0 ∷ 1 ∷ 3 ∷ [])
     ≡ (0 ∷ 0 ∷ 0 ∷ 0 ∷ 1 ∷ 0 ∷ 0 ∷ 0 ∷ 1 ∷ 0 ∷ 0 ∷ 0 ∷ 1 ∷ 0 ∷ 0 ∷ 0 ∷ [])
     ++ (1 ∷ 0 ∷ 0 ∷ 0 ∷ 3 ∷ 0 ∷ 0 ∷ 0 ∷ 11 ∷ 0 ∷ 0 ∷ 0 ∷ 3 ∷ 0 ∷ 0 ∷ 0 ∷ [])
-unfolding planBytes planBytesTo planRecord fieldBytes partLoad partWeight speedOf sum
+unfolding planBytes planBytesTo planRecord fieldBytes partLoad partWeight partOf speedOf sum
 plan-of-A = refl
 
 -- The separators 0 2 2 are no division: 9 with a byte too few, 11 with enough, and 9 with a separator too few.

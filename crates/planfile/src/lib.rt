@@ -3,29 +3,20 @@ ghost use Prim.Native.Nat.{suc, _+_, _*_, _≤_, _<_};
 ghost use mathlib.Core.Path.{_≡_};
 ghost use mathlib.Core.List.{_++_};
 ghost use lib.ListN.{length, take, drop};
-ghost use Rattle.chain.specs.Job.{Job, jobOf, tasks, processors, Partition, partLoad};
+ghost use Rattle.chain.specs.Job.{Job, jobOf, processors, Partition};
 ghost use Rattle.refusals.specs.Inputs.{planRecordSize, planNeeded};
 ghost use Rattle.parts.specs.Prefix.{Ready};
 ghost use Rattle.planfile.specs.PlanFile.{planRecord, planBytes};
 ghost use Rattle.planfile.specs.Answers.{writePlanAnswer, writePlanBytes};
 use fields::FIELD;
 use fields::put_field;
+use parts::index;
+use parts::part_load;
 use parts::prefix_sums;
 use refusals::MAX_TASKS;
 use refusals::PLAN_RECORD;
 use refusals::Written;
 use refusals::test_write_plan;
-
-// Inner. The load of the part from a to b.
-fn part_load(speeds: &[u32], weights: &[u32], sums: &[u32], a: u32, b: u32) -> u32
-    ghost { Job }
-    requires { λ job. ⌜ jobOf (now speeds) (now weights) ≡ job ⌝ }
-    requires { λ job. ⌜ Ready job (now sums) ⌝ }
-    requires { λ job. ⌜ (a ≤ b) × (b ≤ tasks job) ⌝ }
-    ensures { λ job r. ⌜ r ≡ partLoad job a b ⌝ }
-{
-    sums[b as usize] - sums[a as usize]
-}
 
 // Inner. The record of processor p at its place.
 fn put_plan_record(
@@ -51,11 +42,8 @@ fn put_plan_record(
     let b = separators[p + 1];
     put_field(a, place, plan);
     put_field(b, place + FIELD, plan);
-    put_field(
-        part_load(speeds, weights, sums, a, b),
-        place + 2 * FIELD,
-        plan,
-    );
+    let load = part_load(sums, index(a), index(b));
+    put_field(load, place + 2 * FIELD, plan);
     put_field(speeds[p], place + 3 * FIELD, plan);
 }
 
@@ -90,7 +78,7 @@ pub fn write_plan(speeds: &[u32], weights: &[u32], separators: &[u32], plan: &mu
         return Written::Refused(number);
     }
     let mut sums = [0u32; MAX_TASKS + 1];
-    prefix_sums(speeds, weights, &mut sums);
+    prefix_sums(weights, &mut sums);
     put_plan(speeds, weights, &sums, separators, plan);
     Written::Bytes(PLAN_RECORD * speeds.len())
 }

@@ -1,30 +1,43 @@
 // Planning by table, bidding or bisection: every method ends at the least bottleneck, and one walk there writes the plan.
-ghost use Prim.Native.Nat.{suc, _+_, _*_, _≤_, _<_};
+ghost use Prim.Native.Nat.{suc, _≤_, _<_};
 ghost use mathlib.Core.Path.{_≡_};
 ghost use mathlib.Core.List.{_++_};
 ghost use lib.ListN.{length, drop};
-ghost use Rattle.chain.specs.Job.{Job, jobOf, tasks, processors, Valid};
+ghost use Rattle.chain.specs.Ranges.{Lendable};
+ghost use Rattle.chain.specs.Job.{Job, jobOf, processors, Valid};
 ghost use Rattle.chain.specs.Plan.{MethodEnds, PlanBy, planOf};
-ghost use Rattle.chain.proofs.Ranges.{Lendable};
+ghost use Rattle.refusals.specs.Inputs.{scratchNeeded};
 ghost use Rattle.parts.specs.Prefix.{Ready};
 ghost use Rattle.parts.specs.Kept.{KeptFrom};
-ghost use Rattle.figures.specs.Methods.{methodOf};
-ghost use Rattle.planner.specs.Answers.{planWith, PlanGiven, PlanAnswer};
+ghost use Rattle.planner.specs.Answers.{planWith, PlanGiven, PlannedBy, PlanAnswer};
 
+mod allowance;
 mod host;
+mod imbalance;
 
+use allowance::allowance_of;
+use bidding::bidding_in;
+use bisection::bisection_in;
 use bound::Bound;
+use chain::Method;
 use dynamic::table_in;
-use figures::allowance_of;
-use figures::imbalance_of;
-use heuristic::measure_in;
+use imbalance::imbalance_of;
 use parts::Found;
+use parts::measure_in;
 use parts::prefix_sums;
 use parts::wide;
 use probe::probe_in;
+use refusals::Chosen;
+use refusals::MAX_PROCESSORS;
+use refusals::MAX_TASKS;
+use refusals::SCRATCH_LISTS;
+use refusals::choose;
 use refusals::test_plan;
-use search::bidding_in;
-use search::bisection_in;
+
+// The most separators and work numbers that any plan takes.
+pub const SEPARATORS: usize = MAX_PROCESSORS + 1;
+
+pub const SCRATCH: usize = SCRATCH_LISTS * (MAX_TASKS + 1);
 
 // What a plan carries beside its separators.
 pub struct Figures {
@@ -40,24 +53,6 @@ pub enum Planned {
     Refused(u32),
 }
 
-// A method chosen by its number, or a number that is no method's.
-pub enum Chosen {
-    Known(Method),
-    Unknown,
-}
-
-// The method with this number.
-pub fn choose(number: u32) -> Chosen
-    ensures { λ r. ⌜ r ≡ chosenOf number ⌝ }
-{
-    match number {
-        1 => Chosen::Known(Method::Table),
-        2 => Chosen::Known(Method::Bidding),
-        3 => Chosen::Known(Method::Bisection),
-        _ => Chosen::Unknown,
-    }
-}
-
 // Inner. Runs the method; the scratch list begins with the prefix sums, and still does when it ends.
 fn run_method(
     method: Method,
@@ -69,12 +64,12 @@ fn run_method(
     ghost { Job }
     requires { λ job. ⌜ jobOf (now speeds) (now weights) ≡ job ⌝ }
     requires { λ job. ⌜ Ready job (now scratch) ⌝ }
-    requires { λ job. ⌜ (processors job < length (now separators)) × (5 * suc (tasks job) ≤ length (now scratch)) ⌝ }
+    requires { λ job. ⌜ (processors job < length (now separators)) × (scratchNeeded job ≤ length (now scratch)) ⌝ }
     ensures { λ job r. ⌜ MethodEnds method job (r .count) (r .bound) ⌝ }
     ensures { λ job r. ⌜ Lendable (r .bound) ⌝ }
     ensures { λ job r. ⌜ KeptFrom (suc (processors job)) (now (separators .entry)) (now (separators .exit)) ⌝ }
     ensures { λ job r. ⌜ Ready job (now (scratch .exit)) ⌝ }
-    ensures { λ job r. ⌜ KeptFrom (5 * suc (tasks job)) (now (scratch .entry)) (now (scratch .exit)) ⌝ }
+    ensures { λ job r. ⌜ KeptFrom (scratchNeeded job) (now (scratch .entry)) (now (scratch .exit)) ⌝ }
 {
     match method {
         Method::Table => table_in(speeds, weights, scratch),
@@ -116,7 +111,7 @@ fn close_plan(
     }
 }
 
-// Inner. Plans a job that has been tested, by a method that has been tested.
+// Inner. Plans a job that has been tested.
 pub fn plan_in(
     method: Method,
     speeds: &[u32],
@@ -127,8 +122,9 @@ pub fn plan_in(
     ghost { Job }
     requires { λ job. ⌜ jobOf (now speeds) (now weights) ≡ job ⌝ }
     requires { λ job. ⌜ Valid job ⌝ }
-    requires { λ job. ⌜ (processors job < length (now separators)) × (5 * suc (tasks job) ≤ length (now scratch)) ⌝ }
-    ensures { λ job r. ⌜ PlanGiven job method (now (separators .entry)) (now (scratch .entry)) (now (separators .exit)) (now (scratch .exit)) r ⌝ }
+    requires { λ job. ⌜ (processors job < length (now separators)) × (scratchNeeded job ≤ length (now scratch)) ⌝ }
+    ensures { λ job r.
+        ⌜ PlanGiven job method (now (separators .entry)) (now (scratch .entry)) (now (separators .exit)) (now (scratch .exit)) r ⌝ }
     ensures { λ job r. ⌜ Ready job (now (scratch .exit)) ⌝ }
 {
     prefix_sums(weights, scratch);
@@ -136,7 +132,7 @@ pub fn plan_in(
     close_plan(method, speeds, weights, scratch, found, separators)
 }
 
-// Plans a tested list of inputs by a method that is known: the plan, or the refusal: 5, 6, 7, 8 or 9, in this order.
+// Plans a job by a method that is known: the plan, or the refusal: 5, 6, 7, 8 or 9, in this order.
 fn plan_by(
     method: Method,
     speeds: &[u32],

@@ -1,22 +1,15 @@
 -- `put_plan_record` meets its contract: its four fields make the record.
 -- Assumes nothing.
-use Prim.Native.Nat.{ℕ, suc, _+_}
-use mathlib.Core.Path.{_≡_, sym, ap}
+use mathlib.Core.Path.{ap₂, _∙_}
 use native.Mathlib.Omega.{arith}
-use native.Mathlib.Numerals.{add-one}
 use lib.ListN.{getD}
-use Rattle.chain.specs.Job.{jobOf}
-use Rattle.parts.proofs.Laws.{speed-read}
-use Rattle.planfile.proofs.Parts.{Ends, part-ends}
+use Rattle.chain.specs.Job.{Job, jobOf, partLoad}
+use Rattle.parts.proofs.Laws.{speed-read, prefix-to, prefix-load}
+use Rattle.parts.proofs.Measure.{front-length, front-part}
 use Rattle.planfile.proofs.Records.{record-put}
 use borrow.Author.Needs.{needs}
 use Rattle.planfile.proofs.put_plan_record.Statement.{statement}
 use Rattle.planfile.proofs.put_plan_record.Tie as tie
-
--- Where the part begins and ends.
-ends : (s : tie.Start) → Ends (jobOf (s .args .speeds .now) (s .args .weights .now)) (s .args .separators .now) (s .args .p)
-ends s =
-    part-ends {job = jobOf (s .args .speeds .now) (s .args .weights .now)} (s .args .separators .now) (s .pre .1 .0) (s .args .p) (s .pre .1 .1 .0)
 
 mul-place : tie.Need-mul-place
 mul-place c = search needs
@@ -25,7 +18,9 @@ mul-a : tie.Need-mul-a
 mul-a c = search needs
 
 shared-slice-read-a : tie.Need-shared-slice-read-a
-shared-slice-read-a c = omega (arith, ends (c .before .before .before .before .before .before) .there)
+shared-slice-read-a c =
+    let s = c .before .before .before .before .before .before in
+    omega (arith, front-length (s .args .separators .now) (s .pre .1 .0))
 
 add-b : tie.Need-add-b
 add-b c = search needs
@@ -34,7 +29,9 @@ mul-b : tie.Need-mul-b
 mul-b c = search needs
 
 shared-slice-read-b : tie.Need-shared-slice-read-b
-shared-slice-read-b c = omega (arith, ends (c .before .before .before .before .before .before .before) .there)
+shared-slice-read-b c =
+    let s = c .before .before .before .before .before .before .before in
+    omega (arith, front-length (s .args .separators .now) (s .pre .1 .0))
 
 put-field-requires : tie.Need-put-field-requires
 put-field-requires c κs = search needs
@@ -45,12 +42,17 @@ add-put-field c = search needs
 put-field-requires-2 : tie.Need-put-field-requires-2
 put-field-requires-2 c κs = search needs
 
+index-requires : tie.Need-index-requires
+index-requires c κs = search needs
+
+index-requires-2 : tie.Need-index-requires-2
+index-requires-2 c κs = search needs
+
 part-load-requires : tie.Need-part-load-requires
 part-load-requires c κs =
-    let s = c .before .before .before .before .before .before .before .before .before .before .before .before .before .before .before in
-    let e = ends s in
-    let k : getD (s .args .separators .now) (suc (s .args .p)) 0 ≡ getD (s .args .separators .now) (s .args .p + 1) 0 = ap (λ (i : ℕ). getD (s .args .separators .now) i 0) (sym (add-one (s .args .p))) in
-    (s .pre .0, (omega (arith, e .grows), omega (arith, e .below)))
+    let s = c .before .before .before .before .before .before .before .before .before .before .before .before .before .before .before .before .before in
+    let h = front-part (s .args .separators .now) (s .pre .1 .0) (s .pre .1 .1 .0) (c .before .index .ensures) (c .index2 .ensures) in
+    (prefix-to (s .pre .0) (h .1), h .0)
 
 mul-put-field : tie.Need-mul-put-field
 mul-put-field c = search needs
@@ -81,16 +83,16 @@ same-length c = search needs
 
 returns : tie.Need-returns
 returns c =
-    let four = c .before .before in
-    let three = four .before .before .before .before .before in
-    let load = three .before .before in
-    let two = load .before .before .before in
-    let one = two .before .before .before .before in
-    let s = one .before .before .before .before .before .before .before .before .before in
-    record-put (jobOf (s .args .speeds .now) (s .args .weights .now)) (s .args .separators .now) (s .args .p) (load .part-load .result)
-    (getD (s .args .speeds .now) (s .args .p) 0) (s .args .plan .now) (s .pre .1 .1 .1) (load .part-load .ensures)
-    (speed-read (jobOf (s .args .speeds .now) (s .args .weights .now)) (s .args .p) (s .pre .1 .1 .0)) (one .put-field .ensures) (two .put-field2 .ensures)
-    (three .put-field3 .ensures) (four .put-field4 .ensures)
+    let s = c .before .before .before .before .before .before .before .before .before .before .before .before .before .before .before .before .before .before .before .before .before .before .before .before .before .before .before in
+    let job : Job = jobOf (s .args .speeds .now) (s .args .weights .now) in
+    let load = c .before .before .before .before .before .before .before .before .before in
+    let i = load .before .before .index in
+    let j = load .before .index2 in
+    let h = front-part (s .args .separators .now) (s .pre .1 .0) (s .pre .1 .1 .0) (i .ensures) (j .ensures) in
+    record-put job (s .args .separators .now) (s .args .p) (load .part-load .result) (getD (s .args .speeds .now) (s .args .p) 0) (s .args .plan .now) (s .pre .1 .1 .1)
+    (load .part-load .ensures ∙ prefix-load (s .pre .0 .prefix) (i .result) (j .result) (h .0) (h .1) ∙ ap₂ (partLoad job) (i .ensures) (j .ensures))
+    (speed-read job (s .args .p) (s .pre .1 .1 .0)) (c .before .before .before .before .before .before .before .before .before .before .before .before .before .before .before .before .before .before .put-field .ensures) (c .before .before .before .before .before .before .before .before .before .before .before .before .before .before .put-field2 .ensures) (c .before .before .before .before .before .before .before .put-field3 .ensures)
+    (c .before .before .put-field4 .ensures)
 
 pub put-plan-record-spec : {M : Type 1} → statement M
 put-plan-record-spec =
@@ -105,6 +107,8 @@ put-plan-record-spec =
     put-field-requires
     add-put-field
     put-field-requires-2
+    index-requires
+    index-requires-2
     part-load-requires
     mul-put-field
     add-put-field-2

@@ -1,14 +1,12 @@
 -- `write_plan` meets its contract: the tests, the prefix sums, then the records.
 -- Assumes nothing.
-use mathlib.Core.Path.{sym, subst}
 use native.Mathlib.Omega.{arith}
 use lib.ListN.{length}
 use Rattle.chain.specs.Job.{Job, jobOf}
 use Rattle.refusals.specs.Inputs.{writePlanInputs}
 use Rattle.refusals.proofs.Accepted.{Accepted, passed}
 use Rattle.refusals.proofs.Limits.{tasks-limit, processors-limit}
-use Rattle.parts.specs.Prefix.{Prefix}
-use Rattle.parts.proofs.Laws.{prefixes-are}
+use Rattle.parts.proofs.Laws.{sums-ready, weights-fit}
 use Rattle.planfile.proofs.Writing.{write-refused, write-all}
 use borrow.Author.Needs.{needs}
 use Rattle.planfile.proofs.write_plan.Statement.{statement}
@@ -37,7 +35,7 @@ slice-aggregate-prefix-sums c = search needs
 prefix-sums-requires : tie.Need-prefix-sums-requires
 prefix-sums-requires c κs =
     let v = (tested (c .before)) .valid in
-    (v, omega (arith, v .tasks-limit, tasks-limit))
+    (weights-fit v, omega (arith, v .tasks-limit, tasks-limit))
 
 slice-aggregate-put-plan : tie.Need-slice-aggregate-put-plan
 slice-aggregate-put-plan c = search needs
@@ -49,7 +47,7 @@ put-plan-requires c κs =
     let a = e .before .before .before .before .before .before .args in
     let job : Job = jobOf (a .speeds .now) (a .weights .now) in
     let t = tested e in
-    (record { valid = t .valid; prefix = subst (Prefix job) (sym (sums .prefix-sums .ensures)) (prefixes-are job _) }, (t .divisions .0, t .lists .1 .0))
+    (sums-ready {job = job} _ (t .valid) (sums .prefix-sums .ensures), (t .divisions .0, t .lists .1 .0))
 
 mul-t16 : tie.Need-mul-t16
 mul-t16 c =

@@ -10,9 +10,8 @@ use Rattle.chain.specs.Probe.{walk}
 use Rattle.chain.specs.Plan.{planOf}
 use Rattle.chain.proofs.Parts.{valid-proper}
 use Rattle.chain.proofs.Walk.{walk-partition}
-use Rattle.figures.specs.Methods.{methodOf}
 use Rattle.parts.proofs.Front.{front-partition, front-bottleneck}
-use Rattle.planner.proofs.Laws.{walk-is-plan, plan-small, plan-above, last-sum, plan-by}
+use Rattle.planner.proofs.Laws.{walk-is-plan, method-fits, plan-small, plan-above, last-sum, plan-by}
 use borrow.Author.Needs.{needs}
 use Rattle.planner.proofs.close_plan.Statement.{statement}
 use Rattle.planner.proofs.close_plan.Tie as tie
@@ -27,7 +26,7 @@ measure-in-requires c κs =
     let v = s .pre .0 .valid in
     let W : Bound = s .args .found .bound in
     let l : List ℕ = drop (suc (length (s .args .speeds .now))) (s .args .separators .now) in
-    (s .pre .0, front-partition (walk job W) l (walk-partition (valid-proper v) W) (c .before .before .before .probe-in .ensures .1))
+    (s .pre .0, front-partition (walk job W) l (walk-partition (valid-proper v) W (method-fits v (s .args .method) (s .args .found .count) W (s .pre .1 .1 .0))) (c .before .before .before .probe-in .ensures .1))
 
 mul-wide : tie.Need-mul-wide
 mul-wide c = search needs
@@ -49,8 +48,8 @@ imbalance-of-requires c κs =
     let W : Bound = s .args .found .bound in
     let l : List ℕ = drop (suc (length (s .args .speeds .now))) (s .args .separators .now) in
     let b : c .before .before .before .measure-in .result ≡ bottleneck job (planOf job) =
-    front-bottleneck (walk job W) l (walk-partition (valid-proper v) W) (c .before .before .before .before .before .before .before .probe-in .ensures .1) (c .before .before .before .measure-in .ensures .1)
-    ∙ ap (bottleneck job) (walk-is-plan v (methodOf (s .args .method)) (s .args .found .count) W (s .pre .1 .1 .0)) in
+    front-bottleneck (walk job W) l (walk-partition (valid-proper v) W (method-fits v (s .args .method) (s .args .found .count) W (s .pre .1 .1 .0))) (c .before .before .before .before .before .before .before .probe-in .ensures .1) (c .before .before .before .measure-in .ensures .1)
+    ∙ ap (bottleneck job) (walk-is-plan v (s .args .method) (s .args .found .count) W (s .pre .1 .1 .0)) in
     (v, (last-sum (s .pre .0 .prefix) (c .before .wide .ensures), plan-small v b, plan-above v b))
 
 same-length : tie.Need-same-length
@@ -63,11 +62,11 @@ returns c =
     let v = s .pre .0 .valid in
     let W : Bound = s .args .found .bound in
     let l : List ℕ = drop (suc (length (s .args .speeds .now))) (s .args .separators .now) in
-    let e : walk job W ≡ planOf job = walk-is-plan v (methodOf (s .args .method)) (s .args .found .count) W (s .pre .1 .1 .0) in
+    let e : walk job W ≡ planOf job = walk-is-plan v (s .args .method) (s .args .found .count) W (s .pre .1 .1 .0) in
     let b : c .before .before .before .before .measure-in .result ≡ bottleneck job (planOf job) =
-    front-bottleneck (walk job W) l (walk-partition (valid-proper v) W) (c .before .before .before .before .before .before .before .before .probe-in .ensures .1) (c .before .before .before .before .measure-in .ensures .1)
+    front-bottleneck (walk job W) l (walk-partition (valid-proper v) W (method-fits v (s .args .method) (s .args .found .count) W (s .pre .1 .1 .0))) (c .before .before .before .before .before .before .before .before .probe-in .ensures .1) (c .before .before .before .before .measure-in .ensures .1)
     ∙ ap (bottleneck job) e in (
-      plan-by W (methodOf (s .args .method)) _ v (s .pre .1 .1 .0) (c .before .allowance-of .ensures) b (c .imbalance-of .ensures),
+      plan-by W (s .args .method) _ v (s .pre .1 .1 .0) (c .before .allowance-of .ensures) b (c .imbalance-of .ensures),
       c .before .before .before .before .before .before .before .before .probe-in .ensures .1 ∙ ap (λ (x : List ℕ). x ++ l) e,
     )
 

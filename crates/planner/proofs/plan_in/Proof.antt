@@ -3,9 +3,9 @@
 use native.Mathlib.Omega.{arith}
 use Rattle.chain.specs.Job.{Job, jobOf}
 use Rattle.chain.specs.Plan.{planOf}
-use Rattle.parts.proofs.Front.{kept-is}
-use Rattle.search.proofs.Laws.{kept-trans}
-use Rattle.planner.proofs.Laws.{summed-ready, summed-behind, plan-given}
+use Rattle.parts.proofs.Front.{kept-is, kept-trans}
+use Rattle.parts.proofs.Laws.{sums-ready, weights-fit}
+use Rattle.planner.proofs.Laws.{summed-kept, plan-given}
 use borrow.Author.Needs.{needs}
 use Rattle.planner.proofs.plan_in.Statement.{statement}
 use Rattle.planner.proofs.plan_in.Tie as tie
@@ -19,7 +19,7 @@ run-method-requires c κs =
     let job : Job = jobOf (s .args .speeds .now) (s .args .weights .now) in
     let v = s .pre .0 in
     let e = c .before .before .before .before .prefix-sums .ensures in
-    (summed-ready (s .args .scratch .now) v e, (s .pre .1 .0, omega (arith, s .pre .1 .1, summed-behind job (s .args .scratch .now) e (s .pre .1 .1) .same)))
+    (sums-ready {job = job} _ v e, (s .pre .1 .0, omega (arith, s .pre .1 .1, summed-kept job (s .args .scratch .now) e (s .pre .1 .1) .same)))
 
 close-plan-requires : tie.Need-close-plan-requires
 close-plan-requires c κs =
@@ -43,7 +43,7 @@ returns c =
     let r = c .before .before .before .before .before .before .before .before .before .run-method .ensures in
     let p = c .before .before .close-plan .ensures in (
       plan-given v (p .0) (kept-is (planOf job) (r .1 .1 .0) (p .1))
-          (kept-trans (summed-behind job (s .args .scratch .now) (c .before .before .before .before .before .before .before .before .before .before .before .before .before .before .prefix-sums .ensures) (s .pre .1 .1)) (r .1 .1 .1 .1)),
+          (kept-trans (summed-kept job (s .args .scratch .now) (c .before .before .before .before .before .before .before .before .before .before .before .before .before .before .prefix-sums .ensures) (s .pre .1 .1)) (r .1 .1 .1 .1)),
       r .1 .1 .1 .0,
     )
 
