@@ -14,7 +14,6 @@ use Rattle.chain.specs.Limits.{maxWeight, maxSpeed}
 use Rattle.chain.specs.Refusal.{between, firstRefusal}
 use Rattle.jobs.specs.JobFile.{processorKind, taskKind}
 use Rattle.jobs.specs.Parse.{byteAt, kindAt, valueAt, isKind, taskBefore, blank, formTest, orderTest, speedTest, weightTest, recordTests, valuesOf}
-use Rattle.refusals.proofs.Limits.{speed-limit, weight-limit}
 use Rattle.refusals.proofs.Each.{between-low, between-high, between-in}
 use Rattle.refusals.proofs.Steps.{fails, passes, passed-all}
 
@@ -157,4 +156,4 @@ module _ (file : List ℕ) (i : ℕ) {k v : ℕ} {b : Bool} (kind : k ≡ kindAt
 -- For `search`: at each return the law that its tests meet.
 pub ruleset blank-laws = (first-set, second-set, third-decides)
 
-pub ruleset record-laws = (other-kind, not-blank, processor-late, processor-low, processor-high, processor-passes, task-high, task-passes, speed-limit, weight-limit)
+pub ruleset record-laws = (other-kind, not-blank, processor-late, processor-low, processor-high, processor-passes, task-high, task-passes, refl)

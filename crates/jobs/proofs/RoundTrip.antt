@@ -17,7 +17,6 @@ use Rattle.chain.proofs.Refusals.{job-accepted}
 use Rattle.fields.proofs.Laws.{Bytes}
 use Rattle.jobs.specs.JobFile.{processorKind, taskKind, recordBytes, recordsBytes, jobBytes, JobFile}
 use Rattle.jobs.specs.Parse.{recordCount, kindAt, valueAt, recordTests, recordsTests, valuesOf, speedsOf, weightsOf, jobIn, fileRefusal}
-use Rattle.refusals.proofs.Limits.{speed-limit, weight-limit}
 use Rattle.refusals.proofs.Each.{between-in}
 use Rattle.refusals.proofs.Steps.{passes, passed-all}
 use Rattle.refusals.proofs.ByLists.{counts-decide}
@@ -164,22 +163,23 @@ module _ (job : Job) (ok : Valid job) where
       (subst (λ (l : List ℕ). Holds l i taskKind (getD ws i 0)) (append-nil (recordsBytes taskKind ws)) (run-record taskKind ws [] i h))
 
   back-processors : (n : ℕ) → n ≤ length es → Back (jobBytes job) n (take n es) []
-  unfolding valuesOf recordsTests firstRefusal speedOf
+  unfolding valuesOf recordsTests firstRefusal speedOf maxSpeed
   back-processors zero h = record { speeds = refl; weights = refl; passed = refl }
   back-processors (suc n) h =
       let same : getD es n 0 ≡ getD es n 1 = same-default es n 0 1 h in
       subst (λ (l : List ℕ). Back (jobBytes job) (suc n) l []) (sym (take-suc es n 0 h))
-      (back-processor (back-processors n (omega arith)) (omega (arith, same, ok .speeds-limit n, speed-limit)) (speed-holds n h) refl
+      (back-processor (back-processors n (omega arith)) (omega (arith, same, ok .speeds-limit n)) (speed-holds n h) refl
       (omega (arith, same, ok .speeds-positive n)) (omega (arith, same, ok .speeds-limit n)))
 
   back-tasks : (m : ℕ) → m ≤ length ws → Back (jobBytes job) (length es + m) es (take m ws)
+  unfolding maxWeight
   back-tasks zero h =
       subst (λ (n : ℕ). Back (jobBytes job) n es []) (let e : length es ≡ length es + 0 = omega arith in e)
       (subst (λ (l : List ℕ). Back (jobBytes job) (length es) l []) (take-length es) (back-processors (length es) (omega arith)))
   back-tasks (suc m) h =
       subst (λ (n : ℕ). Back (jobBytes job) n es (take (suc m) ws)) (let e : suc (length es + m) ≡ length es + suc m = omega arith in e)
       (subst (λ (l : List ℕ). Back (jobBytes job) (suc (length es + m)) es l) (sym (take-suc ws m 0 h))
-      (back-task (back-tasks m (omega arith)) (omega (arith, ok .weights-limit m, weight-limit)) (weight-holds m h) (ok .weights-limit m)))
+      (back-task (back-tasks m (omega arith)) (omega (arith, ok .weights-limit m)) (weight-holds m h) (ok .weights-limit m)))
 
   back : Back (jobBytes job) (recordCount (jobBytes job)) es ws
   back =

@@ -19,7 +19,6 @@ use Rattle.jobs.specs.Answers.{readNumber, readProcessors, readTasks, answerOf,
 use Rattle.jobs.specs.declared.JobRead.{JobRead}
 use Rattle.jobs.proofs.Calls.{file-numbered, read-number, read-processors, read-tasks}
 use Rattle.refusals.proofs.Lent.{lent-refused, lent-accepted}
-use Rattle.refusals.proofs.Limits.{tasks-limit, processors-limit}
 use Rattle.jobs.proofs.RoundTrip.{accepted-valid}
 use Rattle.planfile.specs.PlanFile.{planBytes}
 use Rattle.planfile.proofs.Records.{length-plan, plan-take}
@@ -29,10 +28,12 @@ use Rattle.planner.specs.HostCall.{Host, hostTests, hostAnswer, hostByte
 
 -- The local lists of the call are long enough for every job.
 pub separators-fit : {job : Job} → Valid job → processors job < 257
-separators-fit v = omega (arith, v .processors-limit, processors-limit)
+unfolding maxProcessors
+separators-fit v = omega (arith, v .processors-limit)
 
 pub scratch-fits : {job : Job} → Valid job → scratchNeeded job ≤ 10245
-scratch-fits v = omega (arith, v .tasks-limit, tasks-limit)
+unfolding maxTasks
+scratch-fits v = omega (arith, v .tasks-limit)
 
 -- The bytes of the plan, from a list with the plan's separators in front.
 pub best-bytes : (job : Job) (s l rest : List ℕ) {bytes : List ℕ} → length (planOf job) ≡ suc (processors job) → s ≡ planOf job ++ l

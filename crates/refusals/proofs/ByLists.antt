@@ -2,7 +2,7 @@
 -- the limits.
 -- Assumes nothing.
 use Prim.Native.Nat.{ℕ}
-use mathlib.Core.Path.{_≡_, sym, ap, _∙_}
+use mathlib.Core.Path.{_≡_, refl, sym, ap, _∙_}
 use mathlib.Core.Bool.{Bool, true, false, not}
 use mathlib.Core.List.{List, [], _∷_}
 use lib.Dec.{leb}
@@ -11,7 +11,6 @@ use borrow.Author.Tests.{not-true, not-false}
 use Rattle.chain.specs.Limits.{maxTasks, maxWeight, maxProcessors, maxSpeed}
 use Rattle.chain.specs.Job.{jobOf}
 use Rattle.chain.specs.Refusal.{test, between, eachBetween, speedsTest, weightsTest, processorsTest, tasksTest, firstRefusal, jobTests}
-use Rattle.refusals.proofs.Limits.{speed-limit, weight-limit}
 use Rattle.refusals.proofs.Steps.{fails, passes}
 
 module _ (ws es : List ℕ) {m : ℕ} (speed : maxSpeed ≡ m) {b : Bool} (speeds : b ≡ eachBetween 1 m es) where
@@ -41,4 +40,4 @@ module _ (ws es : List ℕ) {m : ℕ} (speed : maxSpeed ≡ m) {b : Bool} (speed
         e ∙ sym (past-speeds ∙ passes 6 (processorsTest es ∷ tasksTest ws ∷ []) (each-weight (not-false c k)))
 
 -- For `search`: at each return the law that its tests meet.
-pub ruleset lists-laws = (speeds-fail, weights-fail, counts-decide, speed-limit, weight-limit)
+pub ruleset lists-laws = (speeds-fail, weights-fail, counts-decide, refl)

@@ -1,7 +1,7 @@
 -- The tests of the two counts, as the code takes them: m and n are the limits.
 -- Assumes nothing.
 use Prim.Native.Nat.{ℕ, _≤_, _<_}
-use mathlib.Core.Path.{_≡_, sym, _∙_}
+use mathlib.Core.Path.{_≡_, refl, sym, _∙_}
 use mathlib.Core.List.{[], _∷_}
 use mathlib.Core.Logic.{_≢_}
 use native.Mathlib.Omega.{arith}
@@ -9,7 +9,6 @@ use lib.Dec.{leb}
 use borrow.Author.Tests.{le-leb, lt-leb}
 use Rattle.chain.specs.Limits.{maxProcessors, maxTasks}
 use Rattle.chain.specs.Refusal.{test, between, firstRefusal}
-use Rattle.refusals.proofs.Limits.{processors-limit, tasks-limit}
 use Rattle.refusals.proofs.Each.{between-low, between-high, between-in}
 use Rattle.refusals.proofs.Steps.{fails, passes, passed-all}
 
@@ -33,4 +32,4 @@ module _ (p t : ℕ) where
           ∙ passes 8 [] (le-leb t maxTasks (omega arith)) ∙ passed-all)
 
 -- For `search`: at each return the law that its tests meet.
-pub ruleset counts-laws = (no-processor, many-processors, many-tasks, counts-pass, processors-limit, tasks-limit)
+pub ruleset counts-laws = (no-processor, many-processors, many-tasks, counts-pass, refl)

@@ -1,4 +1,3 @@
-pub mod Limits
 pub mod Each
 pub mod Steps
 pub mod Counts

@@ -17,7 +17,6 @@ use Rattle.chain.specs.Refusal.{Test, between, methodTest, lengthTest, boundTes
 use Rattle.chain.proofs.Refusals.{numbered-nil, numbered-cons, first-decide, others-decide, job-numbered, call-numbered}
 use Rattle.refusals.specs.Inputs.{separatorsNeeded, scratchLists, scratchNeeded, planNeeded, bytesNeeded, measureInputs, probeInputs, heuristicInputs, planLists, planInputs, writeInputs, writePlanInputs}
 use Rattle.refusals.proofs.Each.{between-low, between-high, between-in}
-use Rattle.refusals.proofs.Limits.{bound-load-limit, bound-speed-limit}
 use Rattle.refusals.proofs.Steps.{fails, passes, passed-all}
 
 -- The method.
@@ -89,7 +88,7 @@ module _ (job : Job) (s : List ℕ) {b : Bool} (is : b ≡ isPartition job (take
 -- For `search`: at each return the law that its tests meet.
 pub ruleset length-laws = (length-short, length-enough)
 
-pub ruleset bound-laws = (load-far, speed-none, speed-far, bound-in, bound-load-limit, bound-speed-limit)
+pub ruleset bound-laws = (load-far, speed-none, speed-far, bound-in, refl)
 
 pub ruleset division-laws = (no-division, division)
 

@@ -3,11 +3,11 @@
 use Prim.Native.Nat.{suc}
 use native.Mathlib.Omega.{arith}
 use lib.ListN.{length, drop}
+use Rattle.chain.specs.Limits.{maxTasks}
 use Rattle.chain.specs.Job.{Job, jobOf}
 use Rattle.chain.specs.Heuristic.{heuristic}
 use Rattle.chain.proofs.Parts.{valid-proper}
 use Rattle.chain.proofs.Heuristic.{heuristic-partition}
-use Rattle.refusals.proofs.Limits.{tasks-limit}
 use Rattle.parts.proofs.Front.{front-partition, front-bottleneck}
 use Rattle.parts.proofs.Laws.{sums-ready, weights-fit}
 use borrow.Author.Needs.{needs}
@@ -18,8 +18,9 @@ slice-aggregate-prefix-sums : tie.Need-slice-aggregate-prefix-sums
 slice-aggregate-prefix-sums c = search needs
 
 prefix-sums-requires : tie.Need-prefix-sums-requires
+unfolding maxTasks
 prefix-sums-requires c κs =
-    let s = c .before .before .before .before in (weights-fit (s .pre .0), omega (arith, s .pre .0 .tasks-limit, tasks-limit))
+    let s = c .before .before .before .before in (weights-fit (s .pre .0), omega (arith, s .pre .0 .tasks-limit))
 
 slice-aggregate-heuristic-in : tie.Need-slice-aggregate-heuristic-in
 slice-aggregate-heuristic-in c = search needs

@@ -1,7 +1,7 @@
 -- `measure_tested` meets its contract.
 -- Assumes nothing.
 use native.Mathlib.Omega.{arith}
-use Rattle.refusals.proofs.Limits.{tasks-limit}
+use Rattle.chain.specs.Limits.{maxTasks}
 use Rattle.parts.proofs.Laws.{sums-ready, weights-fit}
 use borrow.Author.Needs.{needs}
 use Rattle.calls.proofs.measure_tested.Statement.{statement}
@@ -11,8 +11,9 @@ slice-aggregate-prefix-sums : tie.Need-slice-aggregate-prefix-sums
 slice-aggregate-prefix-sums c = search needs
 
 prefix-sums-requires : tie.Need-prefix-sums-requires
+unfolding maxTasks
 prefix-sums-requires c κs =
-    let s = c .before .before .before .before in (weights-fit (s .pre .0), omega (arith, s .pre .0 .tasks-limit, tasks-limit))
+    let s = c .before .before .before .before in (weights-fit (s .pre .0), omega (arith, s .pre .0 .tasks-limit))
 
 slice-aggregate-measure-in : tie.Need-slice-aggregate-measure-in
 slice-aggregate-measure-in c = search needs

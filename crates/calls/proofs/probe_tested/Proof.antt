@@ -2,7 +2,7 @@
 -- Assumes nothing.
 use native.Mathlib.Omega.{arith}
 use borrow.Author.Needs.{needs}
-use Rattle.refusals.proofs.Limits.{tasks-limit, processors-limit}
+use Rattle.chain.specs.Limits.{maxProcessors, maxTasks}
 use Rattle.parts.proofs.Laws.{sums-ready, weights-fit}
 use Rattle.calls.proofs.probe_tested.Statement.{statement}
 use Rattle.calls.proofs.probe_tested.Tie as tie
@@ -11,7 +11,8 @@ slice-aggregate-prefix-sums : tie.Need-slice-aggregate-prefix-sums
 slice-aggregate-prefix-sums c = search needs
 
 prefix-sums-requires : tie.Need-prefix-sums-requires
-prefix-sums-requires c κs = let s = c .before .before .before .before in (weights-fit (s .pre .0), omega (arith, s .pre .0 .tasks-limit, tasks-limit))
+unfolding maxTasks
+prefix-sums-requires c κs = let s = c .before .before .before .before in (weights-fit (s .pre .0), omega (arith, s .pre .0 .tasks-limit))
 
 slice-aggregate-probe-beside : tie.Need-slice-aggregate-probe-beside
 slice-aggregate-probe-beside c = search needs
@@ -20,9 +21,10 @@ slice-aggregate-probe-beside-2 : tie.Need-slice-aggregate-probe-beside-2
 slice-aggregate-probe-beside-2 c = search needs
 
 probe-beside-requires : tie.Need-probe-beside-requires
+unfolding maxProcessors
 probe-beside-requires c κs =
     let s = c .before .before .before .before .before .before .before .before .before in
-    (sums-ready _ (s .pre .0) (c .before .before .before .before .prefix-sums .ensures), (s .pre .1 .0, (omega (arith, s .pre .0 .processors-limit, processors-limit), s .pre .1 .1)))
+    (sums-ready _ (s .pre .0) (c .before .before .before .before .prefix-sums .ensures), (s .pre .1 .0, (omega (arith, s .pre .0 .processors-limit), s .pre .1 .1)))
 
 same-length : tie.Need-same-length
 same-length c = search needs

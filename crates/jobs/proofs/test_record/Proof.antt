@@ -1,5 +1,6 @@
 -- `test_record` meets its contract: 3, then 4 and 5 of a processor, 6 of a task.
 -- Assumes nothing.
+use Rattle.chain.specs.Limits.{maxWeight, maxSpeed}
 use Rattle.jobs.proofs.OneRecord.{record-laws}
 use borrow.Author.Needs.{needs}
 use Rattle.jobs.proofs.test_record.Statement.{statement}
@@ -15,27 +16,35 @@ blank-at-requires : tie.Need-blank-at-requires
 blank-at-requires c κs = search needs
 
 returns : tie.Need-returns
+unfolding maxSpeed maxWeight
 returns c = search record-laws
 
 returns-2 : tie.Need-returns-2
+unfolding maxSpeed maxWeight
 returns-2 c = search record-laws
 
 returns-3 : tie.Need-returns-3
+unfolding maxSpeed maxWeight
 returns-3 c = search record-laws
 
 returns-4 : tie.Need-returns-4
+unfolding maxSpeed maxWeight
 returns-4 c = search record-laws
 
 returns-5 : tie.Need-returns-5
+unfolding maxSpeed maxWeight
 returns-5 c = search record-laws
 
 returns-6 : tie.Need-returns-6
+unfolding maxSpeed maxWeight
 returns-6 c = search record-laws
 
 returns-7 : tie.Need-returns-7
+unfolding maxSpeed maxWeight
 returns-7 c = search record-laws
 
 returns-8 : tie.Need-returns-8
+unfolding maxSpeed maxWeight
 returns-8 c = search record-laws
 
 pub test-record-spec : {M : Type 1} → statement M

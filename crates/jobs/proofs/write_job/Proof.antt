@@ -3,11 +3,11 @@
 use mathlib.Core.Path.{_≡_, sym, _∙_}
 use native.Mathlib.Omega.{arith}
 use lib.ListN.{length}
+use Rattle.chain.specs.Limits.{maxProcessors, maxTasks}
 use Rattle.chain.specs.Job.{jobOf}
 use Rattle.chain.specs.Refusal.{refusal}
 use Rattle.refusals.specs.Inputs.{writeInputs}
 use Rattle.refusals.proofs.Accepted.{Accepted, accepted}
-use Rattle.refusals.proofs.Limits.{tasks-limit, processors-limit}
 use Rattle.jobs.proofs.Writing.{write-refused, write-both}
 use borrow.Author.Needs.{needs}
 use Rattle.jobs.proofs.write_job.Statement.{statement}
@@ -40,9 +40,10 @@ add-t13 : tie.Need-add-t13
 add-t13 c = search needs
 
 mul-t14 : tie.Need-mul-t14
+unfolding maxProcessors maxTasks
 mul-t14 c =
     let a = accepted (zero (c .before .before .before .before .before .before .before .before)) in
-    omega (arith, a .valid .tasks-limit, a .valid .processors-limit, tasks-limit, processors-limit)
+    omega (arith, a .valid .tasks-limit, a .valid .processors-limit)
 
 same-length : tie.Need-same-length
 same-length c = search needs

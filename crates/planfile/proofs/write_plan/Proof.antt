@@ -2,10 +2,10 @@
 -- Assumes nothing.
 use native.Mathlib.Omega.{arith}
 use lib.ListN.{length}
+use Rattle.chain.specs.Limits.{maxProcessors, maxTasks}
 use Rattle.chain.specs.Job.{Job, jobOf}
 use Rattle.refusals.specs.Inputs.{writePlanInputs}
 use Rattle.refusals.proofs.Accepted.{Accepted, passed}
-use Rattle.refusals.proofs.Limits.{tasks-limit, processors-limit}
 use Rattle.parts.proofs.Laws.{sums-ready, weights-fit}
 use Rattle.planfile.proofs.Writing.{write-refused, write-all}
 use borrow.Author.Needs.{needs}
@@ -33,9 +33,10 @@ slice-aggregate-prefix-sums : tie.Need-slice-aggregate-prefix-sums
 slice-aggregate-prefix-sums c = search needs
 
 prefix-sums-requires : tie.Need-prefix-sums-requires
+unfolding maxTasks
 prefix-sums-requires c κs =
     let v = (tested (c .before)) .valid in
-    (weights-fit v, omega (arith, v .tasks-limit, tasks-limit))
+    (weights-fit v, omega (arith, v .tasks-limit))
 
 slice-aggregate-put-plan : tie.Need-slice-aggregate-put-plan
 slice-aggregate-put-plan c = search needs
@@ -50,9 +51,10 @@ put-plan-requires c κs =
     (sums-ready {job = job} _ (t .valid) (sums .prefix-sums .ensures), (t .divisions .0, t .lists .1 .0))
 
 mul-t16 : tie.Need-mul-t16
+unfolding maxProcessors
 mul-t16 c =
     let e = c .before .before .before .before .before .before .before .before in
-    omega (arith, (tested e) .valid .processors-limit, processors-limit)
+    omega (arith, (tested e) .valid .processors-limit)
 
 same-length : tie.Need-same-length
 same-length c = search needs

@@ -2,9 +2,9 @@
 -- Assumes nothing.
 use mathlib.Core.Path.{sym, _∙_}
 use native.Mathlib.Omega.{arith}
+use Rattle.chain.specs.Limits.{maxProcessors, maxTasks}
 use Rattle.chain.specs.Job.{jobOf, Valid}
 use Rattle.chain.proofs.Refusals.{job-accepted}
-use Rattle.refusals.proofs.Limits.{tasks-limit, processors-limit}
 use Rattle.refusals.proofs.Tests.{write-job-laws}
 use borrow.Author.Needs.{needs}
 use Rattle.refusals.proofs.test_write_job.Statement.{statement}
@@ -20,10 +20,11 @@ add-test-length : tie.Need-add-test-length
 add-test-length c = search needs
 
 mul-test-length : tie.Need-mul-test-length
+unfolding maxProcessors maxTasks
 mul-test-length c =
     let a = c .before .before .before .before .args in
     let v : Valid (jobOf (a .speeds .now) (a .weights .now)) = job-accepted .0 (sym (c .before .test-job .ensures) ∙ c .if1 .left) in
-    omega (arith, v .tasks-limit, v .processors-limit, tasks-limit, processors-limit)
+    omega (arith, v .tasks-limit, v .processors-limit)
 
 test-length-requires : tie.Need-test-length-requires
 test-length-requires c κs = search needs

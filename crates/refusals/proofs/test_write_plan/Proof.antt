@@ -2,9 +2,9 @@
 -- Assumes nothing.
 use native.Mathlib.Omega.{arith}
 use lib.ListN.{length}
+use Rattle.chain.specs.Limits.{maxProcessors}
 use Rattle.chain.specs.Job.{jobOf}
 use Rattle.refusals.specs.Inputs.{heuristicInputs}
-use Rattle.refusals.proofs.Limits.{processors-limit}
 use Rattle.refusals.proofs.Accepted.{Accepted, passed}
 use Rattle.refusals.proofs.Tests.{write-plan-laws}
 use borrow.Author.Needs.{needs}
@@ -27,7 +27,8 @@ returns : tie.Need-returns
 returns c = search write-plan-laws
 
 mul-test-length : tie.Need-mul-test-length
-mul-test-length c = omega (arith, (tested c) .valid .processors-limit, processors-limit)
+unfolding maxProcessors
+mul-test-length c = omega (arith, (tested c) .valid .processors-limit)
 
 test-length-requires : tie.Need-test-length-requires
 test-length-requires c κs = search needs

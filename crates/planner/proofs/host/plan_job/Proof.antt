@@ -5,7 +5,7 @@ use native.Mathlib.Omega.{arith}
 use Prim.Native.Nat.{zero}
 use lib.ListN.{length, replicate, length-replicate}
 use lib.Seq.{length-take-le}
-use Rattle.refusals.proofs.Limits.{processors-limit, tasks-limit}
+use Rattle.chain.specs.Limits.{maxProcessors, maxTasks}
 use Rattle.planner.proofs.Reading.{host-few, host-many, host-file, host-stays, read-taken, read-rejected, taken-valid, host-done}
 use borrow.Author.Needs.{needs}
 use Rattle.planner.proofs.host.plan_job.Statement.{statement}
@@ -74,9 +74,10 @@ plan-read-requires c κs =
     taken-valid w
 
 returns-3 : tie.Need-returns-3
+unfolding maxProcessors maxTasks
 returns-3 c =
     let s = c .before .before .before .before .before .before .before .before .before .before .before .before in
-    let f = read-rejected (s .args .job .now) (replicate 256 0) (replicate 2048 0) (omega (arith, processors-limit, length-replicate 256 zero)) (omega (arith, tasks-limit, length-replicate 2048 zero)) (c .before .before .before .before .before .read-job .ensures .0) (c .before .answer .given .1) in
+    let f = read-rejected (s .args .job .now) (replicate 256 0) (replicate 2048 0) (omega (arith, length-replicate 256 zero)) (omega (arith, length-replicate 2048 zero)) (c .before .before .before .before .before .read-job .ensures .0) (c .before .answer .given .1) in
     let e = f .0 ∙ host-file (s .args .job .now) (s .args .method) (length (s .args .plan .now)) (omega arith) (omega arith) (λ x. f .1 (f .0 ∙ x)) in
     (e, host-stays (s .args .job .now) (s .args .method) (s .args .plan .now) e (f .1))
 

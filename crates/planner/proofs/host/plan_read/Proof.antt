@@ -1,15 +1,16 @@
 -- `plan_read` meets its contract: the test of the buffer, then the plan.
 -- Assumes nothing.
 use native.Mathlib.Omega.{arith}
+use Rattle.chain.specs.Limits.{maxProcessors}
 use Rattle.chain.specs.Job.{Job, jobOf}
-use Rattle.refusals.proofs.Limits.{processors-limit}
 use Rattle.planner.proofs.Reading.{host-short, host-full}
 use borrow.Author.Needs.{needs}
 use Rattle.planner.proofs.host.plan_read.Statement.{statement}
 use Rattle.planner.proofs.host.plan_read.Tie as tie
 
 mul-if1 : tie.Need-mul-if1
-mul-if1 c = omega (arith, c .before .before .before .pre .processors-limit, processors-limit)
+unfolding maxProcessors
+mul-if1 c = omega (arith, c .before .before .before .pre .processors-limit)
 
 returns : tie.Need-returns
 returns c =
