@@ -23,12 +23,18 @@ use Rattle.chain.proofs.Ideal.{ideal-least}
 use Rattle.chain.proofs.Best.{least-alike}
 use Rattle.chain.proofs.Demand.{least-bottleneck, method-least, method-allowed, plan-of-best}
 use Rattle.chain.proofs.Ranges.{small-lendable, ideal-lendable, next-bid-small, bottleneck-small}
+use Rattle.refusals.specs.declared.Chosen.the-variants.{Known}
+use Rattle.refusals.specs.Methods.{chosenOf}
 use Rattle.refusals.specs.Inputs.{scratchNeeded}
+use Rattle.refusals.proofs.Methods.{known-passes}
+use Rattle.refusals.proofs.Tests.{plan-known}
 use Rattle.parts.specs.Prefix.{Prefix, prefixes}
 use Rattle.parts.specs.Kept.{KeptFrom}
 use Rattle.dynamic.specs.Rows.{Tabled}
 use Rattle.planner.specs.declared.Figures.{Figures}
-use Rattle.planner.specs.Answers.{planWith, PlanGiven}
+use Rattle.planner.specs.declared.Planned.{Planned}
+use Rattle.planner.specs.declared.Planned.the-variants.{Accepted, Refused}
+use Rattle.planner.specs.Answers.{planRefusal, listsRefusal, planWith, PlanGiven, PlannedBy, PlanAnswer}
 
 -- What the methods end with, where the method is this one.
 module _ {job : Job} {m : Method} {B : Bound} {n : ℕ} where
@@ -115,3 +121,13 @@ summed-kept job xs {ys} e h =
 
     count : length sums ≡ suc (tasks job)
     count = length-tabulate (λ i. sum (take i (job .weights))) (suc (tasks job))
+
+-- What is answered by a method that is known is answered by its number.
+pub planned-known : (job : Job) (m : ℕ) {k : Method} → chosenOf m ≡ Known k → (s t s′ t′ : List ℕ) (r : Planned) → PlannedBy job k s t s′ t′ r
+    → PlanAnswer job m s t s′ t′ r
+unfolding planRefusal listsRefusal
+planned-known job m {k} e s t s′ t′ (Accepted f) (z, g) = (
+  sym (plan-known job m (length s) (length t) (known-passes m e) (sym z)),
+  (k, e, g),
+)
+planned-known job m e s t s′ t′ (Refused n) (z, p, x, y) = (sym (plan-known job m (length s) (length t) (known-passes m e) (sym z)), p, x, y)

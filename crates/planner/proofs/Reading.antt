@@ -2,38 +2,34 @@
 -- Assumes nothing.
 use Prim.Native.Nat.{ℕ, zero, suc, _+_, _-_, _*_, _≤_, _<_}
 use mathlib.Core.Path.{_≡_, refl, sym, ap, ap₂, subst, _∙_}
-use mathlib.Core.Bool.{Bool, cond, _&&_}
+use mathlib.Core.Bool.{Bool, cond}
 use mathlib.Core.List.{List, [], _∷_, _++_}
+use mathlib.Core.Logic.{_≢_}
 use native.Mathlib.Omega.{arith}
 use lib.Dec.{leb}
 use borrow.Author.Tests.{le-leb, lt-leb}
 use lib.ListN.{length, take, drop, length-append}
 use Rattle.chain.specs.Limits.{maxProcessors, maxTasks}
+use Rattle.chain.specs.declared.Method.{Method}
 use Rattle.chain.specs.Job.{Job, jobOf, Valid, processors}
 use Rattle.chain.specs.Plan.{planOf}
-use Rattle.chain.specs.Refusal.{Test, between, methodTest, lengthTest, firstRefusal}
-use Rattle.chain.proofs.Refusals.{first-refusal-append, first-refusal-before}
+use Rattle.chain.specs.Refusal.{Test, methodTest, lengthTest, firstRefusal}
+use Rattle.chain.proofs.Refusals.{numbered-nil, numbered-cons, first-refusal-append, first-refusal-before, first-decide, others-decide}
 use Rattle.jobs.specs.Parse.{speedsOf, weightsOf, jobIn, fileTests, fileRefusal}
 use Rattle.refusals.specs.Answers.{lentAfter}
 use Rattle.jobs.specs.Answers.{readNumber, readProcessors, readTasks, answerOf, readTests, readRefusal, readAnswer, readSpeeds, readWeights}
 use Rattle.jobs.specs.declared.JobRead.{JobRead}
 use Rattle.jobs.proofs.Calls.{file-numbered, read-number, read-processors, read-tasks}
-use Rattle.refusals.proofs.Lent.{lent-refused, lent-accepted}
+use Rattle.refusals.specs.declared.Chosen.the-variants.{Known, Unknown}
+use Rattle.refusals.specs.Methods.{chosenOf}
+use Rattle.refusals.proofs.Methods.{known-passes, unknown-fails}
+use Rattle.refusals.proofs.Lent.{lent-refused, lent-accepted, lent-kept}
 use Rattle.jobs.proofs.RoundTrip.{accepted-valid}
 use Rattle.planfile.specs.PlanFile.{planBytes}
 use Rattle.planfile.proofs.Records.{length-plan, plan-take}
 use Rattle.parts.proofs.Front.{taken}
-use Rattle.refusals.specs.Inputs.{scratchNeeded}
-use Rattle.planner.specs.HostCall.{Host, hostTests, hostAnswer, hostBytes}
-
--- The local lists of the call are long enough for every job.
-pub separators-fit : {job : Job} → Valid job → processors job < 257
-unfolding maxProcessors
-separators-fit v = omega (arith, v .processors-limit)
-
-pub scratch-fits : {job : Job} → Valid job → scratchNeeded job ≤ 10245
-unfolding maxTasks
-scratch-fits v = omega (arith, v .tasks-limit)
+use Rattle.refusals.specs.Inputs.{planNeeded}
+use Rattle.planner.specs.HostCall.{Host, hostFileTests, hostTests, fileAnswer, hostAnswer, bytesAfter, fileWrites}
 
 -- The bytes of the plan, from a list with the plan's separators in front.
 pub best-bytes : (job : Job) (s l rest : List ℕ) {bytes : List ℕ} → length (planOf job) ≡ suc (processors job) → s ≡ planOf job ++ l
@@ -42,61 +38,49 @@ best-bytes job s l rest h e f =
     f ∙ ap (λ (x : List ℕ). x ++ rest) (sym (plan-take job s) ∙ ap (planBytes job) (taken (planOf job) l h e))
 
 -- The buffer's test, and the plan.
-pub host-short : (job : Job) (plan : List ℕ) → length plan < 16 * processors job → Host job plan plan 9
+pub host-short : (job : Job) (plan : List ℕ) → length plan < planNeeded job → Host job plan plan 9
 unfolding firstRefusal lengthTest
 host-short job plan h =
     record {
-      answered = sym (ap (λ (t : Bool). cond t 0 9) (lt-leb (16 * processors job) (length plan) h));
+      answered = sym (ap (λ (t : Bool). cond t 0 9) (lt-leb (planNeeded job) (length plan) h));
       filled = sym (lent-refused (λ x. let z : ⊥ = omega arith in z) (planBytes job (planOf job)) plan);
     }
 
-pub host-full : (job : Job) (plan later : List ℕ) → 16 * processors job ≤ length plan
-    → later ≡ planBytes job (planOf job) ++ drop (16 * processors job) plan → Host job plan later 0
+pub host-full : (job : Job) (plan later : List ℕ) → planNeeded job ≤ length plan
+    → later ≡ planBytes job (planOf job) ++ drop (planNeeded job) plan → Host job plan later 0
 unfolding firstRefusal lengthTest
 host-full job plan later h e =
     record {
-      answered = sym (ap (λ (t : Bool). cond t 0 9) (le-leb (16 * processors job) (length plan) h));
+      answered = sym (ap (λ (t : Bool). cond t 0 9) (le-leb (planNeeded job) (length plan) h));
       filled =
           e ∙ ap (λ (n : ℕ). planBytes job (planOf job) ++ drop n plan) (sym (length-plan job (planOf job)))
           ∙ sym (lent-accepted (planBytes job (planOf job)) plan);
     }
 
-module _ (file : List ℕ) (m lent : ℕ) where
-  buffer : List Test
-  buffer = lengthTest (16 * processors (jobIn file)) lent ∷ []
+module _ (file : List ℕ) (lent : ℕ) where
+  -- The file's refusal, or the buffer's.
+  pub file-refused : fileRefusal file ≢ 0 → fileRefusal file ≡ fileAnswer file lent
+  unfolding fileRefusal fileAnswer hostFileTests
+  file-refused h = first-decide (fileTests file) (lengthTest (planNeeded (jobIn file)) lent ∷ []) refl h
 
-  in-order : hostAnswer file m lent ≡ cond (between 1 3 m) (firstRefusal (fileTests file ++ buffer)) 1
-  unfolding hostAnswer hostTests methodTest firstRefusal buffer
-  in-order = refl
+  pub file-read : fileRefusal file ≡ 0 → {n : ℕ} → n ≡ firstRefusal (lengthTest (planNeeded (jobIn file)) lent ∷ []) → n ≡ fileAnswer file lent
+  unfolding fileRefusal fileAnswer hostFileTests
+  file-read h e = others-decide (fileTests file) (lengthTest (planNeeded (jobIn file)) lent ∷ []) refl (file-numbered file) h e
 
-  pub host-few : m < 1 → 1 ≡ hostAnswer file m lent
-  host-few h = sym (in-order ∙ ap (λ (t : Bool). cond (t && leb m 3) (firstRefusal (fileTests file ++ buffer)) 1) (lt-leb 1 m h))
+  -- The method's refusal, or those.
+  pub host-unknown : (m : ℕ) → chosenOf m ≡ Unknown → 1 ≡ hostAnswer file m lent
+  unfolding hostAnswer hostTests
+  host-unknown m e = first-decide (methodTest m ∷ []) (hostFileTests file lent) (unknown-fails m e) (λ z. omega arith)
 
-  pub host-many : 1 ≤ m → 3 < m → 1 ≡ hostAnswer file m lent
-  host-many h k =
-      sym
-      (in-order ∙ ap (λ (t : Bool). cond (t && leb m 3) (firstRefusal (fileTests file ++ buffer)) 1) (le-leb 1 m h)
-      ∙ ap (λ (t : Bool). cond t (firstRefusal (fileTests file ++ buffer)) 1) (lt-leb m 3 k))
-
-  module _ (low : 1 ≤ m) (high : m ≤ 3) where
-    tested-method : hostAnswer file m lent ≡ firstRefusal (fileTests file ++ buffer)
-    tested-method =
-        in-order ∙ ap (λ (t : Bool). cond (t && leb m 3) (firstRefusal (fileTests file ++ buffer)) 1) (le-leb 1 m low)
-        ∙ ap (λ (t : Bool). cond t (firstRefusal (fileTests file ++ buffer)) 1) (le-leb m 3 high)
-
-    pub host-file : (fileRefusal file ≡ 0 → ⊥) → fileRefusal file ≡ hostAnswer file m lent
-    unfolding fileRefusal
-    host-file h = sym (tested-method ∙ first-refusal-before (fileTests file) buffer h)
-
-    pub host-read : fileRefusal file ≡ 0 → firstRefusal (lengthTest (16 * processors (jobIn file)) lent ∷ []) ≡ hostAnswer file m lent
-    unfolding fileRefusal buffer
-    host-read h = sym (tested-method ∙ first-refusal-append (fileTests file) buffer (file-numbered file) h)
+  pub host-known : (m : ℕ) {k : Method} → chosenOf m ≡ Known k → fileAnswer file lent ≡ hostAnswer file m lent
+  unfolding hostAnswer hostTests fileAnswer methodTest
+  host-known m e =
+      others-decide (methodTest m ∷ []) (hostFileTests file lent) (known-passes m e) (numbered-cons (omega arith) numbered-nil) refl refl
 
 -- A refused call leaves the buffer.
-pub host-stays : (file : List ℕ) (m : ℕ) (plan : List ℕ) {n : ℕ} → n ≡ hostAnswer file m (length plan) → (n ≡ 0 → ⊥) → plan ≡ hostBytes file m plan
-unfolding hostBytes
-host-stays file m plan e h =
-    sym (lent-refused (λ x. h (e ∙ x)) (planBytes (jobIn file) (planOf (jobIn file))) plan)
+pub bytes-stay : (file plan : List ℕ) {n number : ℕ} → n ≡ number → n ≢ 0 → plan ≡ bytesAfter number file plan
+unfolding bytesAfter
+bytes-stay file plan e h = lent-kept (planBytes (jobIn file) (planOf (jobIn file))) plan e h
 
 -- What reading leaves: an accepted file's lists in front.
 pub record Taken (file es ws : List ℕ) (p n : ℕ) : Type 0 where
@@ -192,13 +176,13 @@ module _ {file es ws : List ℕ} {p n : ℕ} (w : Taken file es ws p n) where
   pub taken-valid : Valid (jobOf (take p es) (take n ws))
   taken-valid = subst Valid (sym taken-job) (accepted-valid file (w .accepted))
 
-  pub host-done : {plan later : List ℕ} {k : ℕ} (m : ℕ) → 1 ≤ m → m ≤ 3 → Host (jobOf (take p es) (take n ws)) plan later k
-      → (k ≡ hostAnswer file m (length plan)) × (later ≡ hostBytes file m plan)
-  unfolding hostBytes
-  host-done {plan} {later} {k} m low high h = (is-k, g .filled ∙ ap (λ (j : ℕ). lentAfter j (planBytes (jobIn file) (planOf (jobIn file))) plan) is-k)
+  pub file-done : {plan later : List ℕ} {k : ℕ} → Host (jobOf (take p es) (take n ws)) plan later k
+      → (k ≡ fileAnswer file (length plan)) × (later ≡ fileWrites file plan)
+  unfolding fileWrites bytesAfter
+  file-done {plan} {later} {k} h = (is-k, g .filled ∙ ap (λ (j : ℕ). lentAfter j (planBytes (jobIn file) (planOf (jobIn file))) plan) is-k)
     where
       g : Host (jobIn file) plan later k
       g = subst (λ (job : Job). Host job plan later k) taken-job h
 
-      is-k : k ≡ hostAnswer file m (length plan)
-      is-k = g .answered ∙ host-read file m (length plan) low high (w .accepted)
+      is-k : k ≡ fileAnswer file (length plan)
+      is-k = file-read file (length plan) (w .accepted) (g .answered)

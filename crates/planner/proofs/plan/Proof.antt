@@ -1,24 +1,39 @@
--- `plan` meets its contract: the tests, then the plan.
+-- `plan` meets its contract: the method, then the plan by it.
 -- Assumes nothing.
 use mathlib.Core.Path.{refl, sym, _∙_}
 use native.Mathlib.Omega.{arith}
-use Rattle.refusals.proofs.Accepted.{passed}
+use lib.ListN.{length}
+use Rattle.chain.specs.Job.{jobOf}
+use Rattle.refusals.proofs.Methods.{unknown-fails}
+use Rattle.refusals.proofs.Tests.{plan-unknown}
 use Rattle.planner.specs.Answers.{planRefusal}
+use Rattle.planner.proofs.Laws.{planned-known}
 use borrow.Author.Needs.{needs}
 use Rattle.planner.proofs.plan.Statement.{statement}
 use Rattle.planner.proofs.plan.Tie as tie
+use Rattle.planner.proofs.plan.Reads as reads
+use Rattle.planner.proofs.plan.Lts as lts
+use Rattle.planner.proofs.plan_by.Reads as plan-by-reads
+use Rattle.refusals.proofs.choose.Reads as choose-reads
 
-test-plan-requires : tie.Need-test-plan-requires
-test-plan-requires c κs = search needs
+choose-requires : tie.Need-choose-requires
+choose-requires c κs = search needs
+
+enum-told : tie.Need-enum-told
+enum-told c = search needs
+
+enum-known-chosen : tie.Need-enum-known-chosen
+enum-known-chosen c = search needs
+
+plan-by-requires : tie.Need-plan-by-requires
+plan-by-requires c κs = search needs
 
 returns : tie.Need-returns
 unfolding planRefusal
-returns c = (sym (c .before .test-plan .ensures), omega (arith, c .if1 .taken), refl, refl)
-
-plan-in-requires : tie.Need-plan-in-requires
-plan-in-requires c κs =
-    let e = c .before .before in
-    let t = passed (e .before .test-plan .ensures) (e .if1 .left) in (t .valid, (t .lists .0, t .lists .1 .0))
+returns c =
+    let a = (c .before .before .before .before .before .before .before .args) in
+    let e = unknown-fails (a .method) (sym ((c .before .before .choose) .ensures) ∙ (c .enum-told) .given .1) in
+    (sym (plan-unknown (jobOf (a .speeds .now) (a .weights .now)) (a .method) (length (a .separators .now)) (length (a .scratch .now)) e), omega arith, refl, refl)
 
 same-length : tie.Need-same-length
 same-length c = search needs
@@ -27,12 +42,19 @@ same-length-2 : tie.Need-same-length-2
 same-length-2 c = search needs
 
 returns-2 : tie.Need-returns-2
-unfolding planRefusal
 returns-2 c =
-    let e = c .before .before .before .before .before .before .before in
-    (sym (e .before .test-plan .ensures) ∙ e .if1 .left, c .before .before .before .before .plan-in .ensures .0)
+    let a = (c .before .before .before .before .before .before .before .before .before .before .before .before .before .before .before .args) in
+    planned-known (jobOf (a .speeds .now) (a .weights .now)) (a .method) (sym ((c .before .before .before .before .before .before .before .before .before .before .choose) .ensures) ∙ (c .before .before .before .before .before .before .before .before .chosen) .given .1) _ _ _ _ ((c .before .before .before .before .plan-by) .result) ((c .before .before .before .before .plan-by) .ensures)
 
 pub plan-spec : {M : Type 1} → statement M
 plan-spec =
     tie.close
-    (tie.spec test-plan-requires returns plan-in-requires same-length same-length-2 returns-2)
+    (tie.spec
+    choose-requires
+    enum-told
+    enum-known-chosen
+    plan-by-requires
+    returns
+    same-length
+    same-length-2
+    returns-2)

@@ -11,7 +11,9 @@ use Rattle.planner.proofs.plan_in.Statement.{statement}
 use Rattle.planner.proofs.plan_in.Tie as tie
 
 prefix-sums-requires : tie.Need-prefix-sums-requires
-prefix-sums-requires c κs = search needs
+prefix-sums-requires c κs =
+    let p = (c .before .before .before .before .before .pre) in
+    (weights-fit (p .0), omega (arith, p .1 .1))
 
 run-method-requires : tie.Need-run-method-requires
 run-method-requires c κs =

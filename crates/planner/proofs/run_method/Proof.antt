@@ -1,39 +1,56 @@
 -- `run_method` meets its contract, method by method.
 -- Assumes nothing.
 use Prim.Native.Nat.{suc}
-use native.Mathlib.Omega.{arith}
 use lib.ListN.{length}
 use Rattle.chain.specs.Job.{Job, jobOf}
 use Rattle.chain.specs.Probe.{walk}
 use Rattle.chain.proofs.Ranges.{small-lendable}
+use Rattle.refusals.specs.Inputs.{scratchNeeded}
 use Rattle.parts.proofs.Front.{kept-start, kept-written}
 use Rattle.probe.proofs.Answer.{walk-count}
 use Rattle.dynamic.proofs.Laws.{tabled-ready, tabled-small}
-use Rattle.refusals.specs.Inputs.{scratchNeeded}
 use Rattle.planner.proofs.Laws.{ends-table, ends-bidding, ends-bisection, ended-lendable, tabled-kept}
 use borrow.Author.Needs.{needs}
 use Rattle.planner.proofs.run_method.Statement.{statement}
 use Rattle.planner.proofs.run_method.Tie as tie
+use Rattle.planner.proofs.run_method.Reads as reads
+use Rattle.planner.proofs.run_method.Lts as lts
+use Rattle.bidding.proofs.bidding_in.Reads as bidding-in-reads
+use Rattle.bisection.proofs.bisection_in.Reads as bisection-in-reads
+use Rattle.dynamic.proofs.table_in.Reads as table-in-reads
+
+enum-told : tie.Need-enum-told
+enum-told c = search needs
 
 table-in-requires : tie.Need-table-in-requires
 table-in-requires c κs = search needs
+
+enum-told-2 : tie.Need-enum-told-2
+enum-told-2 c = search needs
+
+bidding-in-requires : tie.Need-bidding-in-requires
+bidding-in-requires c κs = search needs
+
+enum-told-3 : tie.Need-enum-told-3
+enum-told-3 c = search needs
+
+bisection-in-requires : tie.Need-bisection-in-requires
+bisection-in-requires c κs = search needs
 
 same-length : tie.Need-same-length
 same-length c = search needs
 
 returns : tie.Need-returns
 returns c =
-    let s = c .before .before .before .before .before .before .before .before .before in
-    let t = c .before .before .table-in .ensures in (
-      ends-table (s .args .method) (omega arith) t,
+    let a = (c .before .before .before .before .before .before .before .before .before .before .args) in
+    let p = (c .before .before .before .before .before .before .before .before .before .before .pre) in
+    let t = (c .before .before .table-in) .ensures in (
+      ends-table ((c .before .before .before .before .enum-told) .given .1) t,
       (
-        small-lendable (tabled-small t (s .pre .0 .valid)),
-        (kept-start (suc (length (s .args .speeds .now))) (s .args .separators .now), (tabled-ready t (s .pre .0), tabled-kept t)),
+        small-lendable (tabled-small t (p .0 .valid)),
+        (kept-start (suc (length (a .speeds .now))) (a .separators .now), (tabled-ready t (p .0), tabled-kept t)),
       ),
     )
-
-bidding-in-requires : tie.Need-bidding-in-requires
-bidding-in-requires c κs = search needs
 
 same-length-2 : tie.Need-same-length-2
 same-length-2 c = search needs
@@ -43,22 +60,20 @@ same-length-3 c = search needs
 
 returns-2 : tie.Need-returns-2
 returns-2 c =
-    let s = c .before .before .before .before .before .before .before .before .before .before .before in
-    let job : Job = jobOf (s .args .speeds .now) (s .args .weights .now) in
-    let r = c .before .before .bidding-in in
-    let b = kept-start (suc (length (s .args .speeds .now))) (s .args .separators .now) in (
-      ends-bidding (s .args .method) (omega arith) (r .ensures .0),
+    let a = (c .before .before .before .before .before .before .before .before .before .before .before .args) in
+    let p = (c .before .before .before .before .before .before .before .before .before .before .before .pre) in
+    let job : Job = jobOf (a .speeds .now) (a .weights .now) in
+    let r = (c .before .before .bidding-in) in
+    let b = kept-start (suc (length (a .speeds .now))) (a .separators .now) in (
+      ends-bidding ((c .before .before .before .before .before .enum-told2) .given .1) (r .ensures .0),
       (
-        ended-lendable (s .pre .0 .valid) (r .ensures .0),
+        ended-lendable (p .0 .valid) (r .ensures .0),
         (
-          kept-written (walk job (r .result .bound)) _ b (s .pre .1 .0) (walk-count (s .pre .0 .valid) (r .result .bound)) (r .ensures .1),
-          (s .pre .0, kept-start (scratchNeeded job) (s .args .scratch .now)),
+          kept-written (walk job (r .result .bound)) _ b (p .1 .0) (walk-count (p .0 .valid) (r .result .bound)) (r .ensures .1),
+          (p .0, kept-start (scratchNeeded job) (a .scratch .now)),
         ),
       ),
     )
-
-bisection-in-requires : tie.Need-bisection-in-requires
-bisection-in-requires c κs = search needs
 
 same-length-4 : tie.Need-same-length-4
 same-length-4 c = search needs
@@ -68,25 +83,27 @@ same-length-5 c = search needs
 
 returns-3 : tie.Need-returns-3
 returns-3 c =
-    let s = c .before .before .before .before .before .before .before .before .before .before .before in
-    let job : Job = jobOf (s .args .speeds .now) (s .args .weights .now) in
-    let r = c .before .before .bisection-in .ensures in (
-      ends-bisection (s .args .method) (omega arith) (omega arith) (r .0),
-      (r .1 .0, (r .1 .1, (s .pre .0, kept-start (scratchNeeded job) (s .args .scratch .now)))),
-    )
+    let a = (c .before .before .before .before .before .before .before .before .before .before .before .args) in
+    let p = (c .before .before .before .before .before .before .before .before .before .before .before .pre) in
+    let job : Job = jobOf (a .speeds .now) (a .weights .now) in
+    let r = (c .before .before .bisection-in) .ensures in
+    (ends-bisection ((c .before .before .before .before .before .enum-told3) .given .1) (r .0), (r .1 .0, (r .1 .1, (p .0, kept-start (scratchNeeded job) (a .scratch .now)))))
 
 pub run-method-spec : {M : Type 1} → statement M
 run-method-spec =
     tie.close
     (tie.spec
+    enum-told
     table-in-requires
+    enum-told-2
+    bidding-in-requires
+    enum-told-3
+    bisection-in-requires
     same-length
     returns
-    bidding-in-requires
     same-length-2
     same-length-3
     returns-2
-    bisection-in-requires
     same-length-4
     same-length-5
     returns-3)

@@ -1,9 +1,11 @@
 -- `write_best` meets its contract: the plan, then its bytes.
 -- Assumes nothing.
+use native.Mathlib.Omega.{arith}
+use Rattle.chain.specs.Limits.{maxProcessors, maxTasks}
 use Rattle.chain.specs.Job.{Job, jobOf}
 use Rattle.chain.specs.Plan.{planOf}
 use Rattle.parts.proofs.Front.{front-partition}
-use Rattle.planner.proofs.Reading.{separators-fit, scratch-fits, best-bytes}
+use Rattle.planner.proofs.Reading.{best-bytes}
 use borrow.Author.Needs.{needs}
 use Rattle.planner.proofs.host.write_best.Statement.{statement}
 use Rattle.planner.proofs.host.write_best.Tie as tie
@@ -15,7 +17,10 @@ slice-aggregate-plan-in-2 : tie.Need-slice-aggregate-plan-in-2
 slice-aggregate-plan-in-2 c = search needs
 
 plan-in-requires : tie.Need-plan-in-requires
-plan-in-requires c κs = (c .before .before .before .before .before .pre .0, (separators-fit (c .before .before .before .before .before .pre .0), scratch-fits (c .before .before .before .before .before .pre .0)))
+unfolding maxProcessors maxTasks
+plan-in-requires c κs =
+    let v = c .before .before .before .before .before .pre .0 in
+    (v, (omega (arith, v .processors-limit), omega (arith, v .tasks-limit)))
 
 slice-aggregate-put-plan : tie.Need-slice-aggregate-put-plan
 slice-aggregate-put-plan c = search needs

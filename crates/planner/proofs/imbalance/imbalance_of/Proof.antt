@@ -16,7 +16,7 @@ mul-ideal : tie.Need-mul-ideal
 mul-ideal c = record { fits = divisor-fits (c .before .before .before .before .pre .0) (c .before .before .before .before .pre .1 .1) (c .before .before .before .before .pre .1 .2) (c .before .before .before .before .pre .1 .0) refl }
 
 total-requires : tie.Need-total-requires
-total-requires c κs = speeds-add-up (c .before .before .before .before .before .pre .0)
+total-requires c κs = speeds-add-up (c .before .before .before .before .pre .0)
 
 mul-result : tie.Need-mul-result
 mul-result c = record { fits = load-fits (c .before .before .before .before .before .before .pre .0) (c .before .before .before .before .before .before .pre .1 .1) (c .before .before .before .before .before .before .pre .1 .2) (c .before .before .before .before .before .before .pre .1 .0) (c .before .total .ensures) }

@@ -1,0 +1,99 @@
+-- `plan_file` meets its contract: the file, the buffer, the plan.
+-- Assumes nothing.
+use Prim.Native.Nat.{zero}
+use mathlib.Core.Path.{sym, _∙_}
+use native.Mathlib.Omega.{arith}
+use lib.ListN.{length, replicate, length-replicate}
+use lib.Seq.{length-take-le}
+use Rattle.chain.specs.Limits.{maxProcessors, maxTasks}
+use Rattle.planner.specs.HostCall.{fileWrites}
+use Rattle.planner.proofs.Reading.{file-refused, bytes-stay, read-taken, read-rejected, taken-valid, file-done}
+use borrow.Author.Needs.{needs}
+use Rattle.planner.proofs.host.plan_file.Statement.{statement}
+use Rattle.planner.proofs.host.plan_file.Tie as tie
+use Rattle.planner.proofs.host.plan_file.Reads as reads
+use Rattle.planner.proofs.host.plan_file.Lts as lts
+use Rattle.jobs.proofs.read_job.Reads as read-job-reads
+use Rattle.planner.proofs.host.plan_read.Reads as plan-read-reads
+
+slice-aggregate-read-job : tie.Need-slice-aggregate-read-job
+slice-aggregate-read-job c = search needs
+
+slice-aggregate-read-job-2 : tie.Need-slice-aggregate-read-job-2
+slice-aggregate-read-job-2 c = search needs
+
+read-job-requires : tie.Need-read-job-requires
+read-job-requires c κs = search needs
+
+enum-known-answer : tie.Need-enum-known-answer
+enum-known-answer c = search needs
+
+enum-known-answer-2 : tie.Need-enum-known-answer-2
+enum-known-answer-2 c = search needs
+
+array-share-prefix-speeds : tie.Need-array-share-prefix-speeds
+array-share-prefix-speeds c =
+    let r = (c .before .before .before .before .before .read-job) .ensures in
+    let w = read-taken ((c .before .before .before .before .before .before .before .before .before .before .args) .job .now) _ _ (r .0) ((c .before .answer2) .given .1) (r .1 .0) (r .1 .1) in
+    w .few-speeds
+
+slice-aggregate-plan-read : tie.Need-slice-aggregate-plan-read
+slice-aggregate-plan-read c =
+    let r = (c .before .before .before .before .before .before .read-job) .ensures in
+    let w = read-taken ((c .before .before .before .before .before .before .before .before .before .before .before .args) .job .now) _ _ (r .0) ((c .before .before .answer2) .given .1) (r .1 .0) (r .1 .1) in
+    sym (length-take-le _ _ (w .few-speeds))
+
+array-share-prefix-weights : tie.Need-array-share-prefix-weights
+array-share-prefix-weights c =
+    let r = (c .before .before .before .before .before .before .read-job) .ensures in
+    let w = read-taken ((c .before .before .before .before .before .before .before .before .before .before .before .args) .job .now) _ _ (r .0) ((c .before .before .answer2) .given .1) (r .1 .0) (r .1 .1) in
+    w .few-weights
+
+slice-aggregate-plan-read-2 : tie.Need-slice-aggregate-plan-read-2
+slice-aggregate-plan-read-2 c =
+    let r = (c .before .before .before .before .before .before .before .read-job) .ensures in
+    let w = read-taken ((c .before .before .before .before .before .before .before .before .before .before .before .before .args) .job .now) _ _ (r .0) ((c .before .before .before .answer2) .given .1) (r .1 .0) (r .1 .1) in
+    sym (length-take-le _ _ (w .few-weights))
+
+plan-read-requires : tie.Need-plan-read-requires
+plan-read-requires c κs =
+    let r = (c .before .before .before .before .before .before .before .before .read-job) .ensures in
+    let w = read-taken ((c .before .before .before .before .before .before .before .before .before .before .before .before .before .args) .job .now) _ _ (r .0) ((c .before .before .before .before .answer2) .given .1) (r .1 .0) (r .1 .1) in
+    taken-valid w
+
+returns : tie.Need-returns
+unfolding maxProcessors maxTasks fileWrites
+returns c =
+    let a = (c .before .before .before .before .before .before .before .before .before .before .args) in
+    let f =
+    read-rejected (a .job .now) (replicate maxProcessors 0) (replicate maxTasks 0) (omega (arith, length-replicate maxProcessors zero)) (omega (arith, length-replicate maxTasks zero)) ((c .before .before .before .before .before .read-job) .ensures .0)
+    ((c .before .answer) .given .1) in
+    let e = f .0 ∙ file-refused (a .job .now) (length (a .plan .now)) (λ x. f .1 (f .0 ∙ x)) in
+    (e, bytes-stay (a .job .now) (a .plan .now) e (f .1))
+
+same-length : tie.Need-same-length
+same-length c = search needs
+
+returns-2 : tie.Need-returns-2
+returns-2 c =
+    let r = (c .before .before .before .before .before .before .before .before .before .before .before .read-job) .ensures in
+    let w = read-taken ((c .before .before .before .before .before .before .before .before .before .before .before .before .before .before .before .before .args) .job .now) _ _ (r .0) ((c .before .before .before .before .before .before .before .answer2) .given .1) (r .1 .0) (r .1 .1) in
+    file-done w ((c .before .before .plan-read) .ensures)
+
+pub plan-file-spec : {M : Type 1} → statement M
+plan-file-spec =
+    tie.close
+    (tie.spec
+    slice-aggregate-read-job
+    slice-aggregate-read-job-2
+    read-job-requires
+    enum-known-answer
+    enum-known-answer-2
+    array-share-prefix-speeds
+    slice-aggregate-plan-read
+    array-share-prefix-weights
+    slice-aggregate-plan-read-2
+    plan-read-requires
+    returns
+    same-length
+    returns-2)
