@@ -51,11 +51,8 @@ fn put_plan_record(
     let b = separators[p + 1];
     put_field(a, place, plan);
     put_field(b, place + FIELD, plan);
-    put_field(
-        part_load(speeds, weights, sums, a, b),
-        place + 2 * FIELD,
-        plan,
-    );
+    let load = part_load(speeds, weights, sums, a, b);
+    put_field(load, place + 2 * FIELD, plan);
     put_field(speeds[p], place + 3 * FIELD, plan);
 }
 
