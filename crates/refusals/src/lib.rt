@@ -80,10 +80,10 @@ pub fn test_counts(processors: usize, tasks: usize) -> u32
     ensures { λ r. ⌜ r ≡ firstRefusal (test 7 (between 1 maxProcessors processors) ∷ test 8 (leb tasks maxTasks) ∷ []) ⌝ }
 {
     if processors == 0 {
-        return 7;
+        return 7; // none
     }
     if MAX_PROCESSORS < processors {
-        return 7;
+        return 7; // too many
     }
     if MAX_TASKS < tasks {
         return 8;
@@ -177,8 +177,8 @@ fn test_division(speeds: &[u32], weights: &[u32], separators: &[u32]) -> u32
     0
 }
 
-// The tests of the heuristic, and those that every call with a list of separators begins with: 0, or the refusal: 5, 6, 7, 8 or 9,
-// in this order.
+// Inner. The tests of the heuristic, with which every call with a list of separators begins: 0, or the refusal: 5, 6, 7, 8 or 9, in
+// this order.
 pub fn test_heuristic(speeds: &[u32], weights: &[u32], lent: usize) -> u32
     ensures { λ r.
         let job = jobOf (now (speeds .entry)) (now (weights .entry)) in
@@ -191,7 +191,7 @@ pub fn test_heuristic(speeds: &[u32], weights: &[u32], lent: usize) -> u32
     test_length(speeds.len() + 1, lent)
 }
 
-// The tests of measuring: 0, or the refusal: 5, 6, 7, 8, 9 or 11, in this order.
+// Inner. The tests of measuring: 0, or the refusal: 5, 6, 7, 8, 9 or 11, in this order.
 pub fn test_measure(speeds: &[u32], weights: &[u32], separators: &[u32]) -> u32
     ensures { λ r.
         let job = jobOf (now (speeds .entry)) (now (weights .entry)) in
@@ -204,7 +204,7 @@ pub fn test_measure(speeds: &[u32], weights: &[u32], separators: &[u32]) -> u32
     test_division(speeds, weights, separators)
 }
 
-// The tests of a probe: 0, or the refusal: 5, 6, 7, 8, 9 or 10, in this order.
+// Inner. The tests of a probe: 0, or the refusal: 5, 6, 7, 8, 9 or 10, in this order.
 pub fn test_probe(speeds: &[u32], weights: &[u32], bound: Bound, lent: usize) -> u32
     ensures { λ r.
         let job = jobOf (now (speeds .entry)) (now (weights .entry)) in
@@ -218,7 +218,7 @@ pub fn test_probe(speeds: &[u32], weights: &[u32], bound: Bound, lent: usize) ->
     by_bound
 }
 
-// The tests of planning into lists of these lengths, the method apart: 0, or the refusal: 5, 6, 7, 8 or 9, in this order.
+// Inner. The tests of planning into lists of these lengths, the method apart: 0, or the refusal: 5, 6, 7, 8 or 9, in this order.
 pub fn test_plan(speeds: &[u32], weights: &[u32], separators: usize, scratch: usize) -> u32
     ensures { λ r.
         let job = jobOf (now (speeds .entry)) (now (weights .entry)) in
@@ -231,7 +231,7 @@ pub fn test_plan(speeds: &[u32], weights: &[u32], separators: usize, scratch: us
     test_length(SCRATCH_LISTS * (weights.len() + 1), scratch)
 }
 
-// The tests of writing a job file: 0, or the refusal: 5, 6, 7, 8 or 9, in this order.
+// Inner. The tests of writing a job file: 0, or the refusal: 5, 6, 7, 8 or 9, in this order.
 pub fn test_write_job(speeds: &[u32], weights: &[u32], lent: usize) -> u32
     ensures { λ r.
         let job = jobOf (now (speeds .entry)) (now (weights .entry)) in
@@ -244,7 +244,7 @@ pub fn test_write_job(speeds: &[u32], weights: &[u32], lent: usize) -> u32
     test_length(RECORD * (weights.len() + speeds.len()), lent)
 }
 
-// The tests of writing a plan file: 0, or the refusal: 5, 6, 7, 8, 9 or 11, in this order.
+// Inner. The tests of writing a plan file: 0, or the refusal: 5, 6, 7, 8, 9 or 11, in this order.
 pub fn test_write_plan(speeds: &[u32], weights: &[u32], separators: &[u32], lent: usize) -> u32
     ensures { λ r.
         let job = jobOf (now (speeds .entry)) (now (weights .entry)) in

@@ -142,10 +142,14 @@ pub extern "C" fn exported_read_job(
     weights: &mut [u32],
     answer: &mut [u64],
 ) -> u32
-    ensures number { λ r. ⌜ r ≡ readNumber (readAnswer (now (file .entry)) (length (now (speeds .entry))) (length (now (weights .entry)))) ⌝ }
+    ensures number { λ r.
+        let answered = readAnswer (now (file .entry)) (length (now (speeds .entry))) (length (now (weights .entry))) in
+        ⌜ r ≡ readNumber answered ⌝ }
     ensures speeds { λ _. ⌜ now (speeds .exit) ≡ readSpeeds (now (file .entry)) (now (speeds .entry)) (now (weights .entry)) ⌝ }
     ensures weights { λ _. ⌜ now (weights .exit) ≡ readWeights (now (file .entry)) (now (speeds .entry)) (now (weights .entry)) ⌝ }
-    ensures answer { λ _. ⌜ now (answer .exit) ≡ readPut (readAnswer (now (file .entry)) (length (now (speeds .entry))) (length (now (weights .entry)))) (now (answer .entry)) ⌝ }
+    ensures answer { λ _.
+        let answered = readAnswer (now (file .entry)) (length (now (speeds .entry))) (length (now (weights .entry))) in
+        ⌜ now (answer .exit) ≡ readPut answered (now (answer .entry)) ⌝ }
 {
     let read = read_job(file, speeds, weights);
     put_read(answer, read)
@@ -210,7 +214,8 @@ pub extern "C" fn exported_probe(
         ⌜ now (separators .exit) ≡ probeWrites job (record { load = load; speed = speed }) (now (separators .entry)) ⌝ }
     ensures answer { λ _.
         let job = jobOf (now (speeds .entry)) (now (weights .entry)) in
-        ⌜ now (answer .exit) ≡ probedPut (probeAnswer job (record { load = load; speed = speed }) (now (separators .entry))) (now (answer .entry)) ⌝ }
+        let answered = probeAnswer job (record { load = load; speed = speed }) (now (separators .entry)) in
+        ⌜ now (answer .exit) ≡ probedPut answered (now (answer .entry)) ⌝ }
 {
     let probed = probe(speeds, weights, Bound { load, speed }, separators);
     put_probed(answer, probed)
@@ -250,7 +255,10 @@ pub extern "C" fn exported_plan(
 ) -> u32
     ensures { λ r.
         let job = jobOf (now (speeds .entry)) (now (weights .entry)) in
-        ⌜ ((a : Planned) × ((r ≡ plannedNumber a) × (now (answer .exit) ≡ plannedPut a (now (answer .entry))) × PlanAnswer job method (now (separators .entry)) (now (scratch .entry)) (now (separators .exit)) (now (scratch .exit)) a)) ⌝ }
+        ⌜ ((a : Planned)
+        × ((r ≡ plannedNumber a)
+        × (now (answer .exit) ≡ plannedPut a (now (answer .entry)))
+        × PlanAnswer job method (now (separators .entry)) (now (scratch .entry)) (now (separators .exit)) (now (scratch .exit)) a)) ⌝ }
 {
     let planned = plan(method, speeds, weights, separators, scratch);
     put_planned(answer, planned)
@@ -273,7 +281,8 @@ pub extern "C" fn exported_write_plan(
         ⌜ now (plan .exit) ≡ writePlanBytes job (now (separators .entry)) (now (plan .entry)) ⌝ }
     ensures answer { λ _.
         let job = jobOf (now (speeds .entry)) (now (weights .entry)) in
-        ⌜ now (answer .exit) ≡ writtenPut (writePlanAnswer job (now (separators .entry)) (length (now (plan .entry)))) (now (answer .entry)) ⌝ }
+        let answered = writePlanAnswer job (now (separators .entry)) (length (now (plan .entry))) in
+        ⌜ now (answer .exit) ≡ writtenPut answered (now (answer .entry)) ⌝ }
 {
     let written = write_plan(speeds, weights, separators, plan);
     put_written(answer, written)

@@ -11,12 +11,6 @@ use borrow.Author.Needs.{needs}
 use Rattle.jobs.proofs.put_record.Statement.{statement}
 use Rattle.jobs.proofs.put_record.Tie as tie
 
--- The file after the stores and the field.
-put : tie.Need-returns
-put c =
-    let s = c .before .before .before .before .before in
-    record-stores (s .args .file .now) (8 * s .args .i) (s .args .kind) (s .args .value) (s .pre) (c .before .before .put-field .ensures)
-
 mul-at : tie.Need-mul-at
 mul-at c = search needs
 
@@ -46,6 +40,12 @@ add-put-field c = search needs
 
 put-field-requires : tie.Need-put-field-requires
 put-field-requires c κs = simp length-set (omega arith)
+
+-- The file after the stores and the field.
+put : tie.Need-returns
+put c =
+    let s = c .before .before .before .before .before in
+    record-stores (s .args .file .now) (8 * s .args .i) (s .args .kind) (s .args .value) (s .pre) (c .before .before .put-field .ensures)
 
 same-length : tie.Need-same-length
 same-length c =
