@@ -12,16 +12,15 @@ use jobs::read_job;
 use parts::wide;
 use planner::Figures;
 use planner::Planned;
+use planner::SCRATCH;
+use planner::SEPARATORS;
 use planner::plan;
 use refusals::MAX_PROCESSORS;
 use refusals::MAX_TASKS;
+use refusals::RECORD;
 
 // One record more than the longest job allowed: a longer file is judged by that much.
-const FILE_BYTES: usize = 8 * (MAX_PROCESSORS + MAX_TASKS + 1);
-
-const SEPARATORS: usize = MAX_PROCESSORS + 1;
-
-const SCRATCH: usize = 5 * (MAX_TASKS + 1);
+const FILE_BYTES: usize = RECORD * (MAX_PROCESSORS + MAX_TASKS + 1);
 
 // The most bytes that each takes. The contracts have the same sizes, with what they are made of, from specs/Widths.antt.
 const DIGITS: usize = 20;

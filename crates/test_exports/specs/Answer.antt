@@ -5,6 +5,7 @@ use mathlib.Core.List.{List}
 use lib.ListN.{set}
 use Rattle.bound.specs.declared.Bound.{Bound}
 use Rattle.refusals.specs.declared.Written.{Written}
+use Rattle.chain.specs.declared.Outcome.{Outcome}
 use Rattle.jobs.specs.declared.JobRead.{JobRead}
 use Rattle.calls.specs.declared.Measured.{Measured}
 use Rattle.calls.specs.declared.Probed.{Probed}
@@ -30,9 +31,12 @@ measuredPut (Measured.Bottleneck B) xs = boundPut xs 0 1 B
 measuredPut (Measured.Refused number) xs = xs
 
 -- 1 for a fit; or 0 and the next bid's load, speed.
+abbrev pub outcomePut : Outcome → List ℕ → List ℕ
+outcomePut Outcome.Fits xs = set xs 0 1
+outcomePut (Outcome.Fails B) xs = boundPut (set xs 0 0) 1 2 B
+
 abbrev pub probedPut : Probed → List ℕ → List ℕ
-probedPut Probed.Fits xs = set xs 0 1
-probedPut (Probed.Fails B) xs = boundPut (set xs 0 0) 1 2 B
+probedPut (Probed.Answered outcome) xs = outcomePut outcome xs
 probedPut (Probed.Refused number) xs = xs
 
 -- Count, allowance, the bottleneck's load, speed, imbalance.

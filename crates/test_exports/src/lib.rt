@@ -12,13 +12,14 @@ ghost use Rattle.calls.specs.Answers.{probedNumber, probeAnswer, probeWrites};
 ghost use Rattle.planfile.specs.Answers.{writePlanAnswer, writePlanBytes};
 ghost use Rattle.planner.specs.Answers.{plannedNumber, PlanAnswer};
 ghost use Rattle.planner.specs.declared.Planned.{Planned};
-ghost use Rattle.test_exports.specs.Answer.{boundPut, readPut, writtenPut, measuredPut, probedPut, plannedPut};
+ghost use Rattle.test_exports.specs.Answer.{boundPut, readPut, writtenPut, measuredPut, outcomePut, probedPut, plannedPut};
 use bound::Bound;
 use calls::Measured;
 use calls::Probed;
 use calls::heuristic;
 use calls::measure;
 use calls::probe;
+use chain::Outcome;
 use jobs::JobRead;
 use jobs::read_job;
 use jobs::write_job;
@@ -75,6 +76,21 @@ fn put_written(answer: &mut [u64], written: Written) -> u32
     }
 }
 
+// Inner. The outcome of a probe.
+fn put_outcome(answer: &mut [u64], outcome: Outcome)
+    ensures { λ _. ⌜ now (answer .exit) ≡ outcomePut outcome (now (answer .entry)) ⌝ }
+{
+    match outcome {
+        Outcome::Fits => {
+            put(answer, 0, 1);
+        }
+        Outcome::Fails(next) => {
+            put(answer, 0, 0);
+            put_bound(answer, 1, 2, next);
+        }
+    }
+}
+
 // Inner. What a probe answers.
 fn put_probed(answer: &mut [u64], probed: Probed) -> u32
     ensures number { λ r. ⌜ r ≡ probedNumber probed ⌝ }
@@ -82,13 +98,8 @@ fn put_probed(answer: &mut [u64], probed: Probed) -> u32
 {
     match probed {
         Probed::Refused(number) => number,
-        Probed::Fits => {
-            put(answer, 0, 1);
-            0
-        }
-        Probed::Fails(next) => {
-            put(answer, 0, 0);
-            put_bound(answer, 1, 2, next);
+        Probed::Answered(outcome) => {
+            put_outcome(answer, outcome);
             0
         }
     }

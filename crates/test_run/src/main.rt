@@ -3,7 +3,10 @@
 use bound::Bound;
 use calls::Measured;
 use calls::Probed;
+use chain::Outcome;
 use jobs::JobRead;
+use refusals::MAX_PROCESSORS;
+use refusals::MAX_TASKS;
 
 fn say(n: u64) {
     io::write_all(1, b" ");
@@ -51,14 +54,20 @@ fn say_measured(answer: Measured) {
 }
 
 // A fit is 0 1; a failure is 0, the next bid's load and its speed.
-fn say_probed(answer: Probed) {
-    match answer {
-        Probed::Refused(number) => say_entry(number),
-        Probed::Fits => {
+fn say_outcome(outcome: Outcome) {
+    match outcome {
+        Outcome::Fits => {
             say(0);
             say(1);
         }
-        Probed::Fails(next) => say_bound(next),
+        Outcome::Fails(next) => say_bound(next),
+    }
+}
+
+fn say_probed(answer: Probed) {
+    match answer {
+        Probed::Refused(number) => say_entry(number),
+        Probed::Answered(outcome) => say_outcome(outcome),
     }
 }
 
@@ -116,10 +125,10 @@ fn two_records() {
 
 // With no separators, so that counts that pass give 9.
 fn counts() {
-    measure(11, &[1; 256], &[], &[]); // 256 machines pass
-    measure(12, &[1; 257], &[], &[]); // 257 machines: 7
-    measure(13, &[1], &[0; 2048], &[]); // 2,048 tiles pass
-    measure(14, &[1], &[0; 2049], &[]); // 2,049 tiles: 8
+    measure(11, &[1; MAX_PROCESSORS], &[], &[]); // 256 machines pass
+    measure(12, &[1; MAX_PROCESSORS + 1], &[], &[]); // 257 machines: 7
+    measure(13, &[1], &[0; MAX_TASKS], &[]); // 2,048 tiles pass
+    measure(14, &[1], &[0; MAX_TASKS + 1], &[]); // 2,049 tiles: 8
 }
 
 fn calls_on_a() {

@@ -7,10 +7,6 @@ use Rattle.planner.specs.Answers.{listsRefusal}
 use borrow.Author.Needs.{needs}
 use Rattle.planner.proofs.plan_by.Statement.{statement}
 use Rattle.planner.proofs.plan_by.Tie as tie
-use Rattle.planner.proofs.plan_by.Reads as reads
-use Rattle.planner.proofs.plan_by.Lts as lts
-use Rattle.planner.proofs.plan_in.Reads as plan-in-reads
-use Rattle.refusals.proofs.test_plan.Reads as test-plan-reads
 
 test-plan-requires : tie.Need-test-plan-requires
 test-plan-requires c κs = search needs

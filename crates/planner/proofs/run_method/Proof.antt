@@ -13,11 +13,6 @@ use Rattle.planner.proofs.Laws.{ends-table, ends-bidding, ends-bisectio
 use borrow.Author.Needs.{needs}
 use Rattle.planner.proofs.run_method.Statement.{statement}
 use Rattle.planner.proofs.run_method.Tie as tie
-use Rattle.planner.proofs.run_method.Reads as reads
-use Rattle.planner.proofs.run_method.Lts as lts
-use Rattle.bidding.proofs.bidding_in.Reads as bidding-in-reads
-use Rattle.bisection.proofs.bisection_in.Reads as bisection-in-reads
-use Rattle.dynamic.proofs.table_in.Reads as table-in-reads
 
 enum-told : tie.Need-enum-told
 enum-told c = search needs

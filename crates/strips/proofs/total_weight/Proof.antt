@@ -5,7 +5,7 @@ use mathlib.Core.Path.{sym, subst}
 use native.Mathlib.Omega.{arith}
 use lib.ListN.{length}
 use Rattle.chain.specs.Limits.{maxTasks}
-use Rattle.figures.proofs.Laws.{Total, total-start, total-next, total-end}
+use Rattle.parts.proofs.Laws.{Total, total-start, total-next, total-end}
 use Rattle.strips.proofs.total_weight.Statement.{statement}
 use Rattle.strips.proofs.total_weight.Tie as tie
 

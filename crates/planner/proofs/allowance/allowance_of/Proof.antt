@@ -11,9 +11,6 @@ use Rattle.planner.proofs.Allowances.{allowance-table, allowance-biddin
 use borrow.Author.Needs.{needs}
 use Rattle.planner.proofs.allowance.allowance_of.Statement.{statement}
 use Rattle.planner.proofs.allowance.allowance_of.Tie as tie
-use Rattle.planner.proofs.allowance.allowance_of.Reads as reads
-use Rattle.planner.proofs.allowance.allowance_of.Lts as lts
-use Rattle.planner.proofs.allowance.difference_of.Reads as difference-of-reads
 
 sub-most : tie.Need-sub-most
 sub-most c = search needs

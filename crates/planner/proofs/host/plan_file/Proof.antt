@@ -11,10 +11,6 @@ use Rattle.planner.proofs.Reading.{file-refused, bytes-stay, read-taken
 use borrow.Author.Needs.{needs}
 use Rattle.planner.proofs.host.plan_file.Statement.{statement}
 use Rattle.planner.proofs.host.plan_file.Tie as tie
-use Rattle.planner.proofs.host.plan_file.Reads as reads
-use Rattle.planner.proofs.host.plan_file.Lts as lts
-use Rattle.jobs.proofs.read_job.Reads as read-job-reads
-use Rattle.planner.proofs.host.plan_read.Reads as plan-read-reads
 
 slice-aggregate-read-job : tie.Need-slice-aggregate-read-job
 slice-aggregate-read-job c = search needs

@@ -9,10 +9,6 @@ use Rattle.planner.proofs.Reading.{host-unknown, host-known, bytes-stay
 use borrow.Author.Needs.{needs}
 use Rattle.planner.proofs.host.plan_job.Statement.{statement}
 use Rattle.planner.proofs.host.plan_job.Tie as tie
-use Rattle.planner.proofs.host.plan_job.Reads as reads
-use Rattle.planner.proofs.host.plan_job.Lts as lts
-use Rattle.planner.proofs.host.plan_file.Reads as plan-file-reads
-use Rattle.refusals.proofs.choose.Reads as choose-reads
 
 choose-requires : tie.Need-choose-requires
 choose-requires c κs = search needs
