@@ -26,6 +26,10 @@ Inv-loop speeds weights sums separators₀ bound₀ point₀ failures₀ separat
 abbrev μ-loop : tie.MeasureT-loop
 μ-loop speeds weights sums separators₀ bound₀ point₀ failures₀ separators bound point failures = allowance Bidding (jobOf speeds weights) - failures
 
+-- The job that the lists make.
+abbrev job-at : tie.Start Inv-loop μ-loop → Job
+job-at s = jobOf (s .args .speeds .now) (s .args .weights .now)
+
 ideal-of-requires : tie.Need-ideal-of-requires Inv-loop μ-loop
 ideal-of-requires c κs = search needs
 
@@ -35,7 +39,7 @@ loop-holds c =
       bidden-start (s .pre .0 .valid) (c .ideal-of .ensures),
       (
         kept-start (suc (length (s .args .speeds .now))) (s .args .separators .now),
-        reached-first (jobOf (s .args .speeds .now) (s .args .weights .now)) (c .ideal-of .result) (s .args .separators .now),
+        reached-first (job-at s) (c .ideal-of .result) (s .args .separators .now),
       ),
     )
 
@@ -58,7 +62,7 @@ returns : tie.Need-returns Inv-loop μ-loop
 returns c =
     let l = c .before .before .before .before .before .before in
     let s = c .before .before .before .before .before .before .before .before .before .before .before .before in
-    let job : Job = jobOf (s .args .speeds .now) (s .args .weights .now) in
+    let job : Job = job-at s in
     let y = c .before .before .before .before .walk-from .ensures in (
       bidden-end (l .loop .inv .0) (fits-outcome job (l .loop .bound) (sym (y .0) ∙ c .enum-told .given .1)),
       kept-is (walk job (l .loop .bound)) (l .loop .inv .1 .0) (y .1),
@@ -71,7 +75,7 @@ parting-requires : tie.Need-parting-requires Inv-loop μ-loop
 parting-requires c κs =
     let l = c .before .before .before .before .before .before .before .before in
     let s = c .before .before .before .before .before .before .before .before .before .before .before .before .before .before in
-    let job : Job = jobOf (s .args .speeds .now) (s .args .weights .now) in
+    let job : Job = job-at s in
     let y = c .before .before .before .before .before .before .walk-from .ensures in
     let f = fails-outcome job (l .loop .bound) (sym (y .0) ∙ c .before .before .answer .given .1) in
     (s .pre .0, failed-written (l .loop .separators) (s .pre .0 .valid) (l .loop .inv .0 .lendable) (f .0) (f .1) (omega (arith, l .loop .inv .1 .0 .same, s .pre .1)) (y .1))
@@ -83,7 +87,7 @@ loop-less : tie.Need-loop-less Inv-loop μ-loop
 loop-less c =
     let l = c .before .before .before .before .before .before .before .before .before in
     let s = c .before .before .before .before .before .before .before .before .before .before .before .before .before .before .before in
-    let job : Job = jobOf (s .args .speeds .now) (s .args .weights .now) in
+    let job : Job = job-at s in
     let f = fails-outcome job (l .loop .bound) (sym (c .before .before .before .before .before .before .before .walk-from .ensures .0) ∙ c .before .before .before .answer .given .1) in
     omega (arith, bidden-room (s .pre .0 .valid) (l .loop .inv .0) (f .0))
 
@@ -91,7 +95,7 @@ loop-again : tie.Need-loop-again Inv-loop μ-loop
 loop-again c =
     let l = c .before .before .before .before .before .before .before .before .before in
     let s = c .before .before .before .before .before .before .before .before .before .before .before .before .before .before .before in
-    let job : Job = jobOf (s .args .speeds .now) (s .args .weights .now) in
+    let job : Job = job-at s in
     let y = c .before .before .before .before .before .before .before .walk-from .ensures in
     let f = fails-outcome job (l .loop .bound) (sym (y .0) ∙ c .before .before .before .answer .given .1) in (
       bidden-next (c .before .before .before .answer .given .0 .0) (s .pre .0 .valid) (l .loop .inv .0) (f .0) (f .1),

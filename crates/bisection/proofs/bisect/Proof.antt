@@ -26,13 +26,17 @@ Inv-loop speeds weights sums separators₀ low₀ high₀ rounds₀ separators l
 abbrev μ-loop : tie.MeasureT-loop
 μ-loop speeds weights sums separators₀ low₀ high₀ rounds₀ separators low high rounds = digits (difference (jobOf speeds weights)) - rounds
 
+-- The job that the lists make.
+abbrev job-at : tie.Start Inv-loop μ-loop → Job
+job-at s = jobOf (s .args .speeds .now) (s .args .weights .now)
+
 heuristic-in-requires : tie.Need-heuristic-in-requires Inv-loop μ-loop
 heuristic-in-requires c κs = search needs
 
 measure-in-requires : tie.Need-measure-in-requires Inv-loop μ-loop
 measure-in-requires c κs =
     let s = c .before .before .before .before .before .before .before .before .before in
-    let job : Job = jobOf (s .args .speeds .now) (s .args .weights .now) in (
+    let job : Job = job-at s in (
       s .pre .0,
       front-partition (heuristic job) (drop (suc (length (s .args .speeds .now))) (s .args .separators .now)) (heuristic-partition (valid-proper (s .pre .0 .valid)))
           (c .before .before .before .heuristic-in .ensures),
@@ -41,7 +45,7 @@ measure-in-requires c κs =
 loop-holds : tie.Need-loop-holds Inv-loop μ-loop
 loop-holds c =
     let s = c .before .before .before .before .before .before .before .before .before .before in
-    let job : Job = jobOf (s .args .speeds .now) (s .args .weights .now) in (
+    let job : Job = job-at s in (
       halved-start (s .pre .0 .valid) (s .pre .1 .1 .failed) (s .pre .1 .1 .bids)
           (front-bottleneck (heuristic job) (drop (suc (length (s .args .speeds .now))) (s .args .separators .now))
           (heuristic-partition (valid-proper (s .pre .0 .valid))) (c .before .before .before .before .heuristic-in .ensures) (c .measure-in .ensures .1)),
@@ -83,7 +87,7 @@ add-t20 c = record { fits = rounds-fit (c .before .before .loop .rounds) (c .bef
 same-length : tie.Need-same-length Inv-loop μ-loop
 same-length c =
     let s = c .before .before .before .before .before .before .before .before .before .before .before .before .before in
-    let job : Job = jobOf (s .args .speeds .now) (s .args .weights .now) in
+    let job : Job = job-at s in
     kept-trans
     (kept-written (heuristic job) _ (kept-start (suc (length (s .args .speeds .now))) (s .args .separators .now)) (s .pre .1 .0)
     (heuristic-partition (valid-proper (s .pre .0 .valid)) .count) (c .before .before .before .before .before .before .before .heuristic-in .ensures)) (c .before .before .loop .inv .1)
@@ -92,7 +96,7 @@ same-length c =
 returns : tie.Need-returns Inv-loop μ-loop
 returns c =
     let s = c .before .before .before .before .before .before .before .before .before .before .before .before .before in
-    let job : Job = jobOf (s .args .speeds .now) (s .args .weights .now) in
+    let job : Job = job-at s in
     let l = c .before .before .loop in (
       halved-end (s .pre .0 .valid) (l .inv .0) (sym (c .before .at-most .ensures) ∙ c .if1 .taken),
       (

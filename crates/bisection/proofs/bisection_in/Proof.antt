@@ -18,6 +18,10 @@ use borrow.Author.Needs.{needs}
 use Rattle.bisection.proofs.bisection_in.Statement.{statement}
 use Rattle.bisection.proofs.bisection_in.Tie as tie
 
+-- The job that the lists make.
+abbrev job-at : tie.Start → Job
+job-at s = jobOf (s .args .speeds .now) (s .args .weights .now)
+
 ideal-of-requires : tie.Need-ideal-of-requires
 ideal-of-requires c κs = search needs
 
@@ -35,7 +39,7 @@ enum-known-answer c = search needs
 bisect-requires : tie.Need-bisect-requires
 bisect-requires c κs =
     let s = c .before .before .before .before .before .before .before .before .before .before .before .before .before in
-    let job : Job = jobOf (s .args .speeds .now) (s .args .weights .now) in
+    let job : Job = job-at s in
     let v = s .pre .0 .valid in
     let b = kept-start (suc (length (s .args .speeds .now))) (s .args .separators .now) in
     let I : Bound = c .before .before .before .before .before .before .before .before .ideal-of .result in
@@ -57,7 +61,7 @@ same-length c = search needs
 returns : tie.Need-returns
 returns c =
     let s = c .before .before .before .before .before .before .before .before .before .before .before in
-    let job : Job = jobOf (s .args .speeds .now) (s .args .weights .now) in
+    let job : Job = job-at s in
     let v = s .pre .0 .valid in
     let b = kept-start (suc (length (s .args .speeds .now))) (s .args .separators .now) in
     let I : Bound = c .before .before .before .before .before .before .ideal-of .result in
@@ -72,7 +76,7 @@ same-length-2 c = search needs
 returns-2 : tie.Need-returns-2
 returns-2 c =
     let s = c .before .before .before .before .before .before .before .before .before .before .before .before .before .before .before .before in
-    let job : Job = jobOf (s .args .speeds .now) (s .args .weights .now) in
+    let job : Job = job-at s in
     let v = s .pre .0 .valid in
     let b = kept-start (suc (length (s .args .speeds .now))) (s .args .separators .now) in
     let I : Bound = c .before .before .before .before .before .before .before .before .before .before .before .ideal-of .result in

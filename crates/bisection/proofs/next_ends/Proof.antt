@@ -18,6 +18,10 @@ use borrow.Author.Needs.{needs}
 use Rattle.bisection.proofs.next_ends.Statement.{statement}
 use Rattle.bisection.proofs.next_ends.Tie as tie
 
+-- The job that the lists make.
+abbrev job-at : tie.Start → Job
+job-at s = jobOf (s .args .speeds .now) (s .args .weights .now)
+
 midpoint-requires : tie.Need-midpoint-requires
 midpoint-requires c κs = middle-products (c .before .before .before .before .pre .1 .1 .0) (c .before .before .before .before .pre .1 .1 .1)
 
@@ -32,7 +36,7 @@ enum-told c = search needs
 measure-in-requires : tie.Need-measure-in-requires
 measure-in-requires c κs =
     let s = c .before .before .before .before .before .before .before .before .before .before .before .before in
-    let job : Job = jobOf (s .args .speeds .now) (s .args .weights .now) in
+    let job : Job = job-at s in
     let M : Bound = c .before .before .before .before .before .before .before .midpoint .result in
     let y = c .before .before .before .before .before .probe-in .ensures in
     let f = fits-outcome job M (sym (y .0) ∙ c .before .enum-told .given .1) in (
@@ -50,7 +54,7 @@ same-length c = search needs
 returns : tie.Need-returns
 returns c =
     let s = c .before .before .before .before .before .before .before .before .before .before .before .before .before in
-    let job : Job = jobOf (s .args .speeds .now) (s .args .weights .now) in
+    let job : Job = job-at s in
     let M : Bound = c .before .before .before .before .before .before .before .before .midpoint .result in
     let l : List ℕ = drop (suc (length (s .args .speeds .now))) (s .args .separators .now) in
     let y = c .before .before .before .before .before .before .probe-in .ensures in
@@ -67,7 +71,7 @@ same-length-2 c = search needs
 returns-2 : tie.Need-returns-2
 returns-2 c =
     let s = c .before .before .before .before .before .before .before .before .before .before .before .before in
-    let job : Job = jobOf (s .args .speeds .now) (s .args .weights .now) in
+    let job : Job = job-at s in
     let M : Bound = c .before .before .before .before .before .before .before .midpoint .result in
     let y = c .before .before .before .before .before .probe-in .ensures in
     let f = fails-outcome job M (sym (y .0) ∙ c .before .answer .given .1) in (

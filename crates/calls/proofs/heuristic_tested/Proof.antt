@@ -14,6 +14,10 @@ use borrow.Author.Needs.{needs}
 use Rattle.calls.proofs.heuristic_tested.Statement.{statement}
 use Rattle.calls.proofs.heuristic_tested.Tie as tie
 
+-- The job that the lists make.
+abbrev job-at : tie.Start → Job
+job-at s = jobOf (s .args .speeds .now) (s .args .weights .now)
+
 slice-aggregate-prefix-sums : tie.Need-slice-aggregate-prefix-sums
 slice-aggregate-prefix-sums c = search needs
 
@@ -35,7 +39,7 @@ slice-aggregate-measure-in c = search needs
 measure-in-requires : tie.Need-measure-in-requires
 measure-in-requires c κs =
     let s = c .before .before .before .before .before .before .before .before .before .before .before .before .before in
-    let job : Job = jobOf (s .args .speeds .now) (s .args .weights .now) in (
+    let job : Job = job-at s in (
       sums-ready _ (s .pre .0) (c .before .before .before .before .before .before .before .before .prefix-sums .ensures),
       front-partition (heuristic job) (drop (suc (length (s .args .speeds .now))) (s .args .separators .now)) (heuristic-partition (valid-proper (s .pre .0)))
           (c .before .before .before .before .heuristic-in .ensures),
@@ -47,7 +51,7 @@ same-length c = search needs
 returns : tie.Need-returns
 returns c =
     let s = c .before .before .before .before .before .before .before .before .before .before .before .before .before .before in
-    let job : Job = jobOf (s .args .speeds .now) (s .args .weights .now) in
+    let job : Job = job-at s in
     let written = c .before .before .before .before .before .heuristic-in .ensures in (
       front-bottleneck (heuristic job) (drop (suc (length (s .args .speeds .now))) (s .args .separators .now)) (heuristic-partition (valid-proper (s .pre .0))) written
           (c .measure-in .ensures .1),

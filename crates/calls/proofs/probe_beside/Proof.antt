@@ -8,6 +8,10 @@ use borrow.Author.Needs.{needs}
 use Rattle.calls.proofs.probe_beside.Statement.{statement}
 use Rattle.calls.proofs.probe_beside.Tie as tie
 
+-- The job that the lists make.
+abbrev job-at : tie.Start → Job
+job-at s = jobOf (s .args .speeds .now) (s .args .weights .now)
+
 probe-in-requires : tie.Need-probe-in-requires
 probe-in-requires c κs = search needs
 
@@ -32,7 +36,7 @@ same-length-2 c = search needs
 returns : tie.Need-returns
 returns c =
     let s = c .before .before .before .before .before .before .before .before .before .before .before .before .before .before .before .before in
-    let job : Job = jobOf (s .args .speeds .now) (s .args .weights .now) in
+    let job : Job = job-at s in
     let y = c .before .before .before .before .before .before .before .before .before .probe-in .ensures in
     probe-fits job (s .args .bound) (s .args .separators .now) _ (s .pre .0 .valid) (fits-outcome job (s .args .bound) (sym (y .0) ∙ c .before .before .before .before .before .enum-told .given .1)) (y .1)
     (c .before .before .copy-front .ensures)
@@ -43,7 +47,7 @@ same-length-3 c = search needs
 returns-2 : tie.Need-returns-2
 returns-2 c =
     let s = c .before .before .before .before .before .before .before .before .before .before .before .before in
-    let job : Job = jobOf (s .args .speeds .now) (s .args .weights .now) in
+    let job : Job = job-at s in
     let f = fails-outcome job (s .args .bound) (sym (c .before .before .before .before .before .probe-in .ensures .0) ∙ c .before .answer .given .1) in
     probe-fails job (s .args .bound) (s .args .separators .now) (f .0) (f .1)
 

@@ -7,7 +7,7 @@ use native.Mathlib.Omega.{arith}
 use lib.ListN.{length, getD}
 use Rattle.bound.specs.declared.Bound.{Bound}
 use Rattle.bound.specs.Order.{over}
-use Rattle.chain.specs.Job.{jobOf, offer}
+use Rattle.chain.specs.Job.{Job, jobOf, offer}
 use Rattle.chain.specs.Dynamic.{tableValue}
 use Rattle.chain.proofs.Ranges.{offer-small, small-fits}
 use Rattle.parts.specs.Prefix.{loadBetween}
@@ -26,10 +26,14 @@ Inv-loop speeds weights scratch₀ row speed i₀ scratch i = Writing (jobOf spe
 abbrev μ-loop : tie.MeasureT-loop
 μ-loop speeds weights scratch₀ row speed i₀ scratch i = suc (length weights) - i
 
+-- The job that the lists make.
+abbrev job-at : tie.Start Inv-loop μ-loop → Job
+job-at s = jobOf (s .args .speeds .now) (s .args .weights .now)
+
 loop-holds : tie.Need-loop-holds Inv-loop μ-loop
 loop-holds c =
-    let a = c .before .before .before .before .args in
-    writing-start (jobOf (a .speeds .now) (a .weights .now)) (a .scratch .now) (a .row) 0
+    let s = c .before .before .before .before in
+    writing-start (job-at s) (s .args .scratch .now) (s .args .row) 0
 
 shared-slice-read-speed : tie.Need-shared-slice-read-speed Inv-loop μ-loop
 shared-slice-read-speed c = omega (arith, c .before .before .before .before .pre .0 .valid .some-processor)
@@ -37,10 +41,10 @@ shared-slice-read-speed c = omega (arith, c .before .before .before .before .pre
 -- The part that is entered: the row so far leaves the prefix sums as they were.
 first-part : (s : tie.Start Inv-loop μ-loop) {xs : List ℕ} {i : ℕ} {B : Bound} → Kept (s .args .row) (2 * suc (length (s .args .weights .now))) (s .args .scratch .now) xs
     → i ≤ length (s .args .weights .now) → B ≡ over (loadBetween xs 0 i) (getD (s .args .speeds .now) 0 0)
-    → B ≡ offer (jobOf (s .args .speeds .now) (s .args .weights .now)) 0 0 i
+    → B ≡ offer (job-at s) 0 0 i
 first-part s {xs} {i} k h e =
     prefix-bound (kept-ready k (s .pre .1 .0) (s .pre .0) .prefix) 0 0 i (s .pre .0 .valid .some-processor) (omega arith) h refl e
-    ∙ sym (offer-part (jobOf (s .args .speeds .now) (s .args .weights .now)) 0 0 i)
+    ∙ sym (offer-part (job-at s) 0 0 i)
 
 part-bound-requires : tie.Need-part-bound-requires Inv-loop μ-loop
 part-bound-requires c κs =

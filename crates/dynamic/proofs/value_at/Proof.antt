@@ -16,6 +16,10 @@ use borrow.Author.Needs.{needs}
 use Rattle.dynamic.proofs.value_at.Statement.{statement}
 use Rattle.dynamic.proofs.value_at.Tie as tie
 
+-- The job that the lists make.
+abbrev job-at : tie.Start → Job
+job-at s = jobOf (s .args .speeds .now) (s .args .weights .now)
+
 -- The crossing is at most i.
 at-le : (c : tie.Start) → c .args .at ≤ c .args .i
 at-le c =
@@ -27,7 +31,7 @@ entry-requires c κs = omega (arith, c .before .before .before .pre .0 .inside, 
 -- The value of the row before.
 here-is : (c : tie.After-entry)
     → let s = c .before .before .before .before in
-    c .entry .result ≡ tableValue (jobOf (s .args .speeds .now) (s .args .weights .now)) (s .args .p) (s .args .at)
+    c .entry .result ≡ tableValue (job-at s) (s .args .p) (s .args .at)
 here-is c =
     let s = c .before .before .before .before in
     c .entry .ensures ∙ s .pre .0 .row .entries (s .args .at) (omega (arith, at-le s))
@@ -35,7 +39,7 @@ here-is c =
 returns : tie.Need-returns
 returns c =
     let s = c .before .before .before .before .before in
-    let job : Job = jobOf (s .args .speeds .now) (s .args .weights .now) in
+    let job : Job = job-at s in
     here-is (c .before) ∙ ap (tableValue job (s .args .p)) (s .pre .1 .1 .1)
     ∙ sym (value-first job (s .args .p) (s .args .i) (omega (arith, s .pre .1 .1 .1, c .if1 .taken)))
 

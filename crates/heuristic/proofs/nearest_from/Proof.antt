@@ -5,13 +5,17 @@ use mathlib.Core.Logic.{⊎-elim}
 use mathlib.Core.Path.{refl, sym, _∙_}
 use native.Mathlib.Omega.{arith}
 use borrow.Author.Needs.{needs}
-use Rattle.chain.specs.Job.{jobOf, tasks}
+use Rattle.chain.specs.Job.{Job, jobOf, tasks}
 use Rattle.parts.proofs.Laws.{prefix-to}
 use Rattle.heuristic.specs.Target.{off}
 use Rattle.heuristic.proofs.Nearest.{nearest-before}
 use Rattle.heuristic.proofs.Laws.{choice-products, choice-high, choice-low, choice-end}
 use Rattle.heuristic.proofs.nearest_from.Statement.{statement}
 use Rattle.heuristic.proofs.nearest_from.Tie as tie
+
+-- The job that the lists make.
+abbrev job-at : tie.Start → Job
+job-at s = jobOf (s .args .speeds .now) (s .args .weights .now)
 
 sub-before : tie.Need-sub-before
 sub-before c = search needs
@@ -47,9 +51,9 @@ returns c =
 -- Where the search for the smaller index begins, the index before is as near.
 near : (c : tie.Joined1)
     → let s = c .before .before .before .before .before in
-    s .args .past ≤ tasks (jobOf (s .args .speeds .now) (s .args .weights .now))
-    → off (jobOf (s .args .speeds .now) (s .args .weights .now)) (s .args .target) (s .args .past - 1)
-    ≤ off (jobOf (s .args .speeds .now) (s .args .weights .now)) (s .args .target) (s .args .past)
+    s .args .past ≤ tasks (job-at s)
+    → off (job-at s) (s .args .target) (s .args .past - 1)
+    ≤ off (job-at s) (s .args .target) (s .args .past)
 near c h =
     let s = c .before .before .before .before .before in
     ⊎-elim

@@ -3,12 +3,16 @@
 use mathlib.Core.Path.{_∙_, ap₂}
 use native.Mathlib.Omega.{arith}
 use Rattle.bound.specs.Order.{over}
-use Rattle.chain.specs.Job.{jobOf, ideal, tasks}
+use Rattle.chain.specs.Job.{Job, jobOf, ideal, tasks}
 use Rattle.chain.proofs.Parts.{weight-all}
 use Rattle.parts.proofs.Laws.{speeds-add-up}
 use borrow.Author.Needs.{needs}
 use Rattle.parts.proofs.ideal_of.Statement.{statement}
 use Rattle.parts.proofs.ideal_of.Tie as tie
+
+-- The job that the lists make.
+abbrev job-at : tie.Start → Job
+job-at s = jobOf (s .args .speeds .now) (s .args .weights .now)
 
 mul-wide : tie.Need-mul-wide
 mul-wide c = search needs
@@ -27,8 +31,8 @@ unfolding ideal
 returns c =
     let s = c .before .before .before .before .before .before in
     ap₂ over
-    (c .before .wide .ensures ∙ s .pre .prefix .sums (tasks (jobOf (s .args .speeds .now) (s .args .weights .now))) (omega arith)
-    ∙ weight-all (jobOf (s .args .speeds .now) (s .args .weights .now))) (c .total .ensures)
+    (c .before .wide .ensures ∙ s .pre .prefix .sums (tasks (job-at s)) (omega arith)
+    ∙ weight-all (job-at s)) (c .total .ensures)
 
 pub ideal-of-spec : {M : Type 1} → statement M
 ideal-of-spec =

@@ -12,10 +12,14 @@ use borrow.Author.Needs.{needs}
 use Rattle.planfile.proofs.write_plan.Statement.{statement}
 use Rattle.planfile.proofs.write_plan.Tie as tie
 
+-- The job that the lists make.
+abbrev job-at : tie.Start → Job
+job-at s = jobOf (s .args .speeds .now) (s .args .weights .now)
+
 -- Past the tests they are all passed.
 abbrev Passed : tie.Start → Type 0
 Passed s =
-    let job = jobOf (s .args .speeds .now) (s .args .weights .now) in
+    let job = job-at s in
     Accepted job (writePlanInputs job (s .args .separators .now) (length (s .args .plan .now)))
 
 tested : (c : tie.Else1) → Passed (c .before .before .before .before .before .before)
@@ -26,8 +30,8 @@ test-write-plan-requires c κs = search needs
 
 returns : tie.Need-returns
 returns c =
-    let a = c .before .before .before .before .before .before .args in
-    write-refused (jobOf (a .speeds .now) (a .weights .now)) (a .separators .now) (a .plan .now) (c .before .test-write-plan .ensures) (c .if1 .taken)
+    let s = c .before .before .before .before .before .before in
+    write-refused (job-at s) (s .args .separators .now) (s .args .plan .now) (c .before .test-write-plan .ensures) (c .if1 .taken)
 
 slice-aggregate-prefix-sums : tie.Need-slice-aggregate-prefix-sums
 slice-aggregate-prefix-sums c = search needs
@@ -45,8 +49,8 @@ put-plan-requires : tie.Need-put-plan-requires
 put-plan-requires c κs =
     let sums = c .before .before .before in
     let e = sums .before .before in
-    let a = e .before .before .before .before .before .before .args in
-    let job : Job = jobOf (a .speeds .now) (a .weights .now) in
+    let s = e .before .before .before .before .before .before in
+    let job : Job = job-at s in
     let t = tested e in
     (sums-ready {job = job} _ (t .valid) (sums .prefix-sums .ensures), (t .divisions .0, t .lists .1 .0))
 
@@ -62,8 +66,8 @@ same-length c = search needs
 returns-2 : tie.Need-returns-2
 returns-2 c =
     let e = c .before .before .before .before .before .before .before .before in
-    let a = e .before .before .before .before .before .before .args in
-    write-all (jobOf (a .speeds .now) (a .weights .now)) (a .separators .now) (a .plan .now) (e .before .test-write-plan .ensures) (e .if1 .left) (c .before .before .put-plan .ensures)
+    let s = e .before .before .before .before .before .before in
+    write-all (job-at s) (s .args .separators .now) (s .args .plan .now) (e .before .test-write-plan .ensures) (e .if1 .left) (c .before .before .put-plan .ensures)
 
 pub write-plan-spec : {M : Type 1} → statement M
 write-plan-spec =

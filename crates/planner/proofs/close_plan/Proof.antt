@@ -16,13 +16,17 @@ use borrow.Author.Needs.{needs}
 use Rattle.planner.proofs.close_plan.Statement.{statement}
 use Rattle.planner.proofs.close_plan.Tie as tie
 
+-- The job that the lists make.
+abbrev job-at : tie.Start → Job
+job-at s = jobOf (s .args .speeds .now) (s .args .weights .now)
+
 probe-in-requires : tie.Need-probe-in-requires
 probe-in-requires c κs = search needs
 
 measure-in-requires : tie.Need-measure-in-requires
 measure-in-requires c κs =
     let s = c .before .before .before .before .before .before .before .before .before .before in
-    let job : Job = jobOf (s .args .speeds .now) (s .args .weights .now) in
+    let job : Job = job-at s in
     let v = s .pre .0 .valid in
     let W : Bound = s .args .found .bound in
     let l : List ℕ = drop (suc (length (s .args .speeds .now))) (s .args .separators .now) in
@@ -43,7 +47,7 @@ allowance-of-requires c κs = search needs
 imbalance-of-requires : tie.Need-imbalance-of-requires
 imbalance-of-requires c κs =
     let s = c .before .before .before .before .before .before .before .before .before .before .before .before .before .before in
-    let job : Job = jobOf (s .args .speeds .now) (s .args .weights .now) in
+    let job : Job = job-at s in
     let v = s .pre .0 .valid in
     let W : Bound = s .args .found .bound in
     let l : List ℕ = drop (suc (length (s .args .speeds .now))) (s .args .separators .now) in
@@ -58,7 +62,7 @@ same-length c = search needs
 returns : tie.Need-returns
 returns c =
     let s = c .before .before .before .before .before .before .before .before .before .before .before .before .before .before .before in
-    let job : Job = jobOf (s .args .speeds .now) (s .args .weights .now) in
+    let job : Job = job-at s in
     let v = s .pre .0 .valid in
     let W : Bound = s .args .found .bound in
     let l : List ℕ = drop (suc (length (s .args .speeds .now))) (s .args .separators .now) in

@@ -3,7 +3,7 @@
 use mathlib.Core.Path.{refl, sym, _∙_}
 use native.Mathlib.Omega.{arith}
 use lib.ListN.{length}
-use Rattle.chain.specs.Job.{jobOf}
+use Rattle.chain.specs.Job.{Job, jobOf}
 use Rattle.refusals.proofs.Methods.{unknown-fails}
 use Rattle.refusals.proofs.Tests.{plan-unknown}
 use Rattle.planner.specs.Answers.{planRefusal}
@@ -11,6 +11,10 @@ use Rattle.planner.proofs.Laws.{planned-known}
 use borrow.Author.Needs.{needs}
 use Rattle.planner.proofs.plan.Statement.{statement}
 use Rattle.planner.proofs.plan.Tie as tie
+
+-- The job that the lists make.
+abbrev job-at : tie.Start → Job
+job-at s = jobOf (s .args .speeds .now) (s .args .weights .now)
 
 choose-requires : tie.Need-choose-requires
 choose-requires c κs = search needs
@@ -27,9 +31,9 @@ plan-by-requires c κs = search needs
 returns : tie.Need-returns
 unfolding planRefusal
 returns c =
-    let a = (c .before .before .before .before .before .before .before .args) in
-    let e = unknown-fails (a .method) (sym ((c .before .before .choose) .ensures) ∙ (c .enum-told) .given .1) in
-    (sym (plan-unknown (jobOf (a .speeds .now) (a .weights .now)) (a .method) (length (a .separators .now)) (length (a .scratch .now)) e), omega arith, refl, refl)
+    let s = c .before .before .before .before .before .before .before in
+    let e = unknown-fails (s .args .method) (sym ((c .before .before .choose) .ensures) ∙ (c .enum-told) .given .1) in
+    (sym (plan-unknown (job-at s) (s .args .method) (length (s .args .separators .now)) (length (s .args .scratch .now)) e), omega arith, refl, refl)
 
 same-length : tie.Need-same-length
 same-length c = search needs
@@ -39,8 +43,8 @@ same-length-2 c = search needs
 
 returns-2 : tie.Need-returns-2
 returns-2 c =
-    let a = (c .before .before .before .before .before .before .before .before .before .before .before .before .before .before .before .args) in
-    planned-known (jobOf (a .speeds .now) (a .weights .now)) (a .method) (sym ((c .before .before .before .before .before .before .before .before .before .before .choose) .ensures) ∙ (c .before .before .before .before .before .before .before .before .chosen) .given .1) _ _ _ _ ((c .before .before .before .before .plan-by) .result) ((c .before .before .before .before .plan-by) .ensures)
+    let s = c .before .before .before .before .before .before .before .before .before .before .before .before .before .before .before in
+    planned-known (job-at s) (s .args .method) (sym ((c .before .before .before .before .before .before .before .before .before .before .choose) .ensures) ∙ (c .before .before .before .before .before .before .before .before .chosen) .given .1) _ _ _ _ ((c .before .before .before .before .plan-by) .result) ((c .before .before .before .before .plan-by) .ensures)
 
 pub plan-spec : {M : Type 1} → statement M
 plan-spec =

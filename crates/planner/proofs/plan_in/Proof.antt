@@ -10,6 +10,10 @@ use borrow.Author.Needs.{needs}
 use Rattle.planner.proofs.plan_in.Statement.{statement}
 use Rattle.planner.proofs.plan_in.Tie as tie
 
+-- The job that the lists make.
+abbrev job-at : tie.Start → Job
+job-at s = jobOf (s .args .speeds .now) (s .args .weights .now)
+
 prefix-sums-requires : tie.Need-prefix-sums-requires
 prefix-sums-requires c κs =
     let p = (c .before .before .before .before .before .pre) in
@@ -18,7 +22,7 @@ prefix-sums-requires c κs =
 run-method-requires : tie.Need-run-method-requires
 run-method-requires c κs =
     let s = c .before .before .before .before .before .before .before .before .before .before in
-    let job : Job = jobOf (s .args .speeds .now) (s .args .weights .now) in
+    let job : Job = job-at s in
     let v = s .pre .0 in
     let e = c .before .before .before .before .prefix-sums .ensures in
     (sums-ready {job = job} _ v e, (s .pre .1 .0, omega (arith, s .pre .1 .1, summed-kept job (s .args .scratch .now) e (s .pre .1 .1) .same)))
@@ -26,7 +30,7 @@ run-method-requires c κs =
 close-plan-requires : tie.Need-close-plan-requires
 close-plan-requires c κs =
     let s = c .before .before .before .before .before .before .before .before .before .before .before .before .before .before .before .before .before in
-    let job : Job = jobOf (s .args .speeds .now) (s .args .weights .now) in
+    let job : Job = job-at s in
     let v = s .pre .0 in
     let r = c .before .before .before .before .before .before .run-method .ensures in
     (r .1 .1 .1 .0, (omega (arith, s .pre .1 .0, r .1 .1 .0 .same), (r .0, r .1 .0)))
@@ -40,7 +44,7 @@ same-length-2 c = search needs
 returns : tie.Need-returns
 returns c =
     let s = c .before .before .before .before .before .before .before .before .before .before .before .before .before .before .before .before .before .before .before .before in
-    let job : Job = jobOf (s .args .speeds .now) (s .args .weights .now) in
+    let job : Job = job-at s in
     let v = s .pre .0 in
     let r = c .before .before .before .before .before .before .before .before .before .run-method .ensures in
     let p = c .before .before .close-plan .ensures in (

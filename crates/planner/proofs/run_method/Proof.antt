@@ -14,6 +14,10 @@ use borrow.Author.Needs.{needs}
 use Rattle.planner.proofs.run_method.Statement.{statement}
 use Rattle.planner.proofs.run_method.Tie as tie
 
+-- The job that the lists make.
+abbrev job-at : tie.Start → Job
+job-at s = jobOf (s .args .speeds .now) (s .args .weights .now)
+
 enum-told : tie.Need-enum-told
 enum-told c = search needs
 
@@ -37,13 +41,13 @@ same-length c = search needs
 
 returns : tie.Need-returns
 returns c =
-    let a = (c .before .before .before .before .before .before .before .before .before .before .args) in
+    let s = c .before .before .before .before .before .before .before .before .before .before in
     let p = (c .before .before .before .before .before .before .before .before .before .before .pre) in
     let t = (c .before .before .table-in) .ensures in (
       ends-table ((c .before .before .before .before .enum-told) .given .1) t,
       (
         small-lendable (tabled-small t (p .0 .valid)),
-        (kept-start (suc (length (a .speeds .now))) (a .separators .now), (tabled-ready t (p .0), tabled-kept t)),
+        (kept-start (suc (length (s .args .speeds .now))) (s .args .separators .now), (tabled-ready t (p .0), tabled-kept t)),
       ),
     )
 
@@ -55,17 +59,17 @@ same-length-3 c = search needs
 
 returns-2 : tie.Need-returns-2
 returns-2 c =
-    let a = (c .before .before .before .before .before .before .before .before .before .before .before .args) in
+    let s = c .before .before .before .before .before .before .before .before .before .before .before in
     let p = (c .before .before .before .before .before .before .before .before .before .before .before .pre) in
-    let job : Job = jobOf (a .speeds .now) (a .weights .now) in
+    let job : Job = job-at s in
     let r = (c .before .before .bidding-in) in
-    let b = kept-start (suc (length (a .speeds .now))) (a .separators .now) in (
+    let b = kept-start (suc (length (s .args .speeds .now))) (s .args .separators .now) in (
       ends-bidding ((c .before .before .before .before .before .enum-told2) .given .1) (r .ensures .0),
       (
         ended-lendable (p .0 .valid) (r .ensures .0),
         (
           kept-written (walk job (r .result .bound)) _ b (p .1 .0) (walk-count (p .0 .valid) (r .result .bound)) (r .ensures .1),
-          (p .0, kept-start (scratchNeeded job) (a .scratch .now)),
+          (p .0, kept-start (scratchNeeded job) (s .args .scratch .now)),
         ),
       ),
     )
@@ -78,11 +82,11 @@ same-length-5 c = search needs
 
 returns-3 : tie.Need-returns-3
 returns-3 c =
-    let a = (c .before .before .before .before .before .before .before .before .before .before .before .args) in
+    let s = c .before .before .before .before .before .before .before .before .before .before .before in
     let p = (c .before .before .before .before .before .before .before .before .before .before .before .pre) in
-    let job : Job = jobOf (a .speeds .now) (a .weights .now) in
+    let job : Job = job-at s in
     let r = (c .before .before .bisection-in) .ensures in
-    (ends-bisection ((c .before .before .before .before .before .enum-told3) .given .1) (r .0), (r .1 .0, (r .1 .1, (p .0, kept-start (scratchNeeded job) (a .scratch .now)))))
+    (ends-bisection ((c .before .before .before .before .before .enum-told3) .given .1) (r .0), (r .1 .0, (r .1 .1, (p .0, kept-start (scratchNeeded job) (s .args .scratch .now)))))
 
 pub run-method-spec : {M : Type 1} → statement M
 run-method-spec =

@@ -17,13 +17,17 @@ Inv-loop speeds weights separators p₀ p = (p ≤ length speeds) × (getD separ
 abbrev μ-loop : tie.MeasureT-loop
 μ-loop speeds weights separators p₀ p = length speeds - p
 
+-- The job that the lists make.
+abbrev job-at : tie.Start Inv-loop μ-loop → Job
+job-at s = jobOf (s .args .speeds .now) (s .args .weights .now)
+
 shared-slice-read-if1 : tie.Need-shared-slice-read-if1 Inv-loop μ-loop
 shared-slice-read-if1 c = omega arith
 
 returns : tie.Need-returns Inv-loop μ-loop
 returns c =
     let s = c .before .before in
-    not-first (jobOf (s .args .speeds .now) (s .args .weights .now)) (s .args .separators .now) (s .pre) (c .if1 .taken)
+    not-first (job-at s) (s .args .separators .now) (s .pre) (c .if1 .taken)
 
 loop-holds : tie.Need-loop-holds Inv-loop μ-loop
 loop-holds c = (omega arith, omega arith, λ k h. absurd (let z : ⊥ = omega arith in z))
@@ -47,7 +51,7 @@ returns-2 : tie.Need-returns-2 Inv-loop μ-loop
 returns-2 c =
     let s = c .before .before .before .before .before .before .before in
     let p : ℕ = c .before .before .before .before .loop .p in
-    not-grown (jobOf (s .args .speeds .now) (s .args .weights .now)) (s .args .separators .now) (s .pre) p (omega arith)
+    not-grown (job-at s) (s .args .separators .now) (s .pre) p (omega arith)
     (subst (λ (i : ℕ). getD (s .args .separators .now) i 0 < getD (s .args .separators .now) p 0) (add-one p) (c .if2 .taken))
 
 add-p : tie.Need-add-p Inv-loop μ-loop
@@ -74,7 +78,7 @@ cast-result c = omega (arith, c .shared-slice-known4 .given (c .before .before .
 returns-3 : tie.Need-returns-3 Inv-loop μ-loop
 returns-3 c =
     let s = c .before .before .before .before .before in
-    let job : Job = jobOf (s .args .speeds .now) (s .args .weights .now) in
+    let job : Job = job-at s in
     ap (λ (i : ℕ). eqb (getD (s .args .separators .now) i 0) (length (s .args .weights .now)))
     (let e : c .before .before .loop .p ≡ length (s .args .speeds .now) = omega arith in e)
     ∙ end-decides job (s .args .separators .now) (s .pre) (c .before .before .loop .inv .1)

@@ -12,6 +12,10 @@ use borrow.Author.Needs.{needs}
 use Rattle.planner.proofs.allowance.allowance_of.Statement.{statement}
 use Rattle.planner.proofs.allowance.allowance_of.Tie as tie
 
+-- The job that the lists make.
+abbrev job-at : tie.Start → Job
+job-at s = jobOf (s .args .speeds .now) (s .args .weights .now)
+
 sub-most : tie.Need-sub-most
 sub-most c = search needs
 
@@ -59,18 +63,18 @@ add-result-2 c = search needs
 
 returns : tie.Need-returns
 returns c =
-    let a = (c .before .before .before .before .args) in
-    allowance-table (jobOf (a .speeds .now) (a .weights .now)) (c .enum-told .given .1)
+    let s = c .before .before .before .before in
+    allowance-table (job-at s) (c .enum-told .given .1)
 
 returns-2 : tie.Need-returns-2
 returns-2 c =
-    let a = (c .before .before .before .before .args) in
-    allowance-bidding (jobOf (a .speeds .now) (a .weights .now)) (c .enum-told2 .given .1)
+    let s = c .before .before .before .before in
+    allowance-bidding (job-at s) (c .enum-told2 .given .1)
 
 returns-3 : tie.Need-returns-3
 returns-3 c =
-    let a = (c .before .before .before .before .before .args) in
-    let job : Job = jobOf (a .speeds .now) (a .weights .now) in
+    let s = c .before .before .before .before .before in
+    let job : Job = job-at s in
     let d = c .difference-of in
     allowance-bisection job (d .result) ((c .before .enum-told3) .given .1) (d .ensures) (subst (λ (n : ℕ). n < 2 ^ 64) (sym (d .ensures)) (difference-fits {job = job} ((c .before .before .before .before .before .pre))))
 

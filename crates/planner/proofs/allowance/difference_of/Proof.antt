@@ -12,6 +12,10 @@ use borrow.Author.Needs.{needs}
 use Rattle.planner.proofs.allowance.difference_of.Statement.{statement}
 use Rattle.planner.proofs.allowance.difference_of.Tie as tie
 
+-- The job that the lists make.
+abbrev job-at : tie.Start → Job
+job-at s = jobOf (s .args .speeds .now) (s .args .weights .now)
+
 greatest-of-requires : tie.Need-greatest-of-requires
 greatest-of-requires c κs = search needs
 
@@ -33,7 +37,7 @@ wide-requires-3 c κs = search needs
 mul-result : tie.Need-mul-result
 mul-result c =
     let s = c .before .before .before .before .before .before .before .before in
-    let job : Job = jobOf (s .args .speeds .now) (s .args .weights .now) in
+    let job : Job = job-at s in
     let h : c .before .before .before .before .wide .result ≡ heaviest job = c .before .before .before .before .wide .ensures ∙ c .before .before .before .before .before .greatest-of .ensures in
     let f : c .before .before .wide2 .result ≡ fastest job = c .before .before .wide2 .ensures ∙ c .before .before .before .greatest-of2 .ensures in
     let l : c .wide3 .result ≡ slowest job = c .wide3 .ensures ∙ c .before .least-of .ensures in
@@ -42,7 +46,7 @@ mul-result c =
 mul-result-2 : tie.Need-mul-result-2
 mul-result-2 c =
     let s = c .before .before .before .before .before .before .before .before in
-    let job : Job = jobOf (s .args .speeds .now) (s .args .weights .now) in
+    let job : Job = job-at s in
     let h : c .before .before .before .before .wide .result ≡ heaviest job = c .before .before .before .before .wide .ensures ∙ c .before .before .before .before .before .greatest-of .ensures in
     let f : c .before .before .wide2 .result ≡ fastest job = c .before .before .wide2 .ensures ∙ c .before .before .before .greatest-of2 .ensures in
     let l : c .wide3 .result ≡ slowest job = c .wide3 .ensures ∙ c .before .least-of .ensures in
@@ -51,7 +55,7 @@ mul-result-2 c =
 div-result : tie.Need-div-result
 div-result c =
     let s = c .before .before .before .before .before .before .before .before in
-    let job : Job = jobOf (s .args .speeds .now) (s .args .weights .now) in
+    let job : Job = job-at s in
     let h : c .before .before .before .before .wide .result ≡ heaviest job = c .before .before .before .before .wide .ensures ∙ c .before .before .before .before .before .greatest-of .ensures in
     let f : c .before .before .wide2 .result ≡ fastest job = c .before .before .wide2 .ensures ∙ c .before .before .before .greatest-of2 .ensures in
     let l : c .wide3 .result ≡ slowest job = c .wide3 .ensures ∙ c .before .least-of .ensures in
@@ -61,7 +65,7 @@ returns : tie.Need-returns
 unfolding difference
 returns c =
     let s = c .before .before .before .before .before .before .before .before in
-    let job : Job = jobOf (s .args .speeds .now) (s .args .weights .now) in
+    let job : Job = job-at s in
     let h : c .before .before .before .before .wide .result ≡ heaviest job = c .before .before .before .before .wide .ensures ∙ c .before .before .before .before .before .greatest-of .ensures in
     let f : c .before .before .wide2 .result ≡ fastest job = c .before .before .wide2 .ensures ∙ c .before .before .before .greatest-of2 .ensures in
     let l : c .wide3 .result ≡ slowest job = c .wide3 .ensures ∙ c .before .least-of .ensures in

@@ -8,6 +8,10 @@ use borrow.Author.Needs.{needs}
 use Rattle.planner.proofs.host.plan_read.Statement.{statement}
 use Rattle.planner.proofs.host.plan_read.Tie as tie
 
+-- The job that the lists make.
+abbrev job-at : tie.Start → Job
+job-at s = jobOf (s .args .speeds .now) (s .args .weights .now)
+
 mul-if1 : tie.Need-mul-if1
 unfolding maxProcessors
 mul-if1 c = omega (arith, c .before .before .before .pre .processors-limit)
@@ -15,7 +19,7 @@ mul-if1 c = omega (arith, c .before .before .before .pre .processors-limit)
 returns : tie.Need-returns
 returns c =
     let s = c .before .before .before .before in
-    let job : Job = jobOf (s .args .speeds .now) (s .args .weights .now) in
+    let job : Job = job-at s in
     host-short job (s .args .plan .now) (omega arith)
 
 write-best-requires : tie.Need-write-best-requires
@@ -27,7 +31,7 @@ same-length c = search needs
 returns-2 : tie.Need-returns-2
 returns-2 c =
     let s = c .before .before .before .before .before .before .before .before in
-    let job : Job = jobOf (s .args .speeds .now) (s .args .weights .now) in
+    let job : Job = job-at s in
     host-full job (s .args .plan .now) _ (omega arith) (c .before .before .write-best .ensures)
 
 pub plan-read-spec : {M : Type 1} → statement M

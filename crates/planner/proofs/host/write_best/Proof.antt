@@ -10,6 +10,10 @@ use borrow.Author.Needs.{needs}
 use Rattle.planner.proofs.host.write_best.Statement.{statement}
 use Rattle.planner.proofs.host.write_best.Tie as tie
 
+-- The job that the lists make.
+abbrev job-at : tie.Start → Job
+job-at s = jobOf (s .args .speeds .now) (s .args .weights .now)
+
 slice-aggregate-plan-in : tie.Need-slice-aggregate-plan-in
 slice-aggregate-plan-in c = search needs
 
@@ -31,7 +35,7 @@ slice-aggregate-put-plan-2 c = search needs
 put-plan-requires : tie.Need-put-plan-requires
 put-plan-requires c κs =
     let s = c .before .before .before .before .before .before .before .before .before .before .before in
-    let job : Job = jobOf (s .args .speeds .now) (s .args .weights .now) in
+    let job : Job = job-at s in
     let g = c .before .before .before .before .before .plan-in .ensures in
     (g .1, (front-partition (planOf job) _ (g .0 .best .partition) (g .0 .separators), s .pre .1))
 
@@ -41,7 +45,7 @@ same-length c = search needs
 returns : tie.Need-returns
 returns c =
     let s = c .before .before .before .before .before .before .before .before .before .before .before .before .before .before in
-    let job : Job = jobOf (s .args .speeds .now) (s .args .weights .now) in
+    let job : Job = job-at s in
     let g = c .before .before .before .before .before .before .before .before .plan-in .ensures .0 in
     best-bytes job _ _ _ (g .best .partition .count) (g .separators) (c .before .before .put-plan .ensures)
 
