@@ -1,7 +1,7 @@
 -- What each call answers and leaves in the lent list, by the number of its refusal.
 -- Assumes nothing.
 use Prim.Native.Nat.{ℕ, suc, _+_, _≤_}
-use mathlib.Core.Path.{_≡_, refl, sym, ap, subst, _∙_}
+use mathlib.Core.Path.{_≡_, refl, sym, ap, _∙_}
 use mathlib.Core.Bool.{Bool, true, false, not, cond}
 use mathlib.Core.List.{List, _++_}
 use mathlib.Core.Logic.{_≢_}
@@ -20,7 +20,6 @@ use Rattle.chain.specs.Refusal.{refusal}
 use Rattle.chain.proofs.Parts.{valid-proper}
 use Rattle.chain.proofs.Heuristic.{heuristic-partition}
 use Rattle.refusals.specs.Inputs.{measureInputs, probeInputs, heuristicInputs}
-use Rattle.refusals.specs.Answers.{lentAfter}
 use Rattle.refusals.proofs.Lent.{lent-front, lent-kept}
 use Rattle.refusals.proofs.Accepted.{passed}
 use Rattle.parts.proofs.Front.{taken}

@@ -2,23 +2,19 @@
 -- Assumes nothing.
 use Prim.Native.Nat.{ℕ, zero, suc, _+_, _-_, _*_, _^_, _≤_, _<_}
 use mathlib.Core.Path.{_≡_, sym, ap, ap₂, subst, _∙_}
-use mathlib.Core.Bool.{Bool, true, false}
-use mathlib.Core.Logic.{inl, inr}
+use mathlib.Core.Bool.{Bool}
 use native.Mathlib.Omega.{arith}
-use native.Mathlib.Decide.{decLe}
 use native.Mathlib.Nat.{mul-le-mul}
 use lib.Dec.{lit<}
 use lib.ListN.{getD}
 use Rattle.bound.specs.declared.Bound.{Bound}
-use Rattle.bound.specs.Order.{le, lesser}
-use Rattle.bound.proofs.Order.{le-true, greater-cases, greater-first, greater-second}
+use Rattle.bound.specs.Order.{le}
+use Rattle.bound.proofs.Order.{greater-cases}
 use Rattle.chain.specs.Limits.{maxTasks, maxProcessors}
 use Rattle.chain.specs.Lists.{sumTo}
 use Rattle.chain.specs.Job.{Job, Valid, tasks, processors, speedOf, offer}
-use Rattle.chain.specs.Dynamic.{candidate, crossingOf, lesserAt, tableValue, crossing, movesTo}
-use Rattle.chain.proofs.Indices.{Smallest, smallest-is}
+use Rattle.chain.specs.Dynamic.{candidate, tableValue, movesTo}
 use Rattle.chain.proofs.Parts.{valid-proper}
-use Rattle.chain.proofs.Within.{offer-empty}
 use Rattle.chain.specs.Ranges.{Small}
 use Rattle.chain.proofs.Ranges.{offer-small}
 use Rattle.chain.proofs.Table.{crossing-le, table-attained, moves-to-crossing}

@@ -2,14 +2,13 @@
 -- Assumes nothing.
 use Prim.Native.Nat.{ℕ, zero, suc, _+_, _-_, _*_, _≤_, _<_, _^_}
 use mathlib.Core.Path.{_≡_, sym, ap, ap₂, subst, _∙_}
-use mathlib.Core.Bool.{Bool, true, false}
 use mathlib.Core.List.{List}
 use native.Mathlib.Omega.{arith}
 use native.Mathlib.Numerals.{add-one}
 use lib.ListN.{length, take, length-take}
 use lib.Seq.{getD-take}
 use Rattle.bound.specs.declared.Bound.{Bound}
-use Rattle.bound.specs.Order.{le, greater, pick}
+use Rattle.bound.specs.Order.{greater}
 use Rattle.chain.specs.Job.{Job, Valid, tasks, processors, last, partBound, at, Partition, boundAt, bottleneckTo, bottleneck}
 use Rattle.chain.proofs.Parts.{separator-below}
 use Rattle.chain.specs.Ranges.{Small}

@@ -65,7 +65,9 @@ pub fn total(values: &[u32]) -> u64
 pub fn prefix_sums(weights: &[u32], sums: &mut [u32])
     requires { ⌜ sum (now weights) < 2 ^ 32 ⌝ }
     requires { ⌜ length (now weights) < length (now sums) ⌝ }
-    ensures { λ r. ⌜ now (sums .exit) ≡ prefixes (now (weights .entry)) ++ drop (suc (length (now (weights .entry)))) (now (sums .entry)) ⌝ }
+    ensures { λ r.
+        let ws = now (weights .entry) in
+        ⌜ now (sums .exit) ≡ prefixes ws ++ drop (suc (length ws)) (now (sums .entry)) ⌝ }
 {
     let mut sum = 0u32;
     let mut i = 0;

@@ -1,11 +1,9 @@
 -- A plan file read back, field by field.
 -- Assumes nothing.
-use Prim.Native.Nat.{ℕ, zero, suc, _+_, _-_, _*_, _/_, _%_, _<_, _^_}
+use Prim.Native.Nat.{ℕ, zero, suc, _+_, _-_, _*_, _<_}
 use mathlib.Core.Path.{_≡_, sym, ap, _∙_}
 use mathlib.Core.List.{List, [], _++_, append-assoc, append-nil}
 use native.Mathlib.Omega.{arith}
-use lib.ListN.{length, getD}
-use lib.Seq.{getD-append-add}
 use Rattle.chain.specs.Job.{Job, Valid, processors, speedOf, partLoad, at, Partition}
 use Rattle.fields.specs.Field.{fieldBytes, fieldAt}
 use Rattle.fields.proofs.Laws.{field-front, field-after}

@@ -1,14 +1,10 @@
 -- The parts of a partition, as a plan file has them: their fields fit.
 -- Assumes nothing.
-use Prim.Native.Nat.{ℕ, zero, suc, _+_, _-_, _≤_, _<_, _^_}
-use mathlib.Core.Path.{_≡_, sym, ap, _∙_}
+use Prim.Native.Nat.{ℕ, suc, _-_, _<_, _^_}
 use mathlib.Core.List.{List}
 use native.Mathlib.Omega.{arith}
-use native.Mathlib.Nat.{le-trans, lt-of-le-of-lt}
-use lib.ListN.{length, take, length-take}
-use lib.Seq.{getD-take}
-use Rattle.chain.specs.Lists.{sumTo}
-use Rattle.chain.specs.Job.{Job, Valid, tasks, processors, speedOf, partWeight, partLoad, totalWeight, at, Partition}
+use native.Mathlib.Nat.{lt-of-le-of-lt}
+use Rattle.chain.specs.Job.{Job, Valid, processors, speedOf, partLoad, at, Partition}
 use Rattle.chain.proofs.Parts.{separator-below}
 use Rattle.chain.proofs.Ranges.{index-fits, loads-fit, speeds-fit, load-limit}
 

@@ -1,15 +1,11 @@
 -- The bids: a part gains nothing past the last task, and the least bid so far.
 -- Assumes nothing.
-use Prim.Native.Nat.{ℕ, zero, suc, _-_, _*_, _^_, _≤_, _<_}
+use Prim.Native.Nat.{ℕ, zero, suc, _-_, _≤_, _<_}
 use mathlib.Core.Path.{_≡_, refl, sym, ap, subst, _∙_}
-use mathlib.Core.Bool.{Bool, true, false}
 use native.Mathlib.Omega.{arith}
 use native.Mathlib.Decide.{decLe}
-use native.Mathlib.Nat.{mul-le-mul, lt-of-le-of-lt}
-use lib.Dec.{lit<}
-use lib.ListN.{List·getD-eq-default}
 use Rattle.bound.specs.declared.Bound.{Bound}
-use Rattle.bound.specs.Order.{over, le, pick, lesser}
+use Rattle.bound.specs.Order.{lesser}
 use Rattle.bound.proofs.Order.{lesser-infinite}
 use Rattle.chain.specs.Job.{Job, Valid, tasks, last, partBound, offer}
 use Rattle.chain.specs.Probe.{separator, bid, leastBidTo, nextBid}

@@ -6,21 +6,20 @@ use mathlib.Core.Bool.{not}
 use mathlib.Core.List.{List}
 use mathlib.Core.Logic.{inl, inr}
 use native.Mathlib.Omega.{arith}
-use native.Mathlib.Decide.{decLe}
 use native.Mathlib.Nat.{le-div-iff-mul-le}
 use lib.Dec.{T}
 use lib.ListN.{getD}
 use Rattle.bound.specs.declared.Bound.{Bound}
-use Rattle.bound.specs.Order.{_≼_, _≺_}
-use Rattle.bound.proofs.Order.{open-le, make-le, le-or-lt, le-trans, not-both}
+use Rattle.bound.specs.Order.{_≼_}
+use Rattle.bound.proofs.Order.{open-le, make-le, le-or-lt}
 use Rattle.chain.specs.Job.{Job, Valid, tasks, processors, speedOf, partLoad, partBound, within}
 use Rattle.chain.specs.Probe.{reach}
-use Rattle.chain.proofs.Within.{within-of, within-bound, past-of}
+use Rattle.chain.proofs.Within.{within-of, past-of}
 use Rattle.chain.proofs.Walk.{reach-unique}
 use Rattle.chain.specs.Ranges.{Lendable}
 use Rattle.chain.proofs.Ranges.{part-small, probe-products}
 use Rattle.parts.specs.Prefix.{loadBetween, Ready}
-use Rattle.parts.proofs.Laws.{speed-read, prefix-split, prefix-load, prefix-fits}
+use Rattle.parts.proofs.Laws.{speed-read, prefix-load, prefix-fits}
 use Rattle.parts.specs.Rising.{LastAtMost}
 
 module _ (job : Job) (p a b : ℕ) (B : Bound) (s : 1 ≤ B .speed) where

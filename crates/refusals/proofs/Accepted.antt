@@ -7,7 +7,7 @@ use native.Mathlib.Omega.{arith}
 use lib.Dec.{leb, leb→le}
 use lib.ListN.{take}
 use Rattle.chain.specs.Job.{Job, Valid, processors, Partition}
-use Rattle.chain.specs.Refusal.{Test, methodTest, lengthTest, boundTest, partitionTest, firstRefusal, jobTests, Inputs, callTests, refusal}
+use Rattle.chain.specs.Refusal.{Test, methodTest, lengthTest, boundTest, partitionTest, jobTests, Inputs, callTests, refusal}
 use Rattle.chain.specs.Ranges.{Lendable}
 use Rattle.chain.proofs.Ranges.{lendable-test}
 use Rattle.chain.proofs.Refusals.{Numbered, numbered-append, numbered-map, job-numbered, append-accepted, Each, map-accepted, job-accepted, partition-test}

@@ -7,7 +7,7 @@ use Rattle.chain.specs.Limits.{maxProcessors, maxTasks}
 use Rattle.chain.specs.Job.{jobOf}
 use Rattle.chain.specs.Refusal.{refusal}
 use Rattle.refusals.specs.Inputs.{writeInputs}
-use Rattle.refusals.proofs.Accepted.{Accepted, accepted}
+use Rattle.refusals.proofs.Accepted.{accepted}
 use Rattle.jobs.proofs.Writing.{write-refused, write-both}
 use borrow.Author.Needs.{needs}
 use Rattle.jobs.proofs.write_job.Statement.{statement}

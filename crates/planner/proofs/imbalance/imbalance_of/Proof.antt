@@ -5,7 +5,6 @@ use native.Mathlib.Omega.{arith}
 use Rattle.chain.specs.Job.{jobOf}
 use Rattle.planner.proofs.Imbalances.{imbalance-none, divisor-fits, load-fits, no-less, excess-fits, divisor-positive, imbalance-is}
 use Rattle.parts.proofs.Laws.{speeds-add-up}
-use borrow.Author.Needs.{needs}
 use Rattle.planner.proofs.imbalance.imbalance_of.Statement.{statement}
 use Rattle.planner.proofs.imbalance.imbalance_of.Tie as tie
 
