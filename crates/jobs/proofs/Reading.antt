@@ -15,7 +15,7 @@ use Rattle.chain.specs.Refusal.{Test, test, between, processorsTest, tasksTest,
 use Rattle.refusals.specs.Answers.{lentAfter}
 use Rattle.jobs.specs.Parse.{recordCount, valueAt, multipleTest, recordsTests, speedsOf, weightsOf, fileTests, fileRefusal}
 use Rattle.jobs.specs.Answers.{answerOf, readTests, readRefusal, readAnswer, readSpeeds, readWeights}
-use Rattle.jobs.specs.Inner.{recordsRefusal, Accepted, Reads}
+use Rattle.jobs.specs.Inner.{recordsRefusal, Counted, Reads}
 use Rattle.jobs.specs.declared.JobRead.{JobRead}
 use Rattle.chain.proofs.Refusals.{Numbered, numbered-nil, numbered-cons, first-refusal-append, first-refusal-before}
 use Rattle.refusals.proofs.Steps.{fails, passes, passed-all}
@@ -40,7 +40,7 @@ module _ (file : List ℕ) where
   unfolding counts processorsTest tasksTest
   counts-numbered = numbered-cons (omega arith) (numbered-cons (omega arith) numbered-nil)
 
-  -- Accepted by 2 to 6, a file has a length that is a multiple of 8, and records that pass.
+  -- Counted by 2 to 6, a file has a length that is a multiple of 8, and records that pass.
   pub accepted-multiple : recordsRefusal file ≡ 0 → length file % 8 ≡ 0
   accepted-multiple e =
       elim (ℕ-discrete (length file % 8) 0) [ yes z ↦ z | no z ↦ absurd (let w : ⊥ = omega (arith, multiple-fails file z, e) in w) ]
@@ -60,7 +60,7 @@ module _ (file : List ℕ) where
   unfolding later early recordsRefusal
   to-counts L e = first-refusal-append early (counts ++ L) early-numbered e
 
-  module _ {p t n : ℕ} (a : Accepted file p t) (f : n ≡ firstRefusal (test 7 (between 1 maxProcessors p) ∷ test 8 (leb t maxTasks) ∷ [])) where
+  module _ {p t n : ℕ} (a : Counted file p t) (f : n ≡ firstRefusal (test 7 (between 1 maxProcessors p) ∷ test 8 (leb t maxTasks) ∷ [])) where
     counted : n ≡ firstRefusal counts
     unfolding counts processorsTest tasksTest
     counted = f ∙ ap₂ (λ (p t : ℕ). firstRefusal (test 7 (between 1 maxProcessors p) ∷ test 8 (leb t maxTasks) ∷ [])) (a .speeds) (a .weights)
@@ -71,16 +71,16 @@ module _ (file : List ℕ) where
     to-lent : (L : List Test) → n ≡ 0 → firstRefusal (later L) ≡ firstRefusal L
     to-lent L z = to-counts L (a .records) ∙ first-refusal-append counts L counts-numbered (sym counted ∙ z)
 
-  pub accepted-counts : recordsRefusal file ≡ 0 → Accepted file (length (speedsOf file)) (length (weightsOf file))
+  pub accepted-counts : recordsRefusal file ≡ 0 → Counted file (length (speedsOf file)) (length (weightsOf file))
   unfolding speedsOf weightsOf
   accepted-counts e =
       record { records = e; speeds = refl; weights = refl; together = (placed file (recordCount file) (accepted-records e)) .together }
 
   -- What an answer says of the tests 2 to 6.
-  pub read-accepted : {p t : ℕ} {r : JobRead} → r ≡ answerOf (recordsRefusal file) file → r ≡ JobRead.Read p t → Accepted file p t
+  pub read-accepted : {p t : ℕ} {r : JobRead} → r ≡ answerOf (recordsRefusal file) file → r ≡ JobRead.Read p t → Counted file p t
   read-accepted {p} {t} {r} d e = elim (ℕ-discrete (recordsRefusal file) 0) [ yes z ↦ same z (d ∙ sym (answer-read file z refl refl)) | no z ↦ absurd (other (d ∙ sym (answer-refused file refl z))) ]
     where
-      same : recordsRefusal file ≡ 0 → r ≡ JobRead.Read (length (speedsOf file)) (length (weightsOf file)) → Accepted file p t
+      same : recordsRefusal file ≡ 0 → r ≡ JobRead.Read (length (speedsOf file)) (length (weightsOf file)) → Counted file p t
       same z f =
           let x : p ≡ length (speedsOf file) = cc in
           let y : t ≡ length (weightsOf file) = cc in
@@ -99,7 +99,7 @@ module _ (file : List ℕ) where
       other f = let w : _≡_ {A = ℕ} 0 1 = cc in omega arith
 
   -- An accepted file holds the speeds from record 0 on, and the weights from record P on.
-  module _ {p t : ℕ} (a : Accepted file p t) where
+  module _ {p t : ℕ} (a : Counted file p t) where
     held : Placed file (recordCount file)
     held = placed file (recordCount file) (accepted-records (a .records))
 
@@ -157,7 +157,7 @@ module _ (file : List ℕ) where
         let w : Reads file es ws (JobRead.Refused n) es ws = refused (read-is (length es) (length ws) ∙ by-early (lent (length es) (length ws)) (λ z. b .1 (sym (b .0) ∙ z)) ∙ b .0) (b .1) in
         (w .answers, (w .into-speeds, w .into-weights))
 
-    module _ {p t n : ℕ} (a : Accepted file p t) (f : n ≡ firstRefusal (test 7 (between 1 maxProcessors p) ∷ test 8 (leb t maxTasks) ∷ [])) where
+    module _ {p t n : ℕ} (a : Counted file p t) (f : n ≡ firstRefusal (test 7 (between 1 maxProcessors p) ∷ test 8 (leb t maxTasks) ∷ [])) where
       -- 7 and 8.
       pub read-counts : n ≢ 0 → Reads file es ws (JobRead.Refused n) es ws
       read-counts h = refused (read-is (length es) (length ws) ∙ by-counts a f (lent (length es) (length ws)) h) h
@@ -185,7 +185,7 @@ module _ (file : List ℕ) where
       read-short-speeds z h k =
           refused (fits-weights z h ∙ fails 9 [] (lt-leb (length (speedsOf file)) (length es) (omega (arith, a .speeds)))) (omega arith)
 
-      -- Accepted: the values from record 0 on, and those from record P on.
+      -- Counted: the values from record 0 on, and those from record P on.
       pub read-all : n ≡ 0 → t ≤ length ws → p ≤ length es → {es' ws' : List ℕ}
           → es' ≡ tabulate (λ j. valueAt file (0 + j)) p ++ drop p es → ws' ≡ tabulate (λ j. valueAt file (p + j)) t ++ drop t ws
           → Reads file es ws (JobRead.Read p t) es' ws'

@@ -14,7 +14,7 @@ unfoldable pub recordsRefusal : List ℕ → ℕ
 recordsRefusal file = firstRefusal (multipleTest file ∷ recordsTests file (recordCount file))
 
 -- They pass, and these are the counts of the job in the file.
-pub record Accepted (file : List ℕ) (P N : ℕ) : Type 0 where
+pub record Counted (file : List ℕ) (P N : ℕ) : Type 0 where
   pub records : recordsRefusal file ≡ 0
   pub speeds : P ≡ processors (jobIn file)
   pub weights : N ≡ tasks (jobIn file)

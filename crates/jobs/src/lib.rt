@@ -10,7 +10,7 @@ ghost use Rattle.refusals.specs.Inputs.{recordSize};
 ghost use Rattle.jobs.specs.JobFile.{taskKind, recordBytes, recordsBytes};
 ghost use Rattle.jobs.specs.Parse.{recordCount, byteAt, kindAt, valueAt, blank, recordTests, valuesOf};
 ghost use Rattle.jobs.specs.Answers.{answerOf, readAnswer, readSpeeds, readWeights, writeAnswer, writeBytes};
-ghost use Rattle.jobs.specs.Inner.{recordsRefusal, Accepted, Reads};
+ghost use Rattle.jobs.specs.Inner.{recordsRefusal, Counted, Reads};
 use fields::get_field;
 use fields::put_field;
 use refusals::MAX_SPEED;
@@ -196,7 +196,7 @@ fn read_tested(
     speeds: &mut [u32],
     weights: &mut [u32],
 ) -> JobRead
-    requires { ⌜ Accepted (now file) processors tasks ⌝ }
+    requires { ⌜ Counted (now file) processors tasks ⌝ }
     ensures { λ r. ⌜ Reads (now (file .entry)) (now (speeds .entry)) (now (weights .entry)) r (now (speeds .exit)) (now (weights .exit)) ⌝ }
 {
     let found = test_counts(processors, tasks);

@@ -7,7 +7,7 @@ use native.Mathlib.Omega.{arith}
 use native.Mathlib.Decide.{decLe}
 use native.Mathlib.Numerals.{add-one}
 use lib.ListN.{getD}
-use Rattle.parts.specs.Rising.{Rising, Spanned, LastAtMost}
+use Rattle.parts.specs.Rising.{Rising, near, Spanned, LastAtMost}
 
 -- Where the entry is above the cap, so is every later one.
 pub rising-above : {xs : List ℕ} {n cap : ℕ} → Rising xs n → (i j : ℕ) → i ≤ j → j ≤ n → cap < getD xs i 0 → cap < getD xs j 0
@@ -74,7 +74,7 @@ module _ {xs : List ℕ} {n cap low : ℕ} (k : ℕ) {r : ℕ} (w : Rising xs n)
       }
 
 -- What is last up to the entry before the eighth is last where the eighth is above the cap.
-pub near-last : {xs : List ℕ} {a n cap low m r : ℕ} → Spanned xs a n cap low 8 → low + 8 ≤ n → low + 8 ≡ suc m → LastAtMost xs low m cap r
+pub near-last : {xs : List ℕ} {a n cap low m r : ℕ} → Spanned xs a n cap low near → low + near ≤ n → low + near ≡ suc m → LastAtMost xs low m cap r
     → LastAtMost xs low n cap r
 near-last {xs} {a} {n} {cap} {low} {m} {r} b h e c =
     record {
@@ -84,7 +84,7 @@ near-last {xs} {a} {n} {cap} {low} {m} {r} b h e c =
       above = λ l.
           elim (decLe (suc r) m) [
             | yes k ↦ c .above k
-            | no k ↦ subst (λ (i : ℕ). cap < getD xs i 0) (let z : low + 8 ≡ suc r = omega (arith, c .to) in z) (b .above h)
+            | no k ↦ subst (λ (i : ℕ). cap < getD xs i 0) (let z : low + near ≡ suc r = omega (arith, c .to) in z) (b .above h)
           ];
     }
 

@@ -8,6 +8,10 @@ pub record Rising (xs : List ℕ) (n : ℕ) : Type 0 where
   pub enough : n < length xs
   pub up : (i j : ℕ) → i ≤ j → j ≤ n → getD xs i 0 ≤ getD xs j 0
 
+-- The search ends by counting where the last index is fewer than so many entries on.
+abbrev pub near : ℕ
+near = 8
+
 -- low is an index from a to n whose entry is at most the cap, and the entry a step on, if there is one, is above it.
 pub record Spanned (xs : List ℕ) (a n cap low step : ℕ) : Type 0 where
   pub from : a ≤ low

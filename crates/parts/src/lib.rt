@@ -8,7 +8,7 @@ ghost use Rattle.bound.specs.Order.{over};
 ghost use Rattle.chain.specs.Lists.{sum};
 ghost use Rattle.chain.specs.Job.{Job, jobOf, processors, ideal, Partition, boundAt, bottleneck};
 ghost use Rattle.parts.specs.Prefix.{prefixes, loadBetween, Ready};
-ghost use Rattle.parts.specs.Rising.{Rising, Spanned, LastAtMost};
+ghost use Rattle.parts.specs.Rising.{Rising, near, Spanned, LastAtMost};
 use bound::Bound;
 
 // What a method ends with: the bottleneck found, and the count of its moves or trials.
@@ -146,6 +146,9 @@ pub fn measure_in(speeds: &[u32], weights: &[u32], sums: &[u32], separators: &[u
     greatest
 }
 
+// The search takes steps of this many entries, twice as many, and so on; it ends by counting the last fewer than so many.
+const NEAR: usize = 8;
+
 // An index whose entry is at most a cap, and a step: the entry a step on is above the cap, or past the last.
 pub struct Span {
     pub low: usize,
@@ -158,7 +161,7 @@ pub fn gallop(xs: &[u32], a: usize, n: usize, cap: u32) -> Span
     ensures { λ r. ⌜ Spanned (now (xs .entry)) a n cap (r .low) (r .step) ⌝ }
 {
     let mut low = a;
-    let mut step: usize = 8;
+    let mut step = NEAR;
     while step <= n - low {
         if cap < xs[low + step] {
             return Span { low, step };
@@ -169,15 +172,15 @@ pub fn gallop(xs: &[u32], a: usize, n: usize, cap: u32) -> Span
     Span { low, step }
 }
 
-// Inner. The same with a step of 8, by halving the step.
+// Inner. The same with the least step, by halving the step.
 pub fn halve(xs: &[u32], span: Span, n: usize, cap: u32) -> usize
     requires { ⌜ Rising (now xs) n ⌝ }
     requires { ⌜ Spanned (now xs) (span .low) n cap (span .low) (span .step) ⌝ }
-    ensures { λ r. ⌜ Spanned (now (xs .entry)) (span .low) n cap r 8 ⌝ }
+    ensures { λ r. ⌜ Spanned (now (xs .entry)) (span .low) n cap r near ⌝ }
 {
     let mut low = span.low;
     let mut step = span.step;
-    while 8 < step {
+    while NEAR < step {
         step -= step / 2;
         if step <= n - low {
             if xs[low + step] <= cap {
@@ -206,14 +209,14 @@ pub fn last_counted(xs: &[u32], low: usize, more: usize, cap: u32) -> usize
     r
 }
 
-// Inner. The last entry at most the cap, where it is fewer than 8 on.
+// Inner. The last entry at most the cap, where it is near.
 pub fn last_near(xs: &[u32], low: usize, n: usize, cap: u32) -> usize
     requires { ⌜ Rising (now xs) n ⌝ }
-    requires { ⌜ Spanned (now xs) low n cap low 8 ⌝ }
+    requires { ⌜ Spanned (now xs) low n cap low near ⌝ }
     ensures { λ r. ⌜ LastAtMost (now (xs .entry)) low n cap r ⌝ }
 {
-    if 8 <= n - low {
-        return last_counted(xs, low, 7, cap);
+    if NEAR <= n - low {
+        return last_counted(xs, low, NEAR - 1, cap);
     }
     last_counted(xs, low, n - low, cap)
 }

@@ -1,15 +1,16 @@
--- `gallop` meets its contract: what was passed is at most the cap, and the step is the way so far and 8.
+-- `gallop` meets its contract: what was passed is at most the cap, and the step is the way so far and the least step.
 -- Assumes nothing.
 use Prim.Native.Nat.{_+_, _-_, _≤_}
 use mathlib.Core.Path.{_≡_}
 use native.Mathlib.Omega.{arith}
 use lib.ListN.{getD}
+use Rattle.parts.specs.Rising.{near}
 use Rattle.parts.proofs.gallop.Statement.{statement}
 use Rattle.parts.proofs.gallop.Tie as tie
 
 abbrev Inv-loop : tie.InvT-loop
 Inv-loop xs a n cap low₀ step₀ low step =
-    (a ≤ low) × (low ≤ n) × (step + a ≡ low + 8) × (getD xs low 0 ≤ cap)
+    (a ≤ low) × (low ≤ n) × (step + a ≡ low + near) × (getD xs low 0 ≤ cap)
 
 abbrev μ-loop : tie.MeasureT-loop
 μ-loop xs a n cap low₀ step₀ low step = n - low

@@ -2,7 +2,7 @@
 -- Assumes nothing.
 use Prim.Native.Nat.{_-_, _/_}
 use native.Mathlib.Omega.{arith}
-use Rattle.parts.specs.Rising.{Rising, Spanned}
+use Rattle.parts.specs.Rising.{near, Rising, Spanned}
 use Rattle.parts.proofs.Search.{half-stays, half-goes, step-at-most}
 use Rattle.parts.proofs.halve.Statement.{statement}
 use Rattle.parts.proofs.halve.Tie as tie
@@ -61,7 +61,7 @@ loop-again-3 c =
 returns : tie.Need-returns Inv-loop μ-loop
 returns c =
     let l = c .before .loop in
-    step-at-most (l .inv .0) (l .inv .1) 8 (omega arith)
+    step-at-most (l .inv .0) (l .inv .1) near (omega arith)
 
 pub halve-spec : {M : Type 1} → statement M
 halve-spec =

@@ -1,4 +1,4 @@
--- `last_near` meets its contract: seven more entries, or all that are left.
+-- `last_near` meets its contract: all entries that are near, or all that are left.
 -- Assumes nothing.
 use native.Mathlib.Omega.{arith}
 use borrow.Author.Needs.{needs}
@@ -10,6 +10,9 @@ use Rattle.parts.proofs.last_near.Tie as tie
 sub-if1 : tie.Need-sub-if1
 sub-if1 c = search needs
 
+sub-last-counted : tie.Need-sub-last-counted
+sub-last-counted c = search needs
+
 last-counted-requires : tie.Need-last-counted-requires
 last-counted-requires c κs =
     let s = c .before .before in
@@ -20,8 +23,8 @@ returns c =
     let s = c .before .before .before in
     near-last (s .pre .1) (omega arith) (omega arith) (c .last-counted .ensures)
 
-sub-last-counted : tie.Need-sub-last-counted
-sub-last-counted c = search needs
+sub-last-counted-2 : tie.Need-sub-last-counted-2
+sub-last-counted-2 c = search needs
 
 last-counted-requires-2 : tie.Need-last-counted-requires-2
 last-counted-requires-2 c κs =
@@ -38,8 +41,9 @@ last-near-spec =
     tie.close
     (tie.spec
     sub-if1
+    sub-last-counted
     last-counted-requires
     returns
-    sub-last-counted
+    sub-last-counted-2
     last-counted-requires-2
     returns-2)
