@@ -37,7 +37,7 @@ in_manual() {
     awk '/^\.SH/ { inside = $2 == "REFUSALS" } inside && /^[0-9]+$/ { n = $0; getline; print n ": " $0 }' docs/strips.1
 }
 
-# The numbers of definitions: 'test N (' under a comment that quotes "N, ..". Each number once, in rising order.
+# The numbers of definitions: 'test N (' under a comment that begins 'Refusal N: '. Each number once, in rising order.
 in_definitions() {
     sed -n 's/^\(.*[ =]\)\{0,1\}test \([0-9][0-9]*\) (.*/\2/p' "$@" |
         awk '{ seen[$1 + 0] = 1; if ($1 + 0 > most) most = $1 + 0 } END { for (n = 0; n <= most; n++) if (seen[n]) print n }'
@@ -45,7 +45,7 @@ in_definitions() {
 
 # The tests whose number is another than the one quoted above them.
 misquoted() {
-    awk '/^-- "[0-9]+,/ { quoted = $2; gsub(/[^0-9]/, "", quoted) }
+    awk '/^-- Refusal [0-9]+: / { quoted = $3; gsub(/[^0-9]/, "", quoted) }
         match($0, /test [0-9]+ \(/) {
             n = substr($0, RSTART + 5, RLENGTH - 7)
             if (n != quoted) print FILENAME ": test " n " under the quote of " quoted

@@ -1,4 +1,4 @@
-// Bidding: document 01, "The three methods", 2. All functions here are inner: their callers have tested the job.
+// Bidding: scope 5.10 and 5.11. All functions here are inner: their callers have tested the job.
 ghost use Prim.Native.Nat.{suc, _<_};
 ghost use mathlib.Core.Path.{_≡_};
 ghost use mathlib.Core.List.{_++_};

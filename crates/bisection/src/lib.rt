@@ -1,4 +1,4 @@
-// Bisection: document 01, "The three methods", 3. All functions here are inner: their callers have tested the job.
+// Bisection: scope 5.12 to 5.16. All functions here are inner: their callers have tested the job.
 ghost use Prim.Native.Nat.{suc, _<_};
 ghost use mathlib.Core.Path.{_≡_};
 ghost use lib.ListN.{length};

@@ -4,11 +4,11 @@ use mathlib.Core.Bool.{Bool, true, false, not}
 use lib.Dec.{T, leb}
 use Rattle.bound.specs.declared.Bound.{Bound}
 
--- Document 01: "A bound is a pair, load and speed". The pair a/b.
+-- Scope 2.1: "A bound is a pair: a load over a speed". The pair a/b.
 abbrev pub over : ℕ → ℕ → Bound
 over a b = record { load = a; speed = b }
 
--- "with its own nought (0/1)"
+-- Scope 2.2: "Nought is the bound 0/1"
 abbrev pub nought : Bound
 nought = over 0 1
 
@@ -16,7 +16,7 @@ nought = over 0 1
 abbrev pub infinite : Bound
 infinite = over 1 0
 
--- "its own comparison: a/b ≤ c/d means a × d ≤ c × b"
+-- Scope 2.3: "a/b is at most c/d where a × d is at most c × b"
 unfoldable pub le : Bound → Bound → Bool
 le B C = leb (B .load * C .speed) (C .load * B .speed)
 

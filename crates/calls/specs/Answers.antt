@@ -1,5 +1,5 @@
 -- What measuring, the probe and the heuristic answer, and what they leave in the lent list of separators: each one definition
--- on the whole input, refusals included. Document 01, "Trial at a bound", "Quick plan", "Who causes which number".
+-- on the whole input, refusals included. Scope, sections 2, 3, 4 and 8.
 use Prim.Native.Nat.{ℕ, suc}
 use mathlib.Core.Bool.{cond}
 use mathlib.Core.List.{List}
@@ -18,7 +18,7 @@ use Rattle.calls.specs.declared.Measured.the-variants.{Bottleneck, Refus
 use Rattle.calls.specs.declared.Probed.{Probed}
 use Rattle.calls.specs.declared.Probed.the-variants.{Answered, Refused as ProbeRefused}
 
--- Document 01's number of an answer: 0 where the call is accepted.
+-- The scope's number of an answer: 0 where the call is accepted.
 abbrev pub measuredNumber : Measured → ℕ
 measuredNumber (Bottleneck B) = 0
 measuredNumber (Refused n) = n
@@ -31,7 +31,7 @@ probedNumber (ProbeRefused n) = n
 unfoldable pub measuredOf : ℕ → Bound → Measured
 measuredOf number B = cond (eqb number 0) (Bottleneck B) (Refused number)
 
--- "Measuring a division gives its bottleneck."
+-- Scope 2.7: "To measure a division is to give its bottleneck."
 unfoldable pub measureAnswer : Job → List ℕ → Measured
 measureAnswer job s = measuredOf (refusal job (measureInputs job s)) (bottleneck job (take (suc (processors job)) s))
 
@@ -39,15 +39,15 @@ measureAnswer job s = measuredOf (refusal job (measureInputs job s)) (bottleneck
 unfoldable pub probedOf : ℕ → Outcome → Probed
 probedOf number outcome = cond (eqb number 0) (Answered outcome) (ProbeRefused number)
 
--- "If that is within the bound the trial fits .. A trial that fails answers with the least next bid"
+-- Scope 3.3: "The trial fits where the last share is within the bound". Scope 3.4: "it answers with the least next bid".
 unfoldable pub probeAnswer : Job → Bound → List ℕ → Probed
 probeAnswer job B s = probedOf (refusal job (probeInputs job B (length s))) (probe job B)
 
--- "the trial fits and the separators are written. A trial that fails .. leaves the separators untouched."
+-- Scope 3.3: "its separators are then written". Scope 3.4: "Else it fails: it .. writes nothing."
 unfoldable pub probeWrites : Job → Bound → List ℕ → List ℕ
 probeWrites job B s = cond (fits job B) (lentAfter (refusal job (probeInputs job B (length s))) (walk job B) s) s
 
--- "The separators are written and their bottleneck is given."
+-- Scope 4.3: "The separators are written, and their bottleneck is the answer."
 unfoldable pub heuristicAnswer : Job → List ℕ → Measured
 heuristicAnswer job s = measuredOf (refusal job (heuristicInputs job (length s))) (bottleneck job (heuristic job))
 

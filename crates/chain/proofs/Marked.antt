@@ -1,4 +1,4 @@
--- The marked jobs of document 01, and three more, hold of the definitions: the checker computes the whole table.
+-- The worked jobs of the scope, section 11, and three more, hold of the definitions: the checker computes the whole table.
 -- Assumes nothing.
 use mathlib.Core.List.{_++_}
 use lib.Dec.{T}

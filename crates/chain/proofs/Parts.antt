@@ -153,6 +153,6 @@ module _ {job : Job} {s : List ℕ} (w : Partition job s) where
   pub weights-add-up : sumTo (λ p. partWeight job (at s p) (at s (suc p))) (processors job) ≡ totalWeight job
   weights-add-up = weights-to (processors job) (omega arith) ∙ ap (partWeight job 0) (w .end) ∙ weight-all job
 
-  -- "The loads add up to Wtot."
+  -- Scope 7.8: "The loads of a plan file add up to Wtot."
   pub loads-add-up : sumTo (λ p. partLoad job (at s p) (at s (suc p))) (processors job) ≡ totalWeight job
   loads-add-up = sum-same (λ p. load-weight job (at s p) (at s (suc p))) (processors job) ∙ weights-add-up

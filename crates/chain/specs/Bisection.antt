@@ -1,4 +1,4 @@
--- Bisection. Document 01, "The three methods", 3.
+-- Bisection. Scope 5.12 to 5.16.
 use Prim.Native.Nat.{ℕ, zero, suc}
 use mathlib.Core.Bool.{Bool, true, false, _&&_}
 use Rattle.bound.specs.Order.{le, middle}
@@ -7,12 +7,12 @@ use Rattle.chain.specs.Job.{Job, ideal, bottleneck}
 use Rattle.chain.specs.Probe.{walk, fits, nextBid}
 use Rattle.chain.specs.Heuristic.{heuristic}
 
--- "the low end is its least next bid and the high end the quick plan's bottleneck"
+-- Scope 5.13: "its low end is the least next bid of that trial, its high end the bottleneck of the quick plan"
 unfoldable pub firstEnds : Job → Ends
 firstEnds job = record { low = nextBid job (ideal job); high = bottleneck job (heuristic job) }
 
--- "a trial at half the sum of the ends; a fit brings the high end to that division's bottleneck, a failure brings the low end
--- to the next bid"
+-- Scope 5.15: "a trial at half the sum of the ends: a fit puts the high end at that division's bottleneck, a failure puts the low end at
+-- the next bid"
 unfoldable pub nextEnds : Job → Ends → Ends
 nextEnds job E =
     let M = middle (E .low) (E .high) in
@@ -24,6 +24,6 @@ unfoldable pub ends : Job → ℕ → Ends
 ends job zero = firstEnds job
 ends job (suc k) = nextEnds job (ends job k)
 
--- "until the two ends meet": they are equal as bounds.
+-- Scope 5.14: "until the two ends meet, equal as bounds"
 unfoldable pub meet : Ends → Bool
 meet E = le (E .low) (E .high) && le (E .high) (E .low)

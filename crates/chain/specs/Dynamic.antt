@@ -1,4 +1,4 @@
--- Dynamic programming. Document 01, "The three methods", 1. Table. Row p here is the document's row p + 1.
+-- Dynamic programming. Scope 5.4 to 5.9. Row p here is the scope's row p + 1.
 use Prim.Native.Nat.{ℕ, zero, suc, _+_, _-_}
 use lib.Dec.{ltb}
 use Rattle.bound.specs.declared.Bound.{Bound}
@@ -6,7 +6,7 @@ use Rattle.bound.specs.Order.{le, pick, greater, lesser}
 use Rattle.chain.specs.Lists.{sumTo, smallestFrom}
 use Rattle.chain.specs.Job.{Job, tasks, last, offer}
 
--- "max(B(p−1,j), W(j+1,i)/ep)", for the row before, given as a function of j, and processor p.
+-- Scope 5.6: "max(B(p−1,j), W(j+1,i)/ep)", for the row before, given as a function of j, and processor p.
 unfoldable pub candidate : Job → (ℕ → Bound) → ℕ → ℕ → ℕ → Bound
 candidate job before p i j = greater (before j) (offer job p j i)
 
@@ -14,18 +14,18 @@ candidate job before p i j = greater (before j) (offer job p j i)
 unfoldable pub startOf : Job → ℕ → ℕ → ℕ
 startOf job p i = 0
 
--- "the crossing of (p,i) is the smallest j ≤ i with B(p−1,j) ≥ W(j+1,i)/ep"
+-- Scope 5.5: "the crossing of (p,i) is the smallest j ≤ i with W(j+1,i)/ep at most B(p−1,j)"
 unfoldable pub crossingOf : Job → (ℕ → Bound) → ℕ → ℕ → ℕ
 crossingOf job before p i =
     let a = startOf job p i in
     smallestFrom (λ j. le (offer job p j i) (before j)) a (i - a)
 
--- "the lesser of max(..) at the crossing and, if the crossing is above 0, at the index before it"
+-- Scope 5.6: "at the crossing and, where the crossing is above 0, at the index before"
 -- Here the crossing is c, and a is where j begins.
 unfoldable pub lesserAt : (ℕ → Bound) → ℕ → ℕ → Bound
 lesserAt f a c = pick (ltb a c) (lesser (f c) (f (c - 1))) (f c)
 
--- "B(1,i) = W(1,i)/e1. For p ≥ 2 .."
+-- Scope 5.4: "B(1,i) = W(1,i)/e1." Scope 5.6: "B(p,i) is the lesser of max(B(p−1,j), W(j+1,i)/ep)"
 unfoldable pub tableValue : Job → ℕ → ℕ → Bound
 tableValue job zero i = offer job 0 0 i
 tableValue job (suc p) i =
@@ -35,12 +35,12 @@ tableValue job (suc p) i =
 unfoldable pub crossing : Job → ℕ → ℕ → ℕ
 crossing job p i = crossingOf job (tableValue job p) (suc p) i
 
--- "For each p ≥ 2 a pointer starts at 0 and only moves on, one index a move, from crossing to crossing as i grows from 0."
+-- Scope 5.8: "For each p ≥ 2 a pointer starts at 0 and goes on, one index a move, from crossing to crossing as i goes up from 0."
 -- The moves in row p + 1 until i.
 unfoldable pub movesTo : Job → ℕ → ℕ → ℕ
 movesTo job p zero = crossing job p 0
 movesTo job p (suc i) = movesTo job p i + (crossing job p (suc i) - crossing job p i)
 
--- "Count: the moves made"
+-- Scope 5.9: "The table's count is its moves"
 unfoldable pub moves : Job → ℕ
 moves job = sumTo (λ p. movesTo job p (tasks job)) (last job)

@@ -1,5 +1,5 @@
--- The job, its parts and its partitions. Document 01, "The job". Processors are counted from 0 here: processor p is the
--- document's machine p + 1, and a part from a to b is the document's tiles a + 1 to b.
+-- The job, its parts and its partitions. Scope, sections 1 and 2. Processors are counted from 0 here: processor p is
+-- the scope's machine p + 1, and a part from a to b is the scope's tiles a + 1 to b.
 use Prim.Native.Nat.{ℕ, zero, suc, _-_, _≤_, _<_}
 use mathlib.Core.Path.{_≡_}
 use mathlib.Core.Bool.{Bool}
@@ -16,11 +16,11 @@ pub record Job : Type 0 where
   pub weights : List ℕ
   pub speeds : List ℕ
 
--- "Where a job comes as lists"
+-- Scope 1.5: "A job may come as two lists"
 abbrev pub jobOf : List ℕ → List ℕ → Job
 jobOf es ws = record { weights = ws; speeds = es }
 
--- "P is the length of the list of speeds and N that of the list of weights."
+-- Scope 1.5: "P is then how many speeds there are, N how many weights."
 abbrev pub tasks : Job → ℕ
 tasks job = length (job .weights)
 
@@ -48,7 +48,8 @@ pub record Valid (job : Job) : Type 0 where
 unfoldable pub partOf : Job → ℕ → ℕ → List ℕ
 partOf job a b = take (b - a) (drop a (job .weights))
 
--- "W(a,b) is the total weight of tiles a to b, 0 if a > b." Here the tasks of the part from a to b: W(a + 1, b).
+-- Scope 1.6: "W(a,b) is the weight of the tiles a to b together; it is 0 where a is greater than b." Here W(a + 1, b), of the part
+-- from a to b.
 unfoldable pub partWeight : Job → ℕ → ℕ → ℕ
 partWeight job a b = sum (partOf job a b)
 
@@ -56,14 +57,14 @@ partWeight job a b = sum (partOf job a b)
 unfoldable pub partLoad : Job → ℕ → ℕ → ℕ
 partLoad job a b = partWeight job a b
 
--- "Wtot is all weight, Etot all speed."
+-- Scope 1.7: "Wtot is the weight of all tiles, Etot the speed of all machines."
 abbrev pub totalWeight : Job → ℕ
 totalWeight job = sum (job .weights)
 
 abbrev pub totalSpeed : Job → ℕ
 totalSpeed job = sum (job .speeds)
 
--- "The heaviest of no tiles is 0."
+-- Scope 1.8: "The heaviest weight of no tiles is 0."
 abbrev pub heaviest : Job → ℕ
 heaviest job = greatestOf (job .weights)
 
@@ -78,7 +79,7 @@ slowestOf (e ∷ es) = leastOf e es
 abbrev pub slowest : Job → ℕ
 slowest job = slowestOf (job .speeds)
 
--- "A share's bound is W of the share over the machine's speed." The part from a to b on processor p.
+-- Scope 2.4: "The bound of a share is its weight over the speed of its machine." The part from a to b on processor p.
 unfoldable pub partBound : Job → ℕ → ℕ → ℕ → Bound
 partBound job p a b = over (partLoad job a b) (speedOf job p)
 
@@ -94,28 +95,28 @@ offer job p a b = partBound job p a b
 abbrev pub at : List ℕ → ℕ → ℕ
 at s p = getD s p 0
 
--- "A division is a list of P + 1 separators s0 = 0 ≤ s1 ≤ … ≤ sP = N"
+-- Scope 1.9: "A division is P + 1 separators, s0 = 0 ≤ s1 ≤ … ≤ sP = N."
 pub record Partition (job : Job) (s : List ℕ) : Type 0 where
   pub count : length s ≡ suc (processors job)
   pub first : at s 0 ≡ 0
   pub grows : (p : ℕ) → p < processors job → at s p ≤ at s (suc p)
   pub end : at s (processors job) ≡ tasks job
 
--- "machine p takes tiles s(p−1)+1 to sp, perhaps none": the bound of processor p's part ("share").
+-- Scope 1.10: "Machine p takes the tiles s(p−1) + 1 to sp, and may take none: its share." The bound of processor p's part.
 unfoldable pub boundAt : Job → List ℕ → ℕ → Bound
 boundAt job s p = partBound job p (at s p) (at s (suc p))
 
--- "The bottleneck is the greatest share's bound, given as the pair (not reduced) of the lowest-numbered machine that has it."
--- Of the processors 0 to p:
+-- Scope 2.5: "The bottleneck of a division is the greatest bound of its shares." Scope 2.6: "It is given as a pair that is not reduced,
+-- that of the first machine in the row which has it." Of the processors 0 to p:
 unfoldable pub bottleneckTo : Job → List ℕ → ℕ → Bound
 bottleneckTo job s zero = boundAt job s 0
 bottleneckTo job s (suc p) = greater (bottleneckTo job s p) (boundAt job s (suc p))
 
--- "Measuring a division gives its bottleneck."
+-- Scope 2.7: "To measure a division is to give its bottleneck."
 unfoldable pub bottleneck : Job → List ℕ → Bound
 bottleneck job s = bottleneckTo job s (last job)
 
--- "The ideal is Wtot/Etot."
+-- Scope 2.8: "The ideal is Wtot/Etot."
 unfoldable pub ideal : Job → Bound
 ideal job = over (totalWeight job) (totalSpeed job)
 

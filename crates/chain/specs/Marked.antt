@@ -1,4 +1,4 @@
--- The marked jobs of document 01, "Jobs to hold it against", as one table, and what it means that a row holds.
+-- The worked jobs of the scope, section 11, as one table, and what it means that a row holds.
 use Prim.Native.Nat.{ℕ, zero, suc}
 use mathlib.Core.Bool.{Bool, true, false, not, _&&_, _||_}
 use mathlib.Core.List.{List, [], _∷_}
@@ -113,8 +113,7 @@ jobD = jobOf (1 ∷ 1 ∷ []) (0 ∷ 0 ∷ [])
 abbrev pub jobE : Job
 jobE = jobOf (1 ∷ 1 ∷ []) (6 ∷ [])
 
--- The table. A's counts, allowances and imbalance are those of the listing that `strips` writes; C's, D's and E's allowances
--- and imbalances, which document 01 leaves out, are worked out by hand.
+-- The table, with the figures of the scope's section 11.
 unfoldable pub marked : List Row
 marked =
     planned jobA (0 ∷ 1 ∷ 3 ∷ []) (over 11 3) 222 (three 2 2 2) (three 3 4 8)

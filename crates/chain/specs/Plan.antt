@@ -1,4 +1,4 @@
--- What a plan is, and what it is held against. Document 01, "The three methods"; demand 3.
+-- What a plan is, and what it is held against. Scope, sections 5, 6 and 10.
 use Prim.Native.Nat.{ℕ, zero, suc, _+_, _-_, _*_, _/_, _≤_}
 use mathlib.Core.Path.{_≡_}
 use mathlib.Core.Bool.{not, cond}
@@ -43,27 +43,27 @@ leastBottleneck job = leastBound (map (bottleneck job) (partitions job))
 unfoldable pub planOf : Job → List ℕ
 planOf job = walk job (leastBottleneck job)
 
--- Demand 3: "Every other division has at least as great a bottleneck; where equal as bounds, each of its separators is at or
+-- Scope 10.6: "Every other division has a bottleneck at least as great; where it is equal as a bound, each of its separators is at or
 -- before the plan's."
 pub record Best (job : Job) (s : List ℕ) : Type 0 where
   pub partition : Partition job s
   pub least : (t : List ℕ) → Partition job t → bottleneck job s ≼ bottleneck job t
   pub furthest : (t : List ℕ) → Partition job t → bottleneck job t ≈ bottleneck job s → (p : ℕ) → at t p ≤ at s p
 
--- The table ends with B(P,N). "Count: the moves made"
+-- The table ends with B(P,N). Scope 5.9: "The table's count is its moves".
 pub record TableEnds (job : Job) (count : ℕ) (found : Bound) : Type 0 where
   pub counted : count ≡ moves job
   pub yields : found ≡ tableValue job (last job) (tasks job)
 
--- "at each least next bid until one fits. Count: trials, the one that fits included."
+-- Scope 5.10: "until a trial fits". Scope 5.11: "Bidding's count is its trials, with the one that fits."
 pub record BiddingEnds (job : Job) (count : ℕ) (found : Bound) : Type 0 where
   pub failures : ℕ
   pub first-fit : T (isFirst (λ k. fits job (bidding job k)) failures)
   pub counted : count ≡ suc failures
   pub yields : found ≡ bidding job failures
 
--- "A trial at the ideal; if it fits, done. If not, .. Bisection goes round until the two ends meet and yields their value ..
--- Count: trials, the first included."
+-- Scope 5.12: "Bisection tries the ideal and is done where that fits." Scope 5.14: "It goes round until the two ends meet, equal as
+-- bounds, and yields their value." Scope 5.16: "Bisection's count is its trials, with the first."
 pub data BisectionEnds (job : Job) (count : ℕ) (found : Bound) : Type 0 where
   at-once : T (fits job (ideal job)) → count ≡ 1 → found ≡ ideal job → BisectionEnds job count found
   after : (rounds : ℕ) → T (not (fits job (ideal job))) → T (isFirst (λ k. meet (ends job k)) rounds) → count ≡ suc rounds
@@ -75,27 +75,27 @@ MethodEnds Table job count found = TableEnds job count found
 MethodEnds Bidding job count found = BiddingEnds job count found
 MethodEnds Bisection job count found = BisectionEnds job count found
 
--- "heaviest" in D. Over the slowest speed it is how far bisection's ends are apart at most when it begins.
+-- The heaviest weight in D. Over the slowest speed it is how far bisection's ends are apart at most when it begins.
 abbrev pub breadth : Job → ℕ
 breadth job = heaviest job
 
--- "D = ⌊heaviest·fastest²/slowest⌋"
+-- Scope 6.3: "D is heaviest × fastest² / slowest, rounded down"
 unfoldable pub difference : Job → ℕ
 difference job = breadth job * (fastest job * fastest job) / slowest job
 
--- "table at most (P−1)·N, bidding at most (P−1)·N+1, bisection at most 1 + binary digits of D"
+-- Scope 6.2: "(P − 1) × N for the table, (P − 1) × N + 1 for bidding and 1 + the binary digits of D for bisection"
 unfoldable pub allowance : Method → Job → ℕ
 allowance Table job = last job * tasks job
 allowance Bidding job = last job * tasks job + 1
 allowance Bisection job = 1 + digits (difference job)
 
--- "the imbalance: 1000 × (bottleneck − ideal) / ideal, rounded down, and 0 if Wtot is 0"
+-- Scope 6.4: "The imbalance is 1000 × (bottleneck − ideal) / ideal, rounded down; it is 0 where Wtot is 0."
 unfoldable pub imbalance : Job → Bound → ℕ
 imbalance job B =
     cond (eqb (totalWeight job) 0) 0
     (1000 * (B .load * totalSpeed job - totalWeight job * B .speed) / (totalWeight job * B .speed))
 
--- "A plan carries its count, its allowance .., the bottleneck of its separators and the imbalance"
+-- Scope 6.1: "A plan carries its separators, its count, its allowance, the bottleneck of its separators and its imbalance."
 pub record Plan : Type 0 where
   pub separators : List ℕ
   pub count : ℕ
@@ -103,8 +103,8 @@ pub record Plan : Type 0 where
   pub bound : Bound
   pub excess : ℕ
 
--- A plan of the job by the method. "All end with one walk at the bottleneck found, which writes the separators and is not
--- counted."
+-- A plan of the job by the method. Scope 5.2: "Each ends with one walk of the trial at the bottleneck that it found; the walk writes
+-- the separators and is not counted."
 pub record PlanBy (method : Method) (job : Job) (plan : Plan) : Type 0 where
   pub found : Bound
   pub ended : MethodEnds method job (plan .count) found

@@ -1,4 +1,4 @@
--- The greedy walk, the probe ("trial at a bound") and the next bid. Document 01, "Trial at a bound".
+-- The greedy walk, the probe ("trial") and the next bid. Scope, section 3.
 use Prim.Native.Nat.{ℕ, zero, suc, _+_, _-_}
 use mathlib.Core.Bool.{Bool, true, false}
 use mathlib.Core.List.{List, [], _∷_, _++_}
@@ -10,7 +10,7 @@ use Rattle.chain.specs.declared.Outcome.the-variants.{Fits, Fails}
 use Rattle.chain.specs.Lists.{tabulate, greatestFrom}
 use Rattle.chain.specs.Job.{Job, tasks, last, within, offer}
 
--- "sp is the greatest index from s(p−1) to N whose share is within the bound"
+-- Scope 3.1: "sp is the greatest index from s(p−1) to N whose share is within the bound"
 unfoldable pub reach : Job → ℕ → ℕ → Bound → ℕ
 reach job p a B = greatestFrom (λ b. within job p a b B) a (tasks job - a)
 
@@ -19,29 +19,29 @@ unfoldable pub separator : Job → Bound → ℕ → ℕ
 separator job B zero = 0
 separator job B (suc p) = reach job p (separator job B p) B
 
--- "For p = 1 to P − 1, sp .. The last machine takes all the rest."
+-- Scope 3.1: "Each machine p before the last takes all it can". Scope 3.2: "The last machine takes what is left."
 unfoldable pub walk : Job → Bound → List ℕ
 walk job B = tabulate (separator job B) (suc (last job)) ++ (tasks job ∷ [])
 
--- "If that is within the bound the trial fits": the last processor's part, all the rest.
+-- Scope 3.3: "The trial fits where the last share is within the bound"
 unfoldable pub fits : Job → Bound → Bool
 fits job B = within job (last job) (separator job B (last job)) (tasks job) B
 
--- "Machine p < P bids its share with one more tile; the last bids all that remains."
+-- Scope 3.5: "A machine before the last bids its share with the next tile added; the last bids what is left."
 unfoldable pub bid : Job → Bound → ℕ → Bound
 bid job B p =
     let a = separator job B p in
     pick (ltb p (last job)) (offer job p a (suc (separator job B (suc p)))) (offer job p a (tasks job))
 
--- "Least ties go to the lowest machine." The least bid of the processors 0 to p.
+-- Scope 3.6: "Of equal bids the one of the first machine in the row is taken." The least bid of the processors 0 to p.
 unfoldable pub leastBidTo : Job → Bound → ℕ → Bound
 leastBidTo job B zero = bid job B 0
 leastBidTo job B (suc p) = lesser (leastBidTo job B p) (bid job B (suc p))
 
--- "the least next bid"
+-- Scope 3.4: "the least next bid"
 unfoldable pub nextBid : Job → Bound → Bound
 nextBid job B = leastBidTo job B (last job)
 
--- The answer of a probe: it fits, or it "fails .. with the least next bid".
+-- The answer of a probe: it fits, or (Scope 3.4: "it answers with the least next bid") it fails.
 unfoldable pub probe : Job → Bound → Outcome
 probe job B = elim (fits job B) [ true ↦ Fits | false ↦ Fails (nextBid job B) ]

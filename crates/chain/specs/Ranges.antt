@@ -9,7 +9,7 @@ pub record Small (B : Bound) : Type 0 where
   pub speed-positive : 1 ≤ B .speed
   pub speed-small : B .speed ≤ maxSpeed
 
--- "A lent bound has a load of at most 100,000,000,000,000 and a speed of 1 to 1,000,000,000".
+-- Scope 2.9: "A bound that a caller lends has a load of 0 to 100,000,000,000,000 and a speed of 1 to 1,000,000,000."
 pub record Lendable (B : Bound) : Type 0 where
   pub load-lent : B .load ≤ maxBoundLoad
   pub speed-positive : 1 ≤ B .speed

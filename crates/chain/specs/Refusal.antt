@@ -1,4 +1,4 @@
--- The refusals that lists can cause, by number, and the order of their tests. Document 01, "Who causes which number".
+-- The refusals that lists can cause, by number, and the order of their tests. Scope, section 8.
 use Prim.Native.Nat.{ℕ, suc, _+_}
 use mathlib.Core.Bool.{Bool, true, _&&_, cond}
 use mathlib.Core.List.{List, [], _∷_, _++_, map}
@@ -26,31 +26,31 @@ unfoldable pub eachBetween : ℕ → ℕ → List ℕ → Bool
 eachBetween lo hi [] = true
 eachBetween lo hi (x ∷ xs) = between lo hi x && eachBetween lo hi xs
 
--- "1, not 1 to 3"
+-- Refusal 1: "the method is not 1 to 3"
 unfoldable pub methodTest : ℕ → Test
 methodTest m = test 1 (between 1 3 m)
 
--- "5, speed out of range"
+-- Refusal 5: "a speed is out of range"
 unfoldable pub speedsTest : List ℕ → Test
 speedsTest es = test 5 (eachBetween 1 maxSpeed es)
 
--- "6, weight out of range"
+-- Refusal 6: "a weight is out of range"
 unfoldable pub weightsTest : List ℕ → Test
 weightsTest ws = test 6 (eachBetween 0 maxWeight ws)
 
--- "7, machine count out of range"
+-- Refusal 7: "the number of machines is out of range"
 unfoldable pub processorsTest : List ℕ → Test
 processorsTest es = test 7 (between 1 maxProcessors (length es))
 
--- "8, tile count above 2,048"
+-- Refusal 8: "there are more than 2,048 tiles"
 unfoldable pub tasksTest : List ℕ → Test
 tasksTest ws = test 8 (leb (length ws) maxTasks)
 
--- "9, one too short": a lent list of this length, where this much is needed.
+-- Refusal 9: "a lent list is too short": a list of this length, where this much is needed.
 unfoldable pub lengthTest : ℕ → ℕ → Test
 lengthTest needed given = test 9 (leb needed given)
 
--- "10, load or speed out of range"
+-- Refusal 10: "the load or the speed of a lent bound is out of range"
 unfoldable pub boundTest : Bound → Test
 boundTest B = test 10 (leb (B .load) maxBoundLoad && between 1 maxBoundSpeed (B .speed))
 
@@ -60,17 +60,17 @@ isPartition job s =
     eqb (length s) (suc (processors job)) && eqb (at s 0) 0 && all (λ p. leb (at s p) (at s (suc p))) (processors job)
     && eqb (at s (processors job)) (tasks job)
 
--- "11, its first P + 1 entries aren't a division"
+-- Refusal 11: "the first P + 1 entries are no division"
 unfoldable pub partitionTest : Job → List ℕ → Test
 partitionTest job s = test 11 (isPartition job (take (suc (processors job)) s))
 
--- The number of the first test that fails, 0 where all pass. "They are tested in that order .. A call makes only the tests
--- whose inputs it takes."
+-- The number of the first test that fails, 0 where all pass. Scope 8.2: "The tests are made in the order of the numbers, each call
+-- making those of the inputs that it takes."
 unfoldable pub firstRefusal : List Test → ℕ
 firstRefusal [] = 0
 firstRefusal (t ∷ ts) = cond (t .passes) (firstRefusal ts) (t .number)
 
--- What every call with a job by lists tests. "With lists, all speeds come before all weights."
+-- What every call with a job by lists tests. Scope 8.4: "In lists all speeds are tested before all weights."
 unfoldable pub jobTests : Job → List Test
 jobTests job =
     speedsTest (job .speeds) ∷ weightsTest (job .weights) ∷ processorsTest (job .speeds) ∷ tasksTest (job .weights) ∷ []

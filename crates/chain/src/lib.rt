@@ -8,7 +8,7 @@ pub enum Method {
     Bisection,
 }
 
-// The answer of a probe ("trial at a bound"): it fits, or it fails with the least next bid.
+// The answer of a probe ("trial"): it fits, or it fails with the least next bid.
 pub enum Outcome {
     Fits,
     Fails(Bound),

@@ -1,4 +1,4 @@
-// The table (dynamic programming): document 01, "The three methods", 1. All functions here are inner: their callers have
+// The table (dynamic programming): scope 5.4 to 5.9. All functions here are inner: their callers have
 // tested the job. The scratch list holds the N + 1 prefix sums, and behind them two rows of N + 1 pairs, load and speed.
 ghost use Prim.Native.Nat.{suc, _+_, _*_, _≤_, _<_, _^_};
 ghost use mathlib.Core.Path.{_≡_};

@@ -1,4 +1,4 @@
--- A field of 32 bits in a list of bytes. Document 01, "Files and the C call": "All fields are little-endian."
+-- A field of 32 bits in a list of bytes. Scope 7.1: "Every field is little-endian."
 use Prim.Native.Nat.{ℕ, _+_, _*_, _/_, _%_}
 use mathlib.Core.List.{List, [], _∷_}
 use lib.ListN.{getD}

@@ -1,4 +1,4 @@
-// The heuristic of Miguet and Pierson (document 01's quick plan) over prefix sums.
+// The heuristic of Miguet and Pierson ("quick plan", scope, section 4) over prefix sums.
 // All functions here are inner: their callers have tested the job.
 ghost use Prim.Native.Nat.{suc, _-_, _*_, _/_, _^_, _≤_, _<_};
 ghost use mathlib.Core.Path.{_≡_};

@@ -1,6 +1,4 @@
--- Document 01's numbers for small files and for lists, by computing the definitions: "Speed 10,000 passes; 0 and 10,001 give 5.
--- Weight 1,000,001 gives 6. An empty file and 257 machines give 7. 2,049 tiles give 8. A 7-byte file gives 2." The long files are
--- run by a program.
+-- The scope's numbers for small files and for lists (11.4 to 11.8), by computing the definitions. The long files are run by a program.
 -- Assumes nothing.
 use Prim.Native.Nat.{ℕ}
 use mathlib.Core.Path.{_≡_, refl}

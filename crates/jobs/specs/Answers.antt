@@ -13,8 +13,8 @@ use Rattle.jobs.specs.JobFile.{jobBytes}
 use Rattle.jobs.specs.Parse.{speedsOf, weightsOf, fileTests}
 use Rattle.jobs.specs.declared.JobRead.{JobRead}
 
--- Document 01's number of an answer, 0 where the call is accepted; and its values, 0 where it is refused: "A refusal gives its
--- number only".
+-- The scope's number of an answer, 0 where the call is accepted; and its values, 0 where it is refused. Scope 8.1: "A refusal gives
+-- a number and nothing else".
 unfoldable pub readNumber : JobRead → ℕ
 readNumber (JobRead.Read processors tasks) = 0
 readNumber (JobRead.Refused number) = number
@@ -32,8 +32,7 @@ unfoldable pub answerOf : ℕ → List ℕ → JobRead
 answerOf number file =
     cond (eqb number 0) (JobRead.Read (length (speedsOf file)) (length (weightsOf file))) (JobRead.Refused number)
 
--- Reading. "9, one too short: .. N weights and P speeds when reading." The lists of speeds and weights that are lent have these
--- lengths.
+-- Reading. Scope 8.7: "on reading, P speeds and N weights". The lists of speeds and weights that are lent have these lengths.
 unfoldable pub readTests : List ℕ → ℕ → ℕ → List Test
 readTests file lentSpeeds lentWeights =
     fileTests file

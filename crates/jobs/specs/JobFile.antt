@@ -1,27 +1,27 @@
--- What a job file is: the bytes of a job, as they are written. Document 01, "Files and the C call". Nothing here reads.
+-- What a job file is: the bytes of a job, as they are written. Scope, section 7. Nothing here reads.
 use Prim.Native.Nat.{ℕ}
 use mathlib.Core.Path.{_≡_}
 use mathlib.Core.List.{List, [], _∷_, _++_}
 use Rattle.chain.specs.Job.{Job, Valid}
 use Rattle.fields.specs.Field.{fieldBytes}
 
--- "the kind (1 machine, 2 tile)"
+-- Scope 7.3: "1 for a machine, 2 for a tile"
 abbrev pub processorKind : ℕ
 processorKind = 1
 
 abbrev pub taskKind : ℕ
 taskKind = 2
 
--- "byte 0 is the kind .., bytes 1 to 3 are zero, bytes 4 to 7 are the speed or weight."
+-- Scope 7.3: "Byte 0 of a record is its kind". Scope 7.4: "Bytes 1 to 3 are zero." Scope 7.5: "Bytes 4 to 7 are the speed or the weight."
 unfoldable pub recordBytes : ℕ → ℕ → List ℕ
 recordBytes kind v = kind ∷ 0 ∷ 0 ∷ 0 ∷ fieldBytes v
 
--- A record of this kind for each value, "without a header".
+-- A record of this kind for each value. Scope 7.2: "with no header".
 unfoldable pub recordsBytes : ℕ → List ℕ → List ℕ
 recordsBytes kind [] = []
 recordsBytes kind (v ∷ vs) = recordBytes kind v ++ recordsBytes kind vs
 
--- "Machines come first."
+-- Scope 7.6: "All machines stand before all tiles."
 unfoldable pub jobBytes : Job → List ℕ
 jobBytes job = recordsBytes processorKind (job .speeds) ++ recordsBytes taskKind (job .weights)
 

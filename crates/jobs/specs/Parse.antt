@@ -1,5 +1,5 @@
--- How a job file is read and tested, by its places. Document 01, "Files and the C call", "Who causes which number". Records and
--- their bytes are counted from 0.
+-- How a job file is read and tested, by its places. Scope, sections 7 and 8. Records and their bytes are
+-- counted from 0.
 use Prim.Native.Nat.{ℕ, zero, suc, _+_, _*_, _/_, _%_}
 use mathlib.Core.Bool.{Bool, false, not, cond, _&&_, _||_}
 use mathlib.Core.List.{List, [], _∷_, _++_}
@@ -12,7 +12,7 @@ use Rattle.fields.specs.Field.{fieldAt}
 use Rattle.refusals.specs.Inputs.{recordSize}
 use Rattle.jobs.specs.JobFile.{processorKind, taskKind}
 
--- "8-byte records without a header": how many.
+-- Scope 7.2: "8-byte records with no header": how many.
 abbrev pub recordCount : List ℕ → ℕ
 recordCount file = length file / recordSize
 
@@ -20,11 +20,11 @@ recordCount file = length file / recordSize
 unfoldable pub byteAt : List ℕ → ℕ → ℕ → ℕ
 byteAt file i k = getD file (recordSize * i + k) 0
 
--- "byte 0 is the kind"
+-- Scope 7.3: "Byte 0 of a record is its kind"
 unfoldable pub kindAt : List ℕ → ℕ → ℕ
 kindAt file i = byteAt file i 0
 
--- "bytes 4 to 7 are the speed or weight": the byte of a record at which its value begins.
+-- Scope 7.5: "Bytes 4 to 7 are the speed or the weight": the byte of a record at which its value begins.
 abbrev pub valuePlace : ℕ
 valuePlace = 4
 
@@ -40,35 +40,35 @@ unfoldable pub taskBefore : List ℕ → ℕ → Bool
 taskBefore file zero = false
 taskBefore file (suc i) = taskBefore file i || isKind taskKind file i
 
--- "2, length not a multiple of 8."
+-- Refusal 2: "the length of the file is not a multiple of 8"
 unfoldable pub multipleTest : List ℕ → Test
 multipleTest file = test 2 (eqb (length file % recordSize) 0)
 
--- "bytes 1 to 3 are zero"
+-- Scope 7.4: "Bytes 1 to 3 are zero."
 unfoldable pub blank : List ℕ → ℕ → Bool
 blank file i = eqb (byteAt file i 1) 0 && eqb (byteAt file i 2) 0 && eqb (byteAt file i 3) 0
 
--- "3, a kind other than 1 or 2, or bytes 1 to 3 not zero."
+-- Refusal 3: "a record's kind is not 1 or 2, or its bytes 1 to 3 are not zero"
 unfoldable pub formTest : List ℕ → ℕ → Test
 formTest file i = test 3 ((isKind processorKind file i || isKind taskKind file i) && blank file i)
 
--- "4, a machine after a tile."
+-- Refusal 4: "a machine stands behind a tile"
 unfoldable pub orderTest : List ℕ → ℕ → Test
 orderTest file i = test 4 (not (isKind processorKind file i && taskBefore file i))
 
--- "5, speed out of range."
+-- Refusal 5: "a speed is out of range"
 unfoldable pub speedTest : List ℕ → ℕ → Test
 speedTest file i = test 5 (not (isKind processorKind file i) || between 1 maxSpeed (valueAt file i))
 
--- "6, weight out of range."
+-- Refusal 6: "a weight is out of range"
 unfoldable pub weightTest : List ℕ → ℕ → Test
 weightTest file i = test 6 (not (isKind taskKind file i) || between 0 maxWeight (valueAt file i))
 
--- "in rising order within a record"
+-- Scope 8.3: "within a record in the order of the numbers"
 unfoldable pub recordTests : List ℕ → ℕ → List Test
 recordTests file i = formTest file i ∷ orderTest file i ∷ speedTest file i ∷ weightTest file i ∷ []
 
--- "3 to 6 go record by record from the front": the first n records.
+-- Scope 8.3: "the tests 3 to 6 go record by record from the front": the first n records.
 unfoldable pub recordsTests : List ℕ → ℕ → List Test
 recordsTests file zero = []
 recordsTests file (suc n) = recordsTests file n ++ recordTests file n

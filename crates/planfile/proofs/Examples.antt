@@ -1,4 +1,4 @@
--- Job A of document 01: its plan file, byte by byte, and the order of 9 and 11.
+-- Job A of the scope: its plan file, byte by byte, and the order of 9 and 11.
 -- Assumes nothing.
 use mathlib.Core.Path.{_≡_, refl}
 use mathlib.Core.List.{[], _∷_, _++_}

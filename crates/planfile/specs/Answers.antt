@@ -13,7 +13,8 @@ use Rattle.planfile.specs.PlanFile.{planBytes}
 unfoldable pub writePlanAnswer : Job → List ℕ → ℕ → Written
 writePlanAnswer job s lent = writtenOf (refusal job (writePlanInputs job s lent)) (planNeeded job)
 
--- The buffer after writing: "The plan fills the first 16 × P bytes; later bytes stay.", and on a refusal it "keeps its contents".
+-- The buffer after writing. Scope 7.10: "The plan fills the first 16 × P bytes of the buffer; the bytes behind them stay."
+-- Scope 8.1, of a refusal: "every list or buffer that was lent stays as it was".
 unfoldable pub writePlanBytes : Job → List ℕ → List ℕ → List ℕ
 writePlanBytes job s plan =
     lentAfter (refusal job (writePlanInputs job s (length plan))) (planBytes job (take (suc (processors job)) s)) plan

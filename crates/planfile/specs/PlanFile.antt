@@ -1,10 +1,10 @@
--- What a plan file is: the bytes of a job's partition, as they are written. Document 01, "Files and the C call".
+-- What a plan file is: the bytes of a job's partition, as they are written. Scope, section 7.
 use Prim.Native.Nat.{ℕ, zero, suc}
 use mathlib.Core.List.{List, [], _++_}
 use Rattle.chain.specs.Job.{Job, processors, speedOf, partLoad, at}
 use Rattle.fields.specs.Field.{fieldBytes}
 
--- "four 32-bit fields: s(p−1), sp, load, speed", the document's machine p being processor p − 1 here.
+-- Scope 7.7: "four 32-bit fields: s(p−1), sp, the load, the speed", the scope's machine p being processor p − 1 here.
 unfoldable pub planRecord : Job → List ℕ → ℕ → List ℕ
 planRecord job s p =
     fieldBytes (at s p) ++ fieldBytes (at s (suc p)) ++ fieldBytes (partLoad job (at s p) (at s (suc p))) ++ fieldBytes (speedOf job p)
@@ -14,6 +14,6 @@ unfoldable pub planBytesTo : Job → List ℕ → ℕ → List ℕ
 planBytesTo job s zero = []
 planBytesTo job s (suc p) = planBytesTo job s p ++ planRecord job s p
 
--- "A plan file is one 16-byte record a machine"
+-- Scope 7.7: "A plan file has one 16-byte record for each machine"
 unfoldable pub planBytes : Job → List ℕ → List ℕ
 planBytes job s = planBytesTo job s (processors job)

@@ -1,5 +1,4 @@
--- What planning answers and leaves in the lent lists, refusals included. Document 01, "The three methods", "Who causes which
--- number"; demand 3.
+-- What planning answers and leaves in the lent lists, refusals included. Scope, sections 5, 6, 8 and 10.
 use Prim.Native.Nat.{ℕ, suc, _≤_, _<_}
 use mathlib.Core.Path.{_≡_}
 use mathlib.Core.List.{List, _++_}
@@ -53,7 +52,7 @@ PlanAnswer job m s t s′ t′ (Accepted f) =
 PlanAnswer job m s t s′ t′ (Refused n) =
     (planRefusal job m (length s) (length t) ≡ n) × (0 < n) × (s′ ≡ s) × (t′ ≡ t)
 
--- Document 01's number of an answer.
+-- The scope's number of an answer.
 abbrev pub plannedNumber : Planned → ℕ
 plannedNumber (Accepted f) = 0
 plannedNumber (Refused n) = n

@@ -1,4 +1,4 @@
--- What the C call answers and leaves in the plan buffer. Document 01, "Files and the C call", "Who causes which number".
+-- What the C call answers and leaves in the plan buffer. Scope, sections 7 and 8.
 use Prim.Native.Nat.{ℕ}
 use mathlib.Core.Path.{_≡_}
 use mathlib.Core.List.{List, [], _∷_, _++_}
@@ -11,7 +11,7 @@ use Rattle.refusals.specs.Inputs.{planNeeded}
 use Rattle.refusals.specs.Answers.{lentAfter}
 use Rattle.planfile.specs.PlanFile.{planBytes}
 
--- The tests of the file, then "16 × P plan bytes", in a buffer of this length;
+-- The tests of the file, then (Scope 8.7: "16 × P bytes for a plan") that of a buffer of this length;
 unfoldable pub hostFileTests : List ℕ → ℕ → List Test
 hostFileTests file lent = fileTests file ++ lengthTest (planNeeded (jobIn file)) lent ∷ []
 
@@ -19,14 +19,14 @@ hostFileTests file lent = fileTests file ++ lengthTest (planNeeded (jobIn file))
 unfoldable pub hostTests : List ℕ → ℕ → ℕ → List Test
 hostTests file m lent = methodTest m ∷ hostFileTests file lent
 
--- "they get 0 or the refusal number": by a method that is known, and by any number.
+-- Scope 7.9: "gets 0 or the number of a refusal": by a method that is known, and by any number.
 unfoldable pub fileAnswer : List ℕ → ℕ → ℕ
 fileAnswer file lent = firstRefusal (hostFileTests file lent)
 
 unfoldable pub hostAnswer : List ℕ → ℕ → ℕ → ℕ
 hostAnswer file m lent = firstRefusal (hostTests file m lent)
 
--- "The plan fills the first 16 × P bytes; later bytes stay." By the number of the refusal.
+-- Scope 7.10: "The plan fills the first 16 × P bytes of the buffer; the bytes behind them stay." By the number of the refusal.
 unfoldable pub bytesAfter : ℕ → List ℕ → List ℕ → List ℕ
 bytesAfter number file plan = lentAfter number (planBytes (jobIn file) (planOf (jobIn file))) plan
 

@@ -1,5 +1,4 @@
--- What each call by lists takes beside the job. Document 01, "Who causes which number": "A call makes only the tests whose inputs it
--- takes."
+-- What each call by lists takes beside the job. Scope 8.2: "each call making those of the inputs that it takes".
 use Prim.Native.Nat.{ℕ, suc, _+_, _*_}
 use mathlib.Core.List.{List}
 use lib.ListN.{length}
@@ -7,34 +6,34 @@ use Rattle.bound.specs.declared.Bound.{Bound}
 use Rattle.chain.specs.Job.{Job, tasks, processors}
 use Rattle.chain.specs.Refusal.{Inputs, nothing, withMethod, lending, withBound, withDivision}
 
--- "8-byte records", of a job file.
+-- Scope 7.2: "8-byte records", of a job file.
 abbrev pub recordSize : ℕ
 recordSize = 8
 
--- "one 16-byte record a machine", of a plan file.
+-- Scope 7.7: "one 16-byte record for each machine", of a plan file.
 abbrev pub planRecordSize : ℕ
 planRecordSize = 16
 
--- "9, one too short: P + 1 separators;
+-- Scope 8.7: "P + 1 separators"
 abbrev pub separatorsNeeded : Job → ℕ
 separatorsNeeded job = suc (processors job)
 
--- 5 × (N + 1) work numbers of 32 bits;
+-- Scope 8.7: "5 × (N + 1) work numbers"
 abbrev pub scratchLists : ℕ
 scratchLists = 5
 
 abbrev pub scratchNeeded : Job → ℕ
 scratchNeeded job = scratchLists * suc (tasks job)
 
--- 16 × P plan bytes;
+-- Scope 8.7: "16 × P bytes for a plan"
 abbrev pub planNeeded : Job → ℕ
 planNeeded job = planRecordSize * processors job
 
--- 8 × (N + P) job bytes".
+-- Scope 8.7: "8 × (N + P) bytes for a job file"
 abbrev pub bytesNeeded : Job → ℕ
 bytesNeeded job = recordSize * (tasks job + processors job)
 
--- Measuring: the separators, "a division".
+-- Measuring: the separators of a division.
 abbrev pub measureInputs : Job → List ℕ → Inputs
 measureInputs job s = lending (separatorsNeeded job) (length s) (withDivision s nothing)
 
@@ -57,6 +56,6 @@ planInputs job m separators scratch = withMethod m (planLists job separators scr
 abbrev pub writeInputs : Job → ℕ → Inputs
 writeInputs job lent = lending (bytesNeeded job) lent nothing
 
--- Writing a plan file: the separators, "a division", and a buffer of this length.
+-- Writing a plan file: the separators of a division, and a buffer of this length.
 abbrev pub writePlanInputs : Job → List ℕ → ℕ → Inputs
 writePlanInputs job s lent = lending (separatorsNeeded job) (length s) (lending (planNeeded job) lent (withDivision s nothing))

@@ -1,4 +1,4 @@
--- The methods by their numbers. Document 01, "The three methods".
+-- The methods by their numbers. Scope, section 5.
 use Prim.Native.Nat.{ℕ}
 use mathlib.Core.Bool.{cond}
 use lib.Dec.{eqb}
@@ -6,6 +6,6 @@ use Rattle.chain.specs.declared.Method.the-variants.{Table, Bidding, Bisection}
 use Rattle.refusals.specs.declared.Chosen.{Chosen}
 use Rattle.refusals.specs.declared.Chosen.the-variants.{Known, Unknown}
 
--- "1. Table", "2. Bidding", "3. Bisection".
+-- Scope 5.1: "Method 1 is the table, method 2 bidding, method 3 bisection."
 unfoldable pub chosenOf : ℕ → Chosen
 chosenOf n = cond (eqb n 1) (Known Table) (cond (eqb n 2) (Known Bidding) (cond (eqb n 3) (Known Bisection) Unknown))

@@ -18,11 +18,11 @@ figureCount = 6
 abbrev pub planLine : ℕ → ℕ
 planLine separators = spaced * (figureCount + separators)
 
--- The first line: "tiles", " machines", " total" and the line feed, and three numbers.
+-- The first line: `tiles`, ` machines`, ` total` and the line feed, and three numbers.
 abbrev pub countsLine : ℕ
 countsLine = 21 + 3 * spaced
 
--- The line of a refusal: "refused" and the line feed, and a number.
+-- The line of a refusal: `refused` and the line feed, and a number.
 abbrev pub refusalLine : ℕ
 refusalLine = 8 + spaced
 

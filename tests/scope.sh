@@ -1,0 +1,61 @@
+#!/bin/sh
+# Every quote in a comment of crates/ stands in docs/SCOPE.md: behind 'Scope 3.4:' in that sentence, behind 'Refusal 7:' in that row of
+# the table, else anywhere on the page. ' .. ' in a quote leaves words out.
+set -eu
+cd "$(dirname "$0")/.."
+find crates -name '*.antt' -o -name '*.rt' | grep -v /declared/ | LC_ALL=C sort | xargs awk '
+  function squeeze(s) { gsub(/[ \t\n]+/, " ", s); return s }
+  # Whether the pieces of the quote follow one another in the text.
+  function holds(text, quote,    pieces, n, i, at) {
+    n = split(quote, pieces, " \\.\\. ")
+    for (i = 1; i <= n; i++) {
+      at = index(text, pieces[i])
+      if (at == 0) return 0
+      text = substr(text, at + length(pieces[i]))
+    }
+    return 1
+  }
+  function wrong(what) { printf "%s: %s\n", file, what; failed++ }
+  # The quotes of one comment, each with the place named before it.
+  function judge(    rest, before, quote, place) {
+    rest = squeeze(comment)
+    comment = ""
+    while (match(rest, /"[^"]*"/)) {
+      before = substr(rest, 1, RSTART - 1)
+      quote = substr(rest, RSTART + 1, RLENGTH - 2)
+      rest = substr(rest, RSTART + RLENGTH)
+      quotes++
+      if (match(before, /(Scope [0-9]+\.[0-9]+|Refusal [0-9]+)(, of a refusal)?: $/)) {
+        place = substr(before, RSTART)
+        sub(/(, of a refusal)?: $/, "", place)
+        if (!(place in said)) wrong("no " place " in docs/SCOPE.md")
+        else if (!holds(said[place], quote)) wrong(place " does not say \"" quote "\"")
+      } else if (!holds(page, quote)) wrong("docs/SCOPE.md does not say \"" quote "\"")
+    }
+    if (rest ~ /"/) wrong("a quote without its end: " rest)
+  }
+  BEGIN {
+    while ((getline line < "docs/SCOPE.md") > 0) {
+      page = page " " line
+      if (line ~ /^## [0-9]+ /) { section = line; sub(/^## /, "", section); sub(/ .*/, "", section) }
+      else if (line ~ /^## /) section = ""
+      if (section != "" && line ~ /^[0-9]+\. /) {
+        number = line; sub(/\..*/, "", number)
+        sub(/^[0-9]+\. /, "", line)
+        if (("Scope " section "." number) in said) { print "docs/SCOPE.md: two sentences " section "." number; failed++ }
+        said["Scope " section "." number] = line
+        sentences++
+      }
+      if (section == "8" && line ~ /^\| [0-9]+ \|/) { split(line, cell, " *\\| *"); said["Refusal " cell[2]] = cell[3] }
+    }
+    page = squeeze(page)
+  }
+  FNR == 1 { if (comment != "") judge(); file = FILENAME }
+  /^ *(--|\/\/) / { line = $0; sub(/^ *(--|\/\/) /, "", line); comment = comment " " line; next }
+  comment != "" { judge() }
+  END {
+    if (comment != "") judge()
+    if (sentences == 0 || quotes == 0) { print "tests/scope.sh: nothing to compare"; failed++ }
+    if (failed) { printf "tests/scope.sh: %d wrong\n", failed; exit 1 }
+    printf "tests/scope.sh: %d quotes, each in docs/SCOPE.md, which has %d sentences\n", quotes, sentences
+  }'
