@@ -48,7 +48,7 @@ extern "C" {
  *
  * No division of the job has a smaller bottleneck (the greatest weight / speed of a machine), and of all best divisions this is
  * the one whose separators are furthest along. The call needs no memory but some 50 KB of stack, keeps no state and may run in
- * several threads at once. A pointer may be NULL where its length is 0.
+ * several threads at once. A pointer may be NULL where its length is 0. The job's bytes and the plan's must not overlap.
  */
 uint32_t plan_job(const uint8_t *job, size_t job_len, uint32_t method, uint8_t *plan, size_t plan_len);
 

@@ -66,7 +66,7 @@ fn each_between(lo: u32, hi: u32, values: &[u32]) -> bool {
     values.iter().fold(true, |all, v| all & (lo..=hi).contains(v))
 }
 
-/// The tests of the two lists, in document 01's order.
+/// The tests of the two lists, in the scope's order.
 fn test_job(speeds: &[u32], weights: &[u32]) -> Result<(), u32> {
     if !each_between(1, MAX_SPEED, speeds) {
         return Err(5);

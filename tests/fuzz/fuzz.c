@@ -1,5 +1,5 @@
 /* A fuzz target of plan_job. The first two bytes choose the method and the plan buffer, the rest is the job file. The answer is
- * judged by the rules of document 01 alone: the number by a reader of its own, a plan by what makes it the only best one. */
+ * judged by the rules of the scope alone: the number by a reader of its own, a plan by what makes it the only best one. */
 #include <stdio.h>
 #include <stdlib.h>
 #include <string.h>

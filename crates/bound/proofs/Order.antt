@@ -8,6 +8,7 @@ use native.Mathlib.Omega.{arith}
 use native.Mathlib.Decide.{decLe}
 use native.Mathlib.Nat.{mul-le-mul-right, le-of-mul-le-mul-right, one-le-mul}
 use lib.Dec.{T, leb, leb→le, le→leb, nleb→lt, T-not, not-T}
+use borrow.Author.Tests.{leb-true, leb-false}
 use Rattle.bound.specs.declared.Bound.{Bound}
 use Rattle.bound.specs.Order.{nought, infinite, le, _≼_, _≺_, _≈_, pick, greater, lesser, Real, Finite}
 
@@ -92,6 +93,15 @@ false-lt e = record { fails = subst (λ (b : Bool). T (not b)) (sym e) tt }
 -- Nought is at most every bound.
 pub nought-le : (B : Bound) → nought ≼ B
 nought-le B = make-le (omega arith)
+
+-- A bound is nought exactly where its load is 0.
+pub nought-load : (B : Bound) → le B nought ≡ true → B .load ≡ 0
+unfolding le
+nought-load B e = omega (arith, leb-true (B .load * 1) (0 * B .speed) e)
+
+pub not-nought : (B : Bound) → le B nought ≡ false → B .load ≡ 0 → ⊥
+unfolding le
+not-nought B e z = omega (arith, leb-false (B .load * 1) (0 * B .speed) e)
 
 -- A bound of load 0 is at most every bound.
 pub zero-load-le : {B : Bound} (C : Bound) → B .load ≡ 0 → B ≼ C

@@ -1,7 +1,7 @@
 // A bound: a load over a speed, compared exactly by cross products.
 ghost use Prim.Native.Nat.{_<_, _*_, _+_, _^_};
 ghost use mathlib.Core.Path.{_≡_};
-ghost use Rattle.bound.specs.Order.{le, greater, lesser, middle};
+ghost use Rattle.bound.specs.Order.{nought, le, greater, lesser, middle};
 
 pub struct Bound {
     pub load: u64,
@@ -21,6 +21,13 @@ impl Bound {
         ensures { λ r. ⌜ r ≡ le a b ⌝ }
     {
         a.load * b.speed <= b.load * a.speed
+    }
+
+    // Whether a is nought, as a bound.
+    pub fn is_nought(a: Bound) -> bool
+        ensures { λ r. ⌜ r ≡ le a nought ⌝ }
+    {
+        Bound::at_most(a, Bound::ZERO)
     }
 
     // The greater of two bounds, the first among equals. Inner: the two products fit 64 bits.

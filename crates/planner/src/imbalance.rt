@@ -15,9 +15,10 @@ pub fn imbalance_of(speeds: &[u32], weights: &[u32], total: u64, bottleneck: Bou
     requires { λ job. ⌜ (total ≡ sum (now weights)) × Small bottleneck × (ideal job ≼ bottleneck) ⌝ }
     ensures { λ job r. ⌜ r ≡ imbalance job bottleneck ⌝ }
 {
-    if total == 0 {
+    let speed = parts::total(speeds);
+    if Bound::is_nought(Bound { load: total, speed }) {
         return 0;
     }
     let ideal = total * bottleneck.speed;
-    1000 * (bottleneck.load * parts::total(speeds) - ideal) / ideal
+    1000 * (bottleneck.load * speed - ideal) / ideal
 }

@@ -1,4 +1,4 @@
-//! What every call must answer and leave behind, on any input, by document 01.
+//! What every call must answer and leave behind, on any input, by the scope (docs/SCOPE.md).
 
 use crate::job::{self, Job};
 use crate::methods::{self, Tried};

@@ -1,4 +1,4 @@
-//! The jobs A to E and the edge lines of document 01, with the values written there.
+//! The jobs A to E and the edge lines of the scope, section 11, with the values written there.
 
 use crate::answers::{bytes_of, After, Solved};
 use crate::check::Check;

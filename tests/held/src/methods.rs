@@ -1,4 +1,4 @@
-//! Trial, quick plan, the counts of the three methods and what else a plan carries, each as document 01 says it.
+//! Trial, quick plan, the counts of the three methods and what else a plan carries, each as the scope says it.
 
 use crate::job::Job;
 use crate::slow::{self, less, Bound};
