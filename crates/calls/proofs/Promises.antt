@@ -3,7 +3,7 @@
 use Prim.Native.Nat.{ℕ, suc}
 use mathlib.Core.Path.{_≡_, refl, sym, ap, subst, _∙_}
 use mathlib.Core.Bool.{Bool, true, false, not, cond}
-use mathlib.Core.List.{List, _++_}
+use mathlib.Core.List.{List, [], _∷_, _++_, List·Memᴰ}
 use mathlib.Core.Logic.{_≢_, _↔_}
 use native.Mathlib.Omega.{arith}
 use lib.Dec.{T, eqb, eqb→eq}
@@ -16,8 +16,9 @@ use Rattle.chain.specs.declared.Outcome.{Outcome}
 use Rattle.chain.specs.declared.Outcome.the-variants.{Fits, Fails}
 use Rattle.chain.specs.Probe.{walk, fits, nextBid, probe}
 use Rattle.chain.specs.Heuristic.{heuristic}
-use Rattle.chain.specs.Refusal.{refusal}
+use Rattle.chain.specs.Refusal.{speedsTest, weightsTest, processorsTest, tasksTest, lengthTest, boundTest, partitionTest, jobTests, callTests, refusal}
 use Rattle.chain.proofs.Tests.{T-true, T-false}
+use Rattle.chain.proofs.Refusals.{FirstFailing, gives, given-number}
 use Rattle.chain.proofs.Parts.{Proper, valid-proper, valid-plannable}
 use Rattle.chain.proofs.Walk as walks
 use Rattle.chain.proofs.NextBid as bids
@@ -64,6 +65,17 @@ module _ (job : Job) (s : List ℕ) where
   unfolding measureAnswer
   measure-number = measured-number (refusal job (measureInputs job s)) (bottleneck job (take (suc (processors job)) s))
 
+  -- It is 0, or one of 5 to 9 and 11;
+  pub measure-numbers : List·Memᴰ (measuredNumber (measureAnswer job s)) (0 ∷ 5 ∷ 6 ∷ 7 ∷ 8 ∷ 9 ∷ 11 ∷ [])
+  unfolding refusal callTests jobTests speedsTest weightsTest processorsTest tasksTest lengthTest partitionTest
+  measure-numbers = given-number (5 ∷ 6 ∷ 7 ∷ 8 ∷ 9 ∷ 11 ∷ []) (callTests job (measureInputs job s)) measure-number tt
+
+  -- and that of the first test that fails.
+  pub measure-gives : {n : ℕ} → n ≢ 0
+      → (measuredNumber (measureAnswer job s) ≡ n) ↔ FirstFailing (callTests job (measureInputs job s)) n
+  unfolding refusal
+  measure-gives h = gives (callTests job (measureInputs job s)) measure-number h
+
   -- A bottleneck is given for a partition alone, and it is that partition's.
   pub measure-promise : {B : Bound} → measureAnswer job s ≡ Bottleneck B
       → Partition job (take (suc (processors job)) s) × (B ≡ bottleneck job (take (suc (processors job)) s))
@@ -75,6 +87,16 @@ module _ (job : Job) (s : List ℕ) where
   pub heuristic-number : measuredNumber (heuristicAnswer job s) ≡ refusal job (heuristicInputs job (length s))
   unfolding heuristicAnswer
   heuristic-number = measured-number (refusal job (heuristicInputs job (length s))) (bottleneck job (heuristic job))
+
+  -- 0, or one of 5 to 9; that of the first test that fails.
+  pub heuristic-numbers : List·Memᴰ (measuredNumber (heuristicAnswer job s)) (0 ∷ 5 ∷ 6 ∷ 7 ∷ 8 ∷ 9 ∷ [])
+  unfolding refusal callTests jobTests speedsTest weightsTest processorsTest tasksTest lengthTest
+  heuristic-numbers = given-number (5 ∷ 6 ∷ 7 ∷ 8 ∷ 9 ∷ []) (callTests job (heuristicInputs job (length s))) heuristic-number tt
+
+  pub heuristic-gives : {n : ℕ} → n ≢ 0
+      → (measuredNumber (heuristicAnswer job s) ≡ n) ↔ FirstFailing (callTests job (heuristicInputs job (length s))) n
+  unfolding refusal
+  heuristic-gives h = gives (callTests job (heuristicInputs job (length s))) heuristic-number h
 
   -- A refusal leaves the list as it was.
   pub heuristic-keeps : refusal job (heuristicInputs job (length s)) ≢ 0 → heuristicWrites job s ≡ s
@@ -126,6 +148,16 @@ module _ (job : Job) (B : Bound) (s : List ℕ) where
   pub probe-number : probedNumber (probeAnswer job B s) ≡ refusal job (probeInputs job B (length s))
   unfolding probeAnswer
   probe-number = probed-number (refusal job (probeInputs job B (length s))) (probe job B)
+
+  -- 0, or one of 5 to 10; that of the first test that fails.
+  pub probe-numbers : List·Memᴰ (probedNumber (probeAnswer job B s)) (0 ∷ 5 ∷ 6 ∷ 7 ∷ 8 ∷ 9 ∷ 10 ∷ [])
+  unfolding refusal callTests jobTests speedsTest weightsTest processorsTest tasksTest lengthTest boundTest
+  probe-numbers = given-number (5 ∷ 6 ∷ 7 ∷ 8 ∷ 9 ∷ 10 ∷ []) (callTests job (probeInputs job B (length s))) probe-number tt
+
+  pub probe-gives : {n : ℕ} → n ≢ 0
+      → (probedNumber (probeAnswer job B s) ≡ n) ↔ FirstFailing (callTests job (probeInputs job B (length s))) n
+  unfolding refusal
+  probe-gives h = gives (callTests job (probeInputs job B (length s))) probe-number h
 
   -- A refusal leaves the list as it was.
   pub probe-keeps : refusal job (probeInputs job B (length s)) ≢ 0 → probeWrites job B s ≡ s

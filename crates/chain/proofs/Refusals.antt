@@ -1,11 +1,11 @@
--- A refusal's number is that of the first test that fails; lists are accepted exactly when they make a valid job, and a list of
--- separators exactly when it is a partition.
+-- A refusal's number is that of the first test that fails, and so one of the tests' numbers; lists are accepted exactly when they
+-- make a valid job, and a list of separators exactly when it is a partition.
 -- Assumes nothing.
 use Prim.Native.Nat.{ℕ, zero, suc, _≤_, _<_}
 use mathlib.Core.Path.{_≡_, refl, sym, ap, subst, _∙_}
-use mathlib.Core.Bool.{Bool, true, false, cond, _&&_}
-use mathlib.Core.List.{List, [], _∷_, _++_, map, List·Memᴰ, List·Memᴰ·head, List·Memᴰ·tail, List·Memᴰ·not-nil, List·Memᴰ·cases-cons, List·Memᴰ·append-cases, Memᴰ·of-map}
-use mathlib.Core.Logic.{_≢_, inl, inr}
+use mathlib.Core.Bool.{Bool, true, false, cond, _&&_, _||_}
+use mathlib.Core.List.{List, [], _∷_, _++_, map, List·Memᴰ, List·Memᴰ·head, List·Memᴰ·tail, List·Memᴰ·not-nil, List·Memᴰ·cases-cons, List·Memᴰ·append-cases, Memᴰ·cast, Memᴰ·of-map}
+use mathlib.Core.Logic.{_≢_, _↔_, inl, inr}
 use native.Mathlib.Omega.{arith}
 use native.Mathlib.Decide.{ℕ-discrete}
 use lib.Dec.{T, leb, eqb, leb→le, le→leb, eqb→eq, eqb-refl, lit≤}
@@ -147,6 +147,59 @@ refused-failing (t ∷ ts) h = go (t .passes) refl h (refused-failing ts)
         }
     go false e k below =
         record { before = []; failed = t; after = ts; whole = refl; passed = λ u m. absurd (List·Memᴰ·not-nil m); fails = e; gives = refl }
+
+-- A number that these tests give is n exactly when the first test to fail has the number n.
+pub gives : (ts : List Test) {m n : ℕ} → m ≡ firstRefusal ts → n ≢ 0 → (m ≡ n) ↔ FirstFailing ts n
+gives ts e h = (
+  λ k. subst (FirstFailing ts) (sym e ∙ k) (refused-failing ts (λ z. h (sym k ∙ e ∙ z))),
+  λ f. e ∙ failing-refused f,
+)
+
+-- n is one of the numbers; every test has one of the numbers: by computing.
+abbrev pub oneOf : List ℕ → ℕ → Bool
+oneOf [] n = false
+oneOf (m ∷ ms) n = eqb n m || oneOf ms n
+
+abbrev pub numbersIn : List ℕ → List Test → Bool
+numbersIn ns [] = true
+numbersIn ns (t ∷ ts) = oneOf ns (t .number) && numbersIn ns ts
+
+one-of : (ns : List ℕ) (n : ℕ) → T (oneOf ns n) → List·Memᴰ n ns
+one-of [] n h = absurd h
+one-of (m ∷ ms) n h = go (eqb n m) refl h (one-of ms n)
+  where
+    go : (b : Bool) → eqb n m ≡ b → T (b || oneOf ms n) → (T (oneOf ms n) → List·Memᴰ n ms) → List·Memᴰ n (m ∷ ms)
+    go true e x below = List·Memᴰ·head (eqb→eq n m (T-of e))
+    go false e x below = List·Memᴰ·tail (below x)
+
+-- Tests that have one of these numbers each give 0 or one of them.
+pub given-number : (ns : List ℕ) (ts : List Test) {n : ℕ} → n ≡ firstRefusal ts → T (numbersIn ns ts) → List·Memᴰ n (0 ∷ ns)
+unfolding firstRefusal
+given-number ns [] e h = List·Memᴰ·head e
+given-number ns (t ∷ ts) {n} e h =
+    go (t .passes) e (λ k. given-number ns ts k (and-right (oneOf ns (t .number)) (numbersIn ns ts) h))
+  where
+    go : (b : Bool) → n ≡ cond b (firstRefusal ts) (t .number) → (n ≡ firstRefusal ts → List·Memᴰ n (0 ∷ ns)) → List·Memᴰ n (0 ∷ ns)
+    go true k below = below k
+    go false k below =
+        List·Memᴰ·tail (Memᴰ·cast k (one-of ns (t .number) (and-left (oneOf ns (t .number)) (numbersIn ns ts) h)))
+
+-- Two lists of tests one after the other, and one number more.
+pub numbers-append : (ns : List ℕ) (ts us : List Test) → T (numbersIn ns ts) → T (numbersIn ns us) → T (numbersIn ns (ts ++ us))
+numbers-append ns [] us h k = k
+numbers-append ns (t ∷ ts) us h k =
+    and-both (oneOf ns (t .number)) (numbersIn ns (ts ++ us)) (and-left (oneOf ns (t .number)) (numbersIn ns ts) h)
+    (numbers-append ns ts us (and-right (oneOf ns (t .number)) (numbersIn ns ts) h) k)
+
+pub numbers-more : (m : ℕ) (ns : List ℕ) (ts : List Test) → T (numbersIn ns ts) → T (numbersIn (m ∷ ns) ts)
+numbers-more m ns [] h = tt
+numbers-more m ns (t ∷ ts) h =
+    and-both (oneOf (m ∷ ns) (t .number)) (numbersIn (m ∷ ns) ts) (go (eqb (t .number) m) (and-left (oneOf ns (t .number)) (numbersIn ns ts) h))
+    (numbers-more m ns ts (and-right (oneOf ns (t .number)) (numbersIn ns ts) h))
+  where
+    go : (b : Bool) → T (oneOf ns (t .number)) → T (b || oneOf ns (t .number))
+    go true x = tt
+    go false x = x
 
 -- The tests of a job have numbers above 0.
 pub job-numbered : (job : Job) → Numbered (jobTests job)

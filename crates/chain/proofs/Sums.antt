@@ -40,10 +40,13 @@ sum-grows f p (suc q) h =
     elim (decLe p q) [ yes l ↦ omega (arith, sum-grows f p q l) | no l ↦ rw (let e : p ≡ suc q = omega arith in e) (omega arith) ]
 
 -- Equal terms have equal sums.
-pub sum-same : {f g : ℕ → ℕ} → ((p : ℕ) → f p ≡ g p) → (n : ℕ) → sumTo f n ≡ sumTo g n
+pub sum-same-below : {f g : ℕ → ℕ} (n : ℕ) → ((p : ℕ) → p < n → f p ≡ g p) → sumTo f n ≡ sumTo g n
 unfolding sumTo
-sum-same h zero = refl
-sum-same h (suc n) = omega (arith, sum-same h n, h n)
+sum-same-below zero h = refl
+sum-same-below (suc n) h = omega (arith, sum-same-below n (λ p k. h p (omega arith)), h n (omega arith))
+
+pub sum-same : {f g : ℕ → ℕ} → ((p : ℕ) → f p ≡ g p) → (n : ℕ) → sumTo f n ≡ sumTo g n
+sum-same h n = sum-same-below n (λ p k. h p)
 
 -- A sum of greater or equal terms, one of them greater, is greater.
 pub sum-mono : (f g : ℕ → ℕ) → ((p : ℕ) → f p ≤ g p) → (n : ℕ) → sumTo f n ≤ sumTo g n

@@ -1,7 +1,7 @@
 -- What the calls promise: each number exactly when its test is the first to fail; a file read and written, a job written and read.
 -- Assumes nothing.
 use Prim.Native.Nat.{ℕ, _+_, _≤_}
-use mathlib.Core.Path.{_≡_, refl, sym, ap, subst, _∙_}
+use mathlib.Core.Path.{_≡_, refl, sym, ap, _∙_}
 use mathlib.Core.Bool.{Bool, true, false, cond}
 use mathlib.Core.List.{List, [], _∷_, _++_}
 use mathlib.Core.Logic.{_≢_, _↔_}
@@ -10,8 +10,8 @@ use lib.Dec.{eqb}
 use lib.ListN.{length, drop}
 use borrow.Author.Tests.{le-leb, eqb-true}
 use Rattle.chain.specs.Job.{Job, tasks, processors, Valid}
-use Rattle.chain.specs.Refusal.{Test, lengthTest, processorsTest, tasksTest, firstRefusal, jobTests, callTests, refusal}
-use Rattle.chain.proofs.Refusals.{Numbered, numbered-nil, numbered-cons, numbered-append, first-refusal-append, FirstFailing, failing-refused, refused-failing, job-accepted}
+use Rattle.chain.specs.Refusal.{lengthTest, processorsTest, tasksTest, firstRefusal, jobTests, callTests, refusal}
+use Rattle.chain.proofs.Refusals.{Numbered, numbered-nil, numbered-cons, numbered-append, first-refusal-append, FirstFailing, gives, job-accepted}
 use Rattle.fields.proofs.Laws.{Bytes}
 use Rattle.refusals.specs.Inputs.{bytesNeeded, writeInputs}
 use Rattle.refusals.specs.Answers.{writtenNumber, writtenBytes, lentAfter}
@@ -68,24 +68,18 @@ unfolding writeAnswer
 write-count job lent e = written-bytes (bytesNeeded job) e
 
 -- A number is given exactly when its test is the first to fail.
-pub gives : (ts : List Test) {n : ℕ} → n ≢ 0 → (firstRefusal ts ≡ n) ↔ FirstFailing ts n
-gives ts {n} h = (λ e. subst (FirstFailing ts) e (refused-failing ts (λ z. h (sym e ∙ z))), failing-refused)
-
 pub job-gives : (job : Job) {n : ℕ} → n ≢ 0 → (firstRefusal (jobTests job) ≡ n) ↔ FirstFailing (jobTests job) n
-job-gives job h = gives (jobTests job) h
+job-gives job h = gives (jobTests job) refl h
 
 pub read-gives : (file : List ℕ) (lentSpeeds lentWeights : ℕ) {n : ℕ} → n ≢ 0
     → (readNumber (readAnswer file lentSpeeds lentWeights) ≡ n) ↔ FirstFailing (readTests file lentSpeeds lentWeights) n
 unfolding readRefusal
-read-gives file a b {n} h =
-    subst (λ (m : ℕ). (m ≡ n) ↔ FirstFailing (readTests file a b) n) (sym (read-number file a b)) (gives (readTests file a b) h)
+read-gives file a b h = gives (readTests file a b) (read-number file a b) h
 
 pub write-gives : (job : Job) (lent : ℕ) {n : ℕ} → n ≢ 0
     → (writtenNumber (writeAnswer job lent) ≡ n) ↔ FirstFailing (callTests job (writeInputs job lent)) n
 unfolding refusal
-write-gives job lent {n} h =
-    subst (λ (m : ℕ). (m ≡ n) ↔ FirstFailing (callTests job (writeInputs job lent)) n) (sym (write-number job lent))
-    (gives (callTests job (writeInputs job lent)) h)
+write-gives job lent h = gives (callTests job (writeInputs job lent)) (write-number job lent) h
 
 -- An accepted file, read and then written into a buffer that is long enough, is there again.
 pub record WrittenAgain (file buffer : List ℕ) : Type 0 where

@@ -8,4 +8,5 @@ pub mod Reading
 pub mod Bytes
 pub mod RoundTrip
 pub mod Calls
+pub mod Promises
 pub mod Cases

@@ -2,4 +2,5 @@ pub mod Records
 pub mod Parts
 pub mod Fields
 pub mod Writing
+pub mod Promises
 pub mod Examples

@@ -8,3 +8,4 @@ pub mod Methods
 pub mod Accepted
 pub mod Lent
 pub mod Answering
+pub mod Promises

@@ -1,0 +1,44 @@
+-- The numbers that reading and writing a job file give.
+-- Assumes nothing.
+use Prim.Native.Nat.{ℕ, zero, suc}
+use mathlib.Core.List.{List, [], _∷_, List·Memᴰ}
+use lib.Dec.{T}
+use lib.ListN.{length}
+use Rattle.chain.specs.Job.{Job}
+use Rattle.chain.specs.Refusal.{speedsTest, weightsTest, processorsTest, tasksTest, lengthTest, jobTests, callTests, refusal}
+use Rattle.chain.proofs.Refusals.{numbersIn, numbers-append, given-number}
+use Rattle.refusals.specs.Inputs.{writeInputs}
+use Rattle.refusals.specs.Answers.{writtenNumber}
+use Rattle.jobs.specs.Parse.{recordCount, multipleTest, formTest, orderTest, speedTest, weightTest, recordTests, recordsTests, speedsOf, weightsOf, fileTests}
+use Rattle.jobs.specs.Answers.{readNumber, readTests, readRefusal, readAnswer, writeAnswer}
+use Rattle.jobs.proofs.Calls.{read-number, write-number}
+
+-- 2 to 9.
+abbrev pub fromTwo : List ℕ
+fromTwo = 2 ∷ 3 ∷ 4 ∷ 5 ∷ 6 ∷ 7 ∷ 8 ∷ 9 ∷ []
+
+-- The tests of a file have these numbers.
+module _ (file : List ℕ) where
+  records-in : (n : ℕ) → T (numbersIn fromTwo (recordsTests file n))
+  unfolding recordsTests recordTests formTest orderTest speedTest weightTest
+  records-in zero = tt
+  records-in (suc n) = numbers-append fromTwo (recordsTests file n) (recordTests file n) (records-in n) tt
+
+  pub file-in : T (numbersIn fromTwo (fileTests file))
+  unfolding fileTests multipleTest processorsTest tasksTest
+  file-in =
+      numbers-append fromTwo (recordsTests file (recordCount file)) (processorsTest (speedsOf file) ∷ tasksTest (weightsOf file) ∷ [])
+      (records-in (recordCount file)) tt
+
+-- Reading: 0, or one of 2 to 9.
+pub read-numbers : (file : List ℕ) (lentSpeeds lentWeights : ℕ)
+    → List·Memᴰ (readNumber (readAnswer file lentSpeeds lentWeights)) (0 ∷ 2 ∷ 3 ∷ 4 ∷ 5 ∷ 6 ∷ 7 ∷ 8 ∷ 9 ∷ [])
+unfolding readRefusal readTests lengthTest
+read-numbers file a b =
+    given-number fromTwo (readTests file a b) (read-number file a b)
+    (numbers-append fromTwo (fileTests file) (lengthTest (length (weightsOf file)) b ∷ lengthTest (length (speedsOf file)) a ∷ []) (file-in file) tt)
+
+-- Writing: 0, or one of 5 to 9.
+pub write-numbers : (job : Job) (lent : ℕ) → List·Memᴰ (writtenNumber (writeAnswer job lent)) (0 ∷ 5 ∷ 6 ∷ 7 ∷ 8 ∷ 9 ∷ [])
+unfolding refusal callTests jobTests speedsTest weightsTest processorsTest tasksTest lengthTest
+write-numbers job lent = given-number (5 ∷ 6 ∷ 7 ∷ 8 ∷ 9 ∷ []) (callTests job (writeInputs job lent)) (write-number job lent) tt

@@ -1,0 +1,56 @@
+-- The numbers that planning and the C call give, and the loads that the C call leaves.
+-- Assumes nothing.
+use Prim.Native.Nat.{ℕ, _+_, _*_}
+use mathlib.Core.Path.{_≡_, refl}
+use mathlib.Core.List.{List, [], _∷_, List·Memᴰ}
+use mathlib.Core.Logic.{_≢_, _↔_}
+use native.Mathlib.Omega.{arith}
+use lib.ListN.{length}
+use Rattle.chain.specs.Lists.{sumTo}
+use Rattle.chain.specs.Job.{Job, processors, totalWeight}
+use Rattle.chain.specs.Refusal.{methodTest, speedsTest, weightsTest, processorsTest, tasksTest, lengthTest, jobTests, callTests, refusal}
+use Rattle.chain.proofs.Demand.{plan-of-best}
+use Rattle.chain.proofs.Parts.{valid-plannable}
+use Rattle.chain.proofs.Refusals.{Numbered, numbered-nil, numbered-cons, numbered-append, FirstFailing, gives, given-number, numbers-append, numbers-more, append-accepted}
+use Rattle.fields.specs.Field.{fieldAt}
+use Rattle.jobs.specs.Parse.{jobIn, fileTests, fileRefusal}
+use Rattle.jobs.proofs.Calls.{file-numbered}
+use Rattle.jobs.proofs.Promises.{fromTwo, file-in}
+use Rattle.jobs.proofs.RoundTrip.{accepted-valid}
+use Rattle.planfile.proofs.Promises.{lent-loads-add-up}
+use Rattle.refusals.specs.Inputs.{planNeeded, planInputs}
+use Rattle.planner.specs.Answers.{planRefusal}
+use Rattle.planner.specs.HostCall.{hostFileTests, hostTests, hostAnswer, bytesAfter, hostWrites}
+
+-- Planning: 0, or one of 1 and 5 to 9; that of the first test that fails.
+module _ (job : Job) (m separators scratch : ℕ) where
+  pub plan-numbers : List·Memᴰ (planRefusal job m separators scratch) (0 ∷ 1 ∷ 5 ∷ 6 ∷ 7 ∷ 8 ∷ 9 ∷ [])
+  unfolding planRefusal refusal callTests jobTests methodTest speedsTest weightsTest processorsTest tasksTest lengthTest
+  plan-numbers = given-number (1 ∷ 5 ∷ 6 ∷ 7 ∷ 8 ∷ 9 ∷ []) (callTests job (planInputs job m separators scratch)) refl tt
+
+  pub plan-gives : {n : ℕ} → n ≢ 0
+      → (planRefusal job m separators scratch ≡ n) ↔ FirstFailing (callTests job (planInputs job m separators scratch)) n
+  unfolding planRefusal refusal
+  plan-gives h = gives (callTests job (planInputs job m separators scratch)) refl h
+
+-- The C call: 0, or one of 1 to 9; that of the first test that fails.
+module _ (file : List ℕ) (m lent : ℕ) where
+  pub host-numbers : List·Memᴰ (hostAnswer file m lent) (0 ∷ 1 ∷ 2 ∷ 3 ∷ 4 ∷ 5 ∷ 6 ∷ 7 ∷ 8 ∷ 9 ∷ [])
+  unfolding hostAnswer hostTests hostFileTests methodTest lengthTest
+  host-numbers =
+      given-number (1 ∷ fromTwo) (hostTests file m lent) refl
+      (numbers-append (1 ∷ fromTwo) (fileTests file) (lengthTest (planNeeded (jobIn file)) lent ∷ []) (numbers-more 1 fromTwo (fileTests file) (file-in file)) tt)
+
+  pub host-gives : {n : ℕ} → n ≢ 0 → (hostAnswer file m lent ≡ n) ↔ FirstFailing (hostTests file m lent) n
+  unfolding hostAnswer
+  host-gives h = gives (hostTests file m lent) refl h
+
+-- Scope 7.8: "The loads of a plan file add up to Wtot." As they are read from the buffer after the C call.
+pub host-loads-add-up : (file plan : List ℕ) (m : ℕ) → hostAnswer file m (length plan) ≡ 0
+    → sumTo (λ p. fieldAt (hostWrites file m plan) (16 * p + 8)) (processors (jobIn file)) ≡ totalWeight (jobIn file)
+unfolding hostAnswer hostTests hostFileTests hostWrites bytesAfter fileRefusal methodTest
+host-loads-add-up file plan m e =
+    let numbered : Numbered (methodTest m ∷ []) = numbered-cons (omega arith) numbered-nil in
+    let front = append-accepted (methodTest m ∷ fileTests file) (lengthTest (planNeeded (jobIn file)) (length plan) ∷ []) (numbered-append numbered (file-numbered file)) e .0 in
+    let v = accepted-valid file (append-accepted (methodTest m ∷ []) (fileTests file) numbered front .1) in
+    lent-loads-add-up plan v ((plan-of-best (valid-plannable v)) .partition) e

@@ -1,0 +1,12 @@
+-- The numbers that the test of a job gives.
+-- Assumes nothing.
+use mathlib.Core.Path.{refl}
+use mathlib.Core.List.{[], _∷_, List·Memᴰ}
+use Rattle.chain.specs.Job.{Job}
+use Rattle.chain.specs.Refusal.{speedsTest, weightsTest, processorsTest, tasksTest, firstRefusal, jobTests}
+use Rattle.chain.proofs.Refusals.{given-number}
+
+-- 0, or one of 5 to 8.
+pub job-numbers : (job : Job) → List·Memᴰ (firstRefusal (jobTests job)) (0 ∷ 5 ∷ 6 ∷ 7 ∷ 8 ∷ [])
+unfolding jobTests speedsTest weightsTest processorsTest tasksTest
+job-numbers job = given-number (5 ∷ 6 ∷ 7 ∷ 8 ∷ []) (jobTests job) refl tt
