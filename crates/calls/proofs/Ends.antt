@@ -16,10 +16,10 @@ use Rattle.chain.specs.declared.Outcome.{Outcome}
 use Rattle.chain.specs.declared.Outcome.the-variants.{Fits, Fails}
 use Rattle.chain.specs.Probe.{walk, fits, nextBid, probe}
 use Rattle.chain.specs.Heuristic.{heuristic}
-use Rattle.chain.specs.Refusal.{refusal}
+use Rattle.chain.specs.Refusal.{measureInputs, refusal}
 use Rattle.chain.proofs.Parts.{valid-proper}
 use Rattle.chain.proofs.Heuristic.{heuristic-partition}
-use Rattle.refusals.specs.Inputs.{measureInputs, probeInputs, heuristicInputs}
+use Rattle.refusals.specs.Inputs.{probeInputs, heuristicInputs}
 use Rattle.refusals.proofs.Lent.{lent-front, lent-kept}
 use Rattle.refusals.proofs.Accepted.{passed}
 use Rattle.parts.proofs.Front.{taken}

@@ -10,8 +10,8 @@ use Rattle.chain.specs.declared.Outcome.{Outcome}
 use Rattle.chain.specs.Job.{Job, processors, bottleneck}
 use Rattle.chain.specs.Probe.{walk, fits, probe}
 use Rattle.chain.specs.Heuristic.{heuristic}
-use Rattle.chain.specs.Refusal.{refusal}
-use Rattle.refusals.specs.Inputs.{measureInputs, probeInputs, heuristicInputs}
+use Rattle.chain.specs.Refusal.{measureInputs, refusal}
+use Rattle.refusals.specs.Inputs.{probeInputs, heuristicInputs}
 use Rattle.refusals.specs.Answers.{lentAfter}
 use Rattle.calls.specs.declared.Measured.{Measured}
 use Rattle.calls.specs.declared.Measured.the-variants.{Bottleneck, Refused}

@@ -3,7 +3,7 @@
 -- Assumes nothing.
 use Prim.Native.Nat.{ℕ, suc, _≤_}
 use mathlib.Core.Path.{_≡_, refl, sym, ap, subst, _∙_}
-use mathlib.Core.Bool.{Bool, true, false, not}
+use mathlib.Core.Bool.{Bool, true, false, not, cond}
 use native.Mathlib.Omega.{arith}
 use lib.Dec.{T, T-not}
 use Rattle.bound.specs.declared.Bound.{Bound}
@@ -16,10 +16,11 @@ use Rattle.chain.specs.Bidding.{bidding}
 use Rattle.chain.specs.Bisection.{ends, meet}
 use Rattle.chain.specs.declared.Method.{Method}
 use Rattle.chain.specs.declared.Method.the-variants.{Table, Bidding, Bisection}
-use Rattle.chain.specs.Plan.{leastBottleneck, planOf, Best, BisectionEnds, at-once, after, MethodEnds, allowance, imbalance, Plan, PlanBy}
+use Rattle.chain.specs.Lists.{isFirst}
+use Rattle.chain.specs.Plan.{leastBottleneck, planOf, Best, BisectionEnds, at-once, after, MethodEnds, allowance, biddingFailures, bisectionRounds, countBy, foundBy, imbalance, Plan, PlanBy}
 use Rattle.chain.proofs.Tests.{T-of, T-not-of}
 use Rattle.chain.proofs.Parts.{Proper, Plannable}
-use Rattle.chain.proofs.Indices.{first-holds, first-unique}
+use Rattle.chain.proofs.Indices.{first-holds, first-unique, smallest-first}
 use Rattle.chain.proofs.Bottleneck.{bottleneck-finite, bottleneck-real, bottleneck-le}
 use Rattle.chain.proofs.Walk.{fits-cover, cover-fits, walk-partition, walk-within, bottleneck-fits, some-fits}
 use Rattle.chain.proofs.Best.{Least, least-equal, least-alike, least-best, best-unique}
@@ -109,20 +110,40 @@ module _ {job : Job} (can : Plannable job) where
       bisection-count (at-once t c e) = omega (arith, first-allowed job)
       bisection-count (after k t f c e) = omega (arith, bisection-allowed can t k f)
 
-  -- Every method ends.
-  pub method-ends : (m : Method) → (n : ℕ) × (B : Bound) × MethodEnds m job n B
-  method-ends Table = (moves job, tableValue job (last job) (tasks job), record { counted = refl; yields = refl })
-  method-ends Bidding =
+  -- The first trial that fits and the first round after which the ends meet are found.
+  pub failures-first : T (isFirst (λ k. fits job (bidding job k)) (biddingFailures job))
+  unfolding biddingFailures
+  failures-first =
       let e = bidding-ends can in
-      (suc (e .0), bidding job (e .0), record { failures = e .0; first-fit = e .2; counted = refl; yields = refl })
-  method-ends Bisection = go (fits job (ideal job)) refl
+      subst (λ (k : ℕ). T (isFirst (λ j. fits job (bidding job j)) k))
+      (sym (smallest-first (λ j. fits job (bidding job j)) (allowance Bidding job) (e .0) (omega (arith, e .1)) (e .2))) (e .2)
+
+  pub rounds-first : T (not (fits job (ideal job))) → T (isFirst (λ k. meet (ends job k)) (bisectionRounds job))
+  unfolding bisectionRounds
+  rounds-first t =
+      let e = bisection-ends can t in
+      subst (λ (k : ℕ). T (isFirst (λ j. meet (ends job j)) k))
+      (sym (smallest-first (λ j. meet (ends job j)) (allowance Bisection job) (e .0) (omega (arith, bisection-allowed can t (e .0) (e .2))) (e .2)))
+      (e .2)
+
+  -- Every method ends, with the count and the bottleneck of the definitions.
+  pub method-is : (m : Method) → MethodEnds m job (countBy m job) (foundBy m job)
+  unfolding countBy foundBy
+  method-is Table = record { counted = refl; yields = refl }
+  method-is Bidding = record { failures = biddingFailures job; first-fit = failures-first; counted = refl; yields = refl }
+  method-is Bisection = go (fits job (ideal job)) refl
     where
-      go : (t : Bool) → fits job (ideal job) ≡ t → (n : ℕ) × (B : Bound) × MethodEnds Bisection job n B
-      go true e = (1, ideal job, at-once (T-of e) refl refl)
-      go false e =
-          let t : T (not (fits job (ideal job))) = T-not-of e in
-          let r = bisection-ends can t in
-          (suc (r .0), ends job (r .0) .low, after (r .0) t (r .2) refl refl)
+      go : (t : Bool) → fits job (ideal job) ≡ t
+          → BisectionEnds job (cond t 1 (suc (bisectionRounds job))) (cond t (ideal job) ((ends job (bisectionRounds job)) .low))
+      go true e = at-once (T-of e) refl refl
+      go false e = let t : T (not (fits job (ideal job))) = T-not-of e in after (bisectionRounds job) t (rounds-first t) refl refl
+
+  pub method-ends : (m : Method) → (n : ℕ) × (B : Bound) × MethodEnds m job n B
+  method-ends m = (countBy m job, foundBy m job, method-is m)
+
+  -- Whatever count a method ends with is that number.
+  pub method-unique : (m : Method) (n : ℕ) (B : Bound) → MethodEnds m job n B → n ≡ countBy m job
+  method-unique m n B x = method-counts job m n (countBy m job) B (foundBy m job) x (method-is m)
 
   -- Every plan has the separators of the definition, which is the best partition.
   pub plan-separators : (m : Method) {plan : Plan} → PlanBy m job plan → plan .separators ≡ planOf job

@@ -167,6 +167,24 @@ first-exists f d h = go (smallestFrom f 0 d) (smallest-is f 0 d)
                   | inr x ↦ absurd (T-not (f r) (T-not-of e) (T-of x))
                 ]
 
+-- A search that goes as far as the first index finds it.
+pub smallest-first : (f : ℕ → Bool) (d k : ℕ) → k ≤ d → T (isFirst f k) → smallestFrom f 0 d ≡ k
+smallest-first f d k h t = go (smallestFrom f 0 d) (smallest-is f 0 d)
+  where
+    go : (r : ℕ) → Smallest f 0 d r → r ≡ k
+    go r s = elim (decLe (suc k) r) [ yes m ↦ absurd (T-not (f k) (T-not-of (s .before k (omega arith) m)) (first-holds f k t)) | no m ↦ other m ]
+      where
+        other : (suc k ≤ r → ⊥) → r ≡ k
+        other m =
+            elim (s .found) [
+              | inl x ↦ omega (arith, h, x)
+              | inr x ↦
+                  elim (decLe (suc r) k) [
+                    | yes l ↦ absurd (T-not (f r) (first-fails f k t r l) (T-of x))
+                    | no l ↦ omega arith
+                  ]
+            ]
+
 -- What holds at each index below k and at k holds below k + 1.
 pub below-next : {Q : ℕ → Type 0} {k : ℕ} → ((j : ℕ) → j < k → Q j) → Q k → (j : ℕ) → j < suc k → Q j
 below-next {Q} {k} h x j l = elim (decLe (suc j) k) [ yes m ↦ h j m | no m ↦ subst Q (let e : k ≡ j = omega arith in e) x ]

@@ -1,23 +1,18 @@
 -- The worked jobs of the scope, section 11, as one table, and what it means that a row holds.
-use Prim.Native.Nat.{ℕ, zero, suc}
-use mathlib.Core.Bool.{Bool, true, false, not, _&&_, _||_}
+use Prim.Native.Nat.{ℕ}
+use mathlib.Core.Bool.{Bool, true, false, _&&_}
 use mathlib.Core.List.{List, [], _∷_}
-use lib.ListN.{length}
 use lib.Dec.{eqb}
 use Rattle.bound.specs.declared.Bound.{Bound}
 use Rattle.bound.specs.Order.{over}
 use Rattle.chain.specs.declared.Method.the-variants.{Table, Bidding, Bisection}
 use Rattle.chain.specs.declared.Outcome.{Outcome}
 use Rattle.chain.specs.declared.Outcome.the-variants.{Fits, Fails}
-use Rattle.chain.specs.Lists.{isFirst}
-use Rattle.chain.specs.Job.{Job, jobOf, processors, last, tasks, bottleneck, ideal}
-use Rattle.chain.specs.Probe.{walk, fits, probe}
+use Rattle.chain.specs.Job.{Job, jobOf, bottleneck}
+use Rattle.chain.specs.Probe.{walk, probe}
 use Rattle.chain.specs.Heuristic.{heuristic}
-use Rattle.chain.specs.Dynamic.{tableValue, moves}
-use Rattle.chain.specs.Bidding.{bidding}
-use Rattle.chain.specs.Bisection.{ends, meet}
-use Rattle.chain.specs.Plan.{planOf, allowance, imbalance}
-use Rattle.chain.specs.Refusal.{nothing, lending, withDivision, refusal}
+use Rattle.chain.specs.Plan.{planOf, allowance, countBy, foundBy, imbalance}
+use Rattle.chain.specs.Refusal.{measureInputs, refusal}
 
 -- The same list; the same pair, load and speed.
 unfoldable pub sameList : List ℕ → List ℕ → Bool
@@ -38,24 +33,22 @@ pub record Three : Type 0 where
 abbrev pub three : ℕ → ℕ → ℕ → Three
 three a b c = record { byTable = a; byBidding = b; byBisection = c }
 
--- The count is the number of the first trial that fits, counted from 1, and the walk there gives these separators.
-unfoldable pub biddingEndsAt : Job → List ℕ → ℕ → Bool
-biddingEndsAt job s zero = false
-biddingEndsAt job s (suc k) = isFirst (λ j. fits job (bidding job j)) k && sameList (walk job (bidding job k)) s
+-- The counts are those of the methods.
+unfoldable pub countsAre : Job → Three → Bool
+countsAre job n =
+    eqb (countBy Table job) (n .byTable) && eqb (countBy Bidding job) (n .byBidding) && eqb (countBy Bisection job) (n .byBisection)
 
--- The count is 1 where the trial at the ideal fits; else it is one more than the rounds after which the ends first meet. The walk
--- there gives these separators.
-unfoldable pub bisectionEndsAt : Job → List ℕ → ℕ → Bool
-bisectionEndsAt job s zero = false
-bisectionEndsAt job s (suc k) =
-    (fits job (ideal job) && eqb k 0 && sameList (walk job (ideal job)) s)
-    || (not (fits job (ideal job)) && isFirst (λ j. meet (ends job j)) k && sameList (walk job ((ends job k) .low)) s)
+-- The allowances are those of the methods.
+unfoldable pub allowancesAre : Job → Three → Bool
+allowancesAre job a =
+    eqb (allowance Table job) (a .byTable) && eqb (allowance Bidding job) (a .byBidding)
+    && eqb (allowance Bisection job) (a .byBisection)
 
--- The counts are those at which the methods end, and each method's walk gives these separators.
-unfoldable pub endsAt : Job → List ℕ → Three → Bool
-endsAt job s n =
-    eqb (moves job) (n .byTable) && sameList (walk job (tableValue job (last job) (tasks job))) s
-    && biddingEndsAt job s (n .byBidding) && bisectionEndsAt job s (n .byBisection)
+-- The walk at the bottleneck that a method finds gives these separators, for each method.
+unfoldable pub walksAre : Job → List ℕ → Bool
+walksAre job s =
+    sameList (walk job (foundBy Table job)) s && sameList (walk job (foundBy Bidding job)) s
+    && sameList (walk job (foundBy Bisection job)) s
 
 -- A row of the table.
 pub data Row : Type 0 where
@@ -70,10 +63,6 @@ pub data Row : Type 0 where
   measures : Job → List ℕ → Bound → Row
   refused : Job → List ℕ → ℕ → Row
 
--- Measuring a list: what the call takes beside the job.
-unfoldable pub measureRefusal : Job → List ℕ → ℕ
-measureRefusal job s = refusal job (lending (suc (processors job)) (length s) (withDivision s nothing))
-
 unfoldable pub isFailing : Outcome → Bound → Bool
 isFailing Fits C = false
 isFailing (Fails B) C = samePair B C
@@ -85,14 +74,13 @@ isFitting (Fails B) = false
 -- The row says what the definitions give.
 unfoldable pub holds : Row → Bool
 holds (planned job s B i n a) =
-    sameList (planOf job) s && samePair (bottleneck job s) B && eqb (imbalance job B) i && endsAt job s n
-    && eqb (allowance Table job) (a .byTable) && eqb (allowance Bidding job) (a .byBidding)
-    && eqb (allowance Bisection job) (a .byBisection)
+    sameList (planOf job) s && samePair (bottleneck job s) B && eqb (imbalance job B) i && countsAre job n && allowancesAre job a
+    && walksAre job s
 holds (fitsWith job B s) = isFitting (probe job B) && sameList (walk job B) s
 holds (failsWith job B C) = isFailing (probe job B) C
 holds (quick job s B) = sameList (heuristic job) s && samePair (bottleneck job s) B
-holds (measures job s B) = eqb (measureRefusal job s) 0 && samePair (bottleneck job s) B
-holds (refused job s n) = eqb (measureRefusal job s) n
+holds (measures job s B) = eqb (refusal job (measureInputs job s)) 0 && samePair (bottleneck job s) B
+holds (refused job s n) = eqb (refusal job (measureInputs job s)) n
 
 unfoldable pub everyHolds : List Row → Bool
 everyHolds [] = true

@@ -8,7 +8,7 @@ use Rattle.bound.specs.declared.Bound.{Bound}
 use Rattle.bound.specs.Order.{nought, lesser, _≼_, _≈_}
 use Rattle.chain.specs.declared.Method.{Method}
 use Rattle.chain.specs.declared.Method.the-variants.{Table, Bidding, Bisection}
-use Rattle.chain.specs.Lists.{digits, isFirst}
+use Rattle.chain.specs.Lists.{digits, isFirst, smallestFrom}
 use Rattle.chain.specs.Job.{Job, tasks, last, totalWeight, totalSpeed, heaviest, fastest, slowest, at, Partition, bottleneck, ideal}
 use Rattle.chain.specs.Probe.{walk, fits}
 use Rattle.chain.specs.Dynamic.{tableValue, moves}
@@ -88,6 +88,27 @@ unfoldable pub allowance : Method → Job → ℕ
 allowance Table job = last job * tasks job
 allowance Bidding job = last job * tasks job + 1
 allowance Bisection job = 1 + digits (difference job)
+
+-- The failures of bidding before a trial fits, and the rounds of bisection before its ends meet, each looked for up to the allowance.
+-- The theorem `method-is` says that they are found, so this end cuts nothing off.
+unfoldable pub biddingFailures : Job → ℕ
+biddingFailures job = smallestFrom (λ k. fits job (bidding job k)) 0 (allowance Bidding job)
+
+unfoldable pub bisectionRounds : Job → ℕ
+bisectionRounds job = smallestFrom (λ k. meet (ends job k)) 0 (allowance Bisection job)
+
+-- The count of each method as a number. Scope 5.9: "The table's count is its moves". Scope 5.11: "Bidding's count is its trials, with
+-- the one that fits." Scope 5.16: "Bisection's count is its trials, with the first."
+unfoldable pub countBy : Method → Job → ℕ
+countBy Table job = moves job
+countBy Bidding job = suc (biddingFailures job)
+countBy Bisection job = cond (fits job (ideal job)) 1 (suc (bisectionRounds job))
+
+-- The bottleneck that each method finds. Scope 5.12: "Bisection tries the ideal and is done where that fits."
+unfoldable pub foundBy : Method → Job → Bound
+foundBy Table job = tableValue job (last job) (tasks job)
+foundBy Bidding job = bidding job (biddingFailures job)
+foundBy Bisection job = cond (fits job (ideal job)) (ideal job) ((ends job (bisectionRounds job)) .low)
 
 -- Scope 6.4: "The imbalance is 1000 × (bottleneck − ideal) / ideal, rounded down; it is 0 where Wtot is 0."
 unfoldable pub imbalance : Job → Bound → ℕ

@@ -113,6 +113,14 @@ abbrev pub withDivision : List ℕ → Inputs → Inputs
 withDivision s inputs =
     record { methods = inputs .methods; lists = inputs .lists; bounds = inputs .bounds; divisions = s ∷ inputs .divisions }
 
+-- Scope 8.7: "P + 1 separators"
+abbrev pub separatorsNeeded : Job → ℕ
+separatorsNeeded job = suc (processors job)
+
+-- Measuring: the separators of a division.
+abbrev pub measureInputs : Job → List ℕ → Inputs
+measureInputs job s = lending (separatorsNeeded job) (length s) (withDivision s nothing)
+
 -- The tests of a call by lists, in order: 1; 5, 6, 7, 8; 9; 10; 11.
 unfoldable pub callTests : Job → Inputs → List Test
 callTests job inputs =

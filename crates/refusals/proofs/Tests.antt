@@ -13,9 +13,9 @@ use borrow.Author.Tests.{le-leb, lt-leb, not-true, not-false}
 use Rattle.bound.specs.declared.Bound.{Bound}
 use Rattle.chain.specs.Limits.{maxBoundLoad, maxBoundSpeed}
 use Rattle.chain.specs.Job.{Job, tasks, processors}
-use Rattle.chain.specs.Refusal.{Test, between, methodTest, lengthTest, boundTest, isPartition, partitionTest, firstRefusal, jobTests, callTests, refusal}
+use Rattle.chain.specs.Refusal.{Test, between, methodTest, lengthTest, boundTest, isPartition, partitionTest, firstRefusal, jobTests, separatorsNeeded, measureInputs, callTests, refusal}
 use Rattle.chain.proofs.Refusals.{numbered-nil, numbered-cons, first-decide, others-decide, job-numbered, call-numbered}
-use Rattle.refusals.specs.Inputs.{separatorsNeeded, scratchLists, scratchNeeded, planNeeded, bytesNeeded, measureInputs, probeInputs, heuristicInputs, planLists, planInputs, writeInputs, writePlanInputs}
+use Rattle.refusals.specs.Inputs.{scratchLists, scratchNeeded, planNeeded, bytesNeeded, probeInputs, heuristicInputs, planLists, planInputs, writeInputs, writePlanInputs}
 use Rattle.refusals.proofs.Each.{between-low, between-high, between-in}
 use Rattle.refusals.proofs.Steps.{fails, passes, passed-all}
 

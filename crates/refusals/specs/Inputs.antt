@@ -4,7 +4,7 @@ use mathlib.Core.List.{List}
 use lib.ListN.{length}
 use Rattle.bound.specs.declared.Bound.{Bound}
 use Rattle.chain.specs.Job.{Job, tasks, processors}
-use Rattle.chain.specs.Refusal.{Inputs, nothing, withMethod, lending, withBound, withDivision}
+use Rattle.chain.specs.Refusal.{Inputs, nothing, withMethod, lending, withBound, withDivision, separatorsNeeded}
 
 -- Scope 7.2: "8-byte records", of a job file.
 abbrev pub recordSize : ℕ
@@ -13,10 +13,6 @@ recordSize = 8
 -- Scope 7.7: "one 16-byte record for each machine", of a plan file.
 abbrev pub planRecordSize : ℕ
 planRecordSize = 16
-
--- Scope 8.7: "P + 1 separators"
-abbrev pub separatorsNeeded : Job → ℕ
-separatorsNeeded job = suc (processors job)
 
 -- Scope 8.7: "5 × (N + 1) work numbers"
 abbrev pub scratchLists : ℕ
@@ -32,10 +28,6 @@ planNeeded job = planRecordSize * processors job
 -- Scope 8.7: "8 × (N + P) bytes for a job file"
 abbrev pub bytesNeeded : Job → ℕ
 bytesNeeded job = recordSize * (tasks job + processors job)
-
--- Measuring: the separators of a division.
-abbrev pub measureInputs : Job → List ℕ → Inputs
-measureInputs job s = lending (separatorsNeeded job) (length s) (withDivision s nothing)
 
 -- The probe ("trial"): the bound, and a list of this length for the separators.
 abbrev pub probeInputs : Job → Bound → ℕ → Inputs

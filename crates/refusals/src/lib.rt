@@ -8,9 +8,9 @@ ghost use lib.Dec.{leb};
 ghost use Rattle.chain.specs.Limits.{maxProcessors, maxTasks};
 ghost use Rattle.chain.specs.Job.{Job, jobOf, processors};
 ghost use Rattle.chain.specs.Refusal.{test, between, eachBetween, lengthTest, boundTest, isPartition, partitionTest};
-ghost use Rattle.chain.specs.Refusal.{firstRefusal, jobTests, refusal};
+ghost use Rattle.chain.specs.Refusal.{firstRefusal, jobTests, measureInputs, refusal};
 ghost use Rattle.refusals.specs.Methods.{chosenOf};
-ghost use Rattle.refusals.specs.Inputs.{measureInputs, probeInputs, heuristicInputs, planLists, writeInputs, writePlanInputs};
+ghost use Rattle.refusals.specs.Inputs.{probeInputs, heuristicInputs, planLists, writeInputs, writePlanInputs};
 use bound::Bound;
 use chain::Method;
 
