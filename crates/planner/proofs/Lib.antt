@@ -2,3 +2,4 @@ pub mod Laws
 pub mod Reading
 pub mod Allowances
 pub mod Imbalances
+pub mod Promises
