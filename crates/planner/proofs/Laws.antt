@@ -1,12 +1,15 @@
 -- Laws for planning: what each method ends with, the closing walk, and the answer.
 -- Assumes nothing.
 use Prim.Native.Nat.{ℕ, zero, suc, _+_, _*_, _≤_}
-use mathlib.Core.Path.{_≡_, sym, ap, subst, _∙_}
+use mathlib.Core.Path.{_≡_, refl, sym, ap, subst, _∙_}
+use mathlib.Core.Bool.{Bool, cond}
 use mathlib.Core.List.{List, _++_}
+use mathlib.Core.Logic.{_≢_}
 use native.Mathlib.Omega.{arith}
 use lib.Dec.{T}
 use lib.ListN.{length, take, drop, length-append, length-drop}
 use lib.Seq.{drop-append-add, drop-drop}
+use borrow.Author.Tests.{ne-eqb}
 use Rattle.bound.specs.declared.Bound.{Bound}
 use Rattle.bound.specs.Order.{_≼_}
 use Rattle.chain.specs.declared.Method.{Method}
@@ -16,25 +19,30 @@ use Rattle.chain.specs.Lists.{sum}
 use Rattle.chain.specs.Job.{Job, Valid, tasks, processors, bottleneck, ideal, totalWeight}
 use Rattle.chain.specs.Probe.{walk, fits}
 use Rattle.chain.specs.Bidding.{bidding}
-use Rattle.chain.specs.Plan.{MethodEnds, BiddingEnds, BisectionEnds, planOf, PlanBy, allowance, imbalance}
+use Rattle.chain.specs.Plan.{MethodEnds, BiddingEnds, BisectionEnds, planOf, allowance, countBy, imbalance}
+use Rattle.chain.specs.Refusal.{refusal}
 use Rattle.chain.proofs.Indices.{length-tabulate}
 use Rattle.chain.proofs.Parts.{valid-proper, valid-plannable, weight-all}
 use Rattle.chain.proofs.Ideal.{ideal-least}
 use Rattle.chain.proofs.Best.{least-alike}
-use Rattle.chain.proofs.Demand.{least-bottleneck, method-least, method-allowed, plan-of-best}
+use Rattle.chain.proofs.Demand.{least-bottleneck, method-least, plan-of-best}
 use Rattle.chain.proofs.Ranges.{small-lendable, ideal-lendable, next-bid-small, bottleneck-small}
-use Rattle.refusals.specs.declared.Chosen.the-variants.{Known}
+use Rattle.refusals.specs.declared.Chosen.{Chosen}
+use Rattle.refusals.specs.declared.Chosen.the-variants.{Known, Unknown}
 use Rattle.refusals.specs.Methods.{chosenOf}
-use Rattle.refusals.specs.Inputs.{scratchNeeded}
-use Rattle.refusals.proofs.Methods.{known-passes}
-use Rattle.refusals.proofs.Tests.{plan-known}
+use Rattle.refusals.specs.Inputs.{scratchNeeded, planLists, planInputs}
+use Rattle.refusals.specs.Answers.{lentAfter}
+use Rattle.refusals.proofs.Methods.{known-passes, unknown-fails}
+use Rattle.refusals.proofs.Tests.{plan-known, plan-unknown}
+use Rattle.refusals.proofs.Lent.{lent-front, lent-kept}
 use Rattle.parts.specs.Prefix.{Prefix, prefixes}
 use Rattle.parts.specs.Kept.{KeptFrom}
+use Rattle.parts.proofs.Front.{kept-start}
 use Rattle.dynamic.specs.Rows.{Tabled}
 use Rattle.planner.specs.declared.Figures.{Figures}
 use Rattle.planner.specs.declared.Planned.{Planned}
 use Rattle.planner.specs.declared.Planned.the-variants.{Accepted, Refused}
-use Rattle.planner.specs.Answers.{planRefusal, listsRefusal, planWith, PlanGiven, PlannedBy, PlanAnswer}
+use Rattle.planner.specs.Answers.{planRefusal, listsRefusal, planFigures, plannedOf, methodAnswer, methodWrites, chosenAnswer, planAnswer, planWrites, ScratchAfter}
 
 -- What the methods end with, where the method is this one.
 module _ {job : Job} {m : Method} {B : Bound} {n : ℕ} where
@@ -80,24 +88,15 @@ module _ {job : Job} (v : Valid job) {B : Bound} (is : B ≡ bottleneck job (pla
 pub last-sum : {job : Job} {xs : List ℕ} {t : ℕ} → Prefix job xs → t ≡ lib.ListN.getD xs (tasks job) 0 → t ≡ totalWeight job
 last-sum {job} p e = e ∙ p .sums (tasks job) (omega arith) ∙ weight-all job
 
--- The plan with its figures.
-pub plan-by : {job : Job} (found : Bound) (m : Method) (f : Figures) → Valid job → MethodEnds m job (f .count) found → f .allowance ≡ allowance m job
-    → f .bottleneck ≡ bottleneck job (planOf job) → f .imbalance ≡ imbalance job (f .bottleneck) → PlanBy m job (planWith job f)
-plan-by {job} found m f v e a b i =
-    record { found = found; ended = e; walked = sym (walk-is-plan v m (f .count) found e); allows = a; measured = b; exceeds = i }
-
-pub plan-given : {job : Job} {m : Method} {s t s′ t′ : List ℕ} {f : Figures} → Valid job → PlanBy m job (planWith job f)
-    → s′ ≡ planOf job ++ drop (suc (processors job)) s → KeptFrom (scratchNeeded job) t t′ → PlanGiven job m s t s′ t′ f
-plan-given {job} {m} {s} {t} {s′} {t′} {f} v p e b =
-    record {
-      plan = p;
-      best = plan-of-best (valid-plannable v);
-      allowed =
-          subst (λ (n : ℕ). f .count ≤ n) (sym (p .allows)) (method-allowed (valid-plannable v) m (f .count) (p .found) (p .ended));
-      separators = e;
-      scratch = b .rest;
-      same = b .same;
-    }
+-- The figures of the plan, one by one.
+pub figures-are : (job : Job) (m : Method) {n a i : ℕ} {B : Bound} → n ≡ countBy m job → a ≡ allowance m job → B ≡ bottleneck job (planOf job) → i ≡ imbalance job B
+    → _≡_ {A = Figures} (record { count = n; allowance = a; bottleneck = B; imbalance = i }) (planFigures m job)
+unfolding planFigures
+figures-are job m {n} {a} {i} {B} e f g h =
+    ap (λ (x : ℕ). record { count = x; allowance = a; bottleneck = B; imbalance = i }) e
+    ∙ ap (λ (x : ℕ). record { count = countBy m job; allowance = x; bottleneck = B; imbalance = i }) f
+    ∙ ap (λ (x : ℕ). record { count = countBy m job; allowance = allowance m job; bottleneck = B; imbalance = x }) h
+    ∙ ap (λ (x : Bound). record { count = countBy m job; allowance = allowance m job; bottleneck = x; imbalance = imbalance job x }) g
 
 -- Prefix sums put in front of the work numbers: what is behind all of them stays.
 pub summed-kept : (job : Job) (xs : List ℕ) {ys : List ℕ} → ys ≡ prefixes (job .weights) ++ drop (suc (tasks job)) xs → scratchNeeded job ≤ length xs
@@ -122,12 +121,66 @@ summed-kept job xs {ys} e h =
     count : length sums ≡ suc (tasks job)
     count = length-tabulate (λ i. sum (take i (job .weights))) (suc (tasks job))
 
--- What is answered by a method that is known is answered by its number.
-pub planned-known : (job : Job) (m : ℕ) {k : Method} → chosenOf m ≡ Known k → (s t s′ t′ : List ℕ) (r : Planned) → PlannedBy job k s t s′ t′ r
-    → PlanAnswer job m s t s′ t′ r
-unfolding planRefusal listsRefusal
-planned-known job m {k} e s t s′ t′ (Accepted f) (z, g) = (
-  sym (plan-known job m (length s) (length t) (known-passes m e) (sym z)),
-  (k, e, g),
-)
-planned-known job m e s t s′ t′ (Refused n) (z, p, x, y) = (sym (plan-known job m (length s) (length t) (known-passes m e) (sym z)), p, x, y)
+-- The plan's separators are P + 1.
+pub plan-length : {job : Job} → Valid job → length (planOf job) ≡ suc (processors job)
+plan-length v = (plan-of-best (valid-plannable v)) .partition .count
+
+-- An answer that is refused, and one that is not.
+planned-refused : {n number : ℕ} (f : Figures) → n ≡ number → n ≢ 0 → Refused n ≡ plannedOf number f
+unfolding plannedOf
+planned-refused {n} f e h =
+    sym (ap (λ (b : Bool). cond b (Accepted f) (Refused n)) (ne-eqb n 0 h)) ∙ ap (λ (k : ℕ). plannedOf k f) e
+
+planned-accepted : {number : ℕ} {f g : Figures} → number ≡ 0 → f ≡ g → Accepted f ≡ plannedOf number g
+unfolding plannedOf
+planned-accepted {number} {f} {g} z e = ap (plannedOf 0) e ∙ ap (λ (k : ℕ). plannedOf k g) (sym z)
+
+scratch-stays : (number : ℕ) (job : Job) (t : List ℕ) → ScratchAfter number job t t
+scratch-stays number job t = record { refused = λ h. refl; behind = kept-start (scratchNeeded job) t }
+
+-- What planning by a method answers and leaves.
+module _ (job : Job) (method : Method) (s t : List ℕ) where
+  abbrev pub ByMethod : Planned → List ℕ → List ℕ → Type 0
+  ByMethod r s′ t′ =
+      (r ≡ methodAnswer job method s t) × ((s′ ≡ methodWrites job s t) × ScratchAfter (listsRefusal job (length s) (length t)) job t t′)
+
+  pub method-refused : {n : ℕ} → n ≡ listsRefusal job (length s) (length t) → n ≢ 0 → ByMethod (Refused n) s t
+  unfolding methodAnswer methodWrites
+  method-refused e h = (
+    planned-refused (planFigures method job) e h,
+    (lent-kept (planOf job) s e h, scratch-stays (listsRefusal job (length s) (length t)) job t),
+  )
+
+  pub method-accepted : listsRefusal job (length s) (length t) ≡ 0 → Valid job → {f : Figures} {s′ t′ : List ℕ} → f ≡ planFigures method job
+      → s′ ≡ planOf job ++ drop (suc (processors job)) s → KeptFrom (scratchNeeded job) t t′ → ByMethod (Accepted f) s′ t′
+  unfolding methodAnswer methodWrites
+  method-accepted z v e g k = (
+    planned-accepted z e,
+    (g ∙ sym (lent-front (planOf job) s z (plan-length v)), record { refused = λ h. absurd (h z); behind = k }),
+  )
+
+-- The same by the number of the method.
+module _ (job : Job) (m : ℕ) (s t : List ℕ) where
+  abbrev pub ByNumber : Planned → List ℕ → List ℕ → Type 0
+  ByNumber r s′ t′ =
+      (r ≡ planAnswer job m s t) × ((s′ ≡ planWrites job m s t) × ScratchAfter (planRefusal job m (length s) (length t)) job t t′)
+
+  pub number-unknown : chosenOf m ≡ Unknown → ByNumber (Refused 1) s t
+  unfolding planAnswer planWrites planRefusal chosenAnswer
+  number-unknown e =
+      let r : 1 ≡ refusal job (planInputs job m (length s) (length t)) = plan-unknown job m (length s) (length t) (unknown-fails m e) in (
+        ap Refused r ∙ sym (ap (λ (c : Chosen). chosenAnswer job c (refusal job (planInputs job m (length s) (length t)))) e),
+        (
+          lent-kept (planOf job) s r (λ z. omega arith),
+          scratch-stays (refusal job (planInputs job m (length s) (length t))) job t,
+        ),
+      )
+
+  pub number-known : {k : Method} → chosenOf m ≡ Known k → {r : Planned} {s′ t′ : List ℕ} → ByMethod job k s t r s′ t′ → ByNumber r s′ t′
+  unfolding planAnswer planWrites planRefusal methodAnswer methodWrites listsRefusal chosenAnswer
+  number-known {k} e {r} {s′} {t′} (a, (b, c)) =
+      let z : refusal job (planLists job (length s) (length t)) ≡ refusal job (planInputs job m (length s) (length t)) = plan-known job m (length s) (length t) (known-passes m e) refl in (
+        a ∙ ap (λ (n : ℕ). plannedOf n (planFigures k job)) z
+            ∙ sym (ap (λ (c : Chosen). chosenAnswer job c (refusal job (planInputs job m (length s) (length t)))) e),
+        (b ∙ ap (λ (n : ℕ). lentAfter n (planOf job) s) z, subst (λ (n : ℕ). ScratchAfter n job t t′) z c),
+      )

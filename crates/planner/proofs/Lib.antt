@@ -2,4 +2,5 @@ pub mod Laws
 pub mod Reading
 pub mod Allowances
 pub mod Imbalances
+pub mod Promises
 pub mod Numbers

@@ -1,14 +1,15 @@
 -- The numbers that planning and the C call give, and the loads that the C call leaves.
 -- Assumes nothing.
 use Prim.Native.Nat.{ℕ, _+_, _*_}
-use mathlib.Core.Path.{_≡_, refl}
-use mathlib.Core.List.{List, [], _∷_, List·Memᴰ}
+use mathlib.Core.Path.{_≡_, refl, sym, _∙_}
+use mathlib.Core.List.{List, [], _∷_, _++_, List·Memᴰ}
 use mathlib.Core.Logic.{_≢_, _↔_}
 use native.Mathlib.Omega.{arith}
-use lib.ListN.{length}
+use lib.ListN.{length, drop}
 use Rattle.chain.specs.Lists.{sumTo}
 use Rattle.chain.specs.Job.{Job, processors, totalWeight}
 use Rattle.chain.specs.Refusal.{methodTest, speedsTest, weightsTest, processorsTest, tasksTest, lengthTest, jobTests, callTests, refusal}
+use Rattle.chain.specs.Plan.{planOf}
 use Rattle.chain.proofs.Demand.{plan-of-best}
 use Rattle.chain.proofs.Parts.{valid-plannable}
 use Rattle.chain.proofs.Refusals.{Numbered, numbered-nil, numbered-cons, numbered-append, FirstFailing, gives, given-number, numbers-append, numbers-more, append-accepted}
@@ -17,21 +18,25 @@ use Rattle.jobs.specs.Parse.{jobIn, fileTests, fileRefusal}
 use Rattle.jobs.proofs.Calls.{file-numbered}
 use Rattle.jobs.proofs.Promises.{fromTwo, file-in}
 use Rattle.jobs.proofs.RoundTrip.{accepted-valid}
+use Rattle.planfile.specs.PlanFile.{planBytes}
+use Rattle.planfile.proofs.Records.{length-plan}
 use Rattle.planfile.proofs.Promises.{lent-loads-add-up}
 use Rattle.refusals.specs.Inputs.{planNeeded, planInputs}
-use Rattle.planner.specs.Answers.{planRefusal}
+use Rattle.refusals.proofs.Lent.{lent-refused, lent-front}
+use Rattle.planner.specs.Answers.{plannedNumber, planRefusal, planAnswer}
+use Rattle.planner.proofs.Promises.{plan-number}
 use Rattle.planner.specs.HostCall.{hostFileTests, hostTests, hostAnswer, bytesAfter, hostWrites}
 
 -- Planning: 0, or one of 1 and 5 to 9; that of the first test that fails.
-module _ (job : Job) (m separators scratch : ℕ) where
-  pub plan-numbers : List·Memᴰ (planRefusal job m separators scratch) (0 ∷ 1 ∷ 5 ∷ 6 ∷ 7 ∷ 8 ∷ 9 ∷ [])
+module _ (job : Job) (m : ℕ) (s t : List ℕ) where
+  pub plan-numbers : List·Memᴰ (plannedNumber (planAnswer job m s t)) (0 ∷ 1 ∷ 5 ∷ 6 ∷ 7 ∷ 8 ∷ 9 ∷ [])
   unfolding planRefusal refusal callTests jobTests methodTest speedsTest weightsTest processorsTest tasksTest lengthTest
-  plan-numbers = given-number (1 ∷ 5 ∷ 6 ∷ 7 ∷ 8 ∷ 9 ∷ []) (callTests job (planInputs job m separators scratch)) refl tt
+  plan-numbers = given-number (1 ∷ 5 ∷ 6 ∷ 7 ∷ 8 ∷ 9 ∷ []) (callTests job (planInputs job m (length s) (length t))) (plan-number job m s t) tt
 
   pub plan-gives : {n : ℕ} → n ≢ 0
-      → (planRefusal job m separators scratch ≡ n) ↔ FirstFailing (callTests job (planInputs job m separators scratch)) n
+      → (plannedNumber (planAnswer job m s t) ≡ n) ↔ FirstFailing (callTests job (planInputs job m (length s) (length t))) n
   unfolding planRefusal refusal
-  plan-gives h = gives (callTests job (planInputs job m separators scratch)) refl h
+  plan-gives h = gives (callTests job (planInputs job m (length s) (length t))) (plan-number job m s t) h
 
 -- The C call: 0, or one of 1 to 9; that of the first test that fails.
 module _ (file : List ℕ) (m lent : ℕ) where
@@ -44,6 +49,22 @@ module _ (file : List ℕ) (m lent : ℕ) where
   pub host-gives : {n : ℕ} → n ≢ 0 → (hostAnswer file m lent ≡ n) ↔ FirstFailing (hostTests file m lent) n
   unfolding hostAnswer
   host-gives h = gives (hostTests file m lent) refl h
+
+-- Where nothing refuses it, the C call leaves the bytes of the job's plan and those behind them, whichever method is called;
+pub host-plan : (file plan : List ℕ) (m : ℕ) → hostAnswer file m (length plan) ≡ 0
+    → hostWrites file m plan ≡ planBytes (jobIn file) (planOf (jobIn file)) ++ drop (planNeeded (jobIn file)) plan
+unfolding hostWrites bytesAfter
+host-plan file plan m e = lent-front (planBytes (jobIn file) (planOf (jobIn file))) plan e (length-plan (jobIn file) (planOf (jobIn file)))
+
+-- so any two accepted calls with one file leave the same plan;
+pub host-same : (file plan : List ℕ) (m k : ℕ) → hostAnswer file m (length plan) ≡ 0 → hostAnswer file k (length plan) ≡ 0
+    → hostWrites file m plan ≡ hostWrites file k plan
+host-same file plan m k e h = host-plan file plan m e ∙ sym (host-plan file plan k h)
+
+-- a refusal leaves the buffer as it was.
+pub host-keeps : (file plan : List ℕ) (m : ℕ) → hostAnswer file m (length plan) ≢ 0 → hostWrites file m plan ≡ plan
+unfolding hostWrites bytesAfter
+host-keeps file plan m h = lent-refused h (planBytes (jobIn file) (planOf (jobIn file))) plan
 
 -- Scope 7.8: "The loads of a plan file add up to Wtot." As they are read from the buffer after the C call.
 pub host-loads-add-up : (file plan : List ℕ) (m : ℕ) → hostAnswer file m (length plan) ≡ 0

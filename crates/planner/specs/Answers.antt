@@ -1,18 +1,29 @@
 -- What planning answers and leaves in the lent lists, refusals included. Scope, sections 5, 6, 8 and 10.
-use Prim.Native.Nat.{ℕ, suc, _≤_, _<_}
+use Prim.Native.Nat.{ℕ}
 use mathlib.Core.Path.{_≡_}
-use mathlib.Core.List.{List, _++_}
-use lib.ListN.{length, drop}
+use mathlib.Core.Bool.{cond}
+use mathlib.Core.List.{List}
+use mathlib.Core.Logic.{_≢_}
+use lib.Dec.{eqb}
+use lib.ListN.{length}
 use Rattle.chain.specs.declared.Method.{Method}
-use Rattle.chain.specs.Job.{Job, processors}
-use Rattle.chain.specs.Plan.{planOf, Best, Plan, PlanBy}
+use Rattle.chain.specs.Job.{Job, bottleneck}
+use Rattle.chain.specs.Plan.{planOf, allowance, countBy, imbalance}
 use Rattle.chain.specs.Refusal.{refusal}
-use Rattle.refusals.specs.declared.Chosen.the-variants.{Known}
+use Rattle.refusals.specs.declared.Chosen.{Chosen}
+use Rattle.refusals.specs.declared.Chosen.the-variants.{Known, Unknown}
 use Rattle.refusals.specs.Methods.{chosenOf}
 use Rattle.refusals.specs.Inputs.{scratchNeeded, planLists, planInputs}
+use Rattle.refusals.specs.Answers.{lentAfter}
+use Rattle.parts.specs.Kept.{KeptFrom}
 use Rattle.planner.specs.declared.Figures.{Figures}
 use Rattle.planner.specs.declared.Planned.{Planned}
 use Rattle.planner.specs.declared.Planned.the-variants.{Accepted, Refused}
+
+-- The scope's number of an answer.
+abbrev pub plannedNumber : Planned → ℕ
+plannedNumber (Accepted f) = 0
+plannedNumber (Refused n) = n
 
 -- The number that planning is refused with, 0 where it is accepted.
 unfoldable pub planRefusal : Job → ℕ → ℕ → ℕ → ℕ
@@ -22,37 +33,38 @@ planRefusal job m separators scratch = refusal job (planInputs job m separators 
 unfoldable pub listsRefusal : Job → ℕ → ℕ → ℕ
 listsRefusal job separators scratch = refusal job (planLists job separators scratch)
 
--- The plan that an accepted call gives: the separators of the definition, with the figures that were answered.
-abbrev pub planWith : Job → Figures → Plan
-planWith job f =
-    record { separators = planOf job; count = f .count; allowed = f .allowance; bound = f .bottleneck; excess = f .imbalance }
+-- Scope 6.1: "A plan carries its separators, its count, its allowance, the bottleneck of its separators and its imbalance."
+unfoldable pub planFigures : Method → Job → Figures
+planFigures method job =
+    let B = bottleneck job (planOf job) in
+    record { count = countBy method job; allowance = allowance method job; bottleneck = B; imbalance = imbalance job B }
 
--- An accepted plan by a method. The lists s and t of separators and work numbers are s′ and t′ at exit.
-pub record PlanGiven (job : Job) (method : Method) (s t s′ t′ : List ℕ) (f : Figures) : Type 0 where
-  -- the method's own count, its allowance, bottleneck and imbalance, by their definitions
-  pub plan : PlanBy method job (planWith job f)
-  -- no division has a smaller bottleneck; of an equal one each separator is at or before
-  pub best : Best job (planOf job)
-  pub allowed : f .count ≤ f .allowance
-  -- the first P + 1 separators are the plan's, later ones stay
-  pub separators : s′ ≡ planOf job ++ drop (suc (processors job)) s
-  -- the first 5 × (N + 1) work numbers may hold anything, later ones stay
-  pub scratch : drop (scratchNeeded job) t′ ≡ drop (scratchNeeded job) t
-  pub same : length t′ ≡ length t
+-- The answer by the number of the refusal: the figures, or that number.
+unfoldable pub plannedOf : ℕ → Figures → Planned
+plannedOf number figures = cond (eqb number 0) (Accepted figures) (Refused number)
 
--- The answer by a method that is known: accepted exactly where nothing refuses, else the number, and everything lent stays.
-abbrev pub PlannedBy : Job → Method → List ℕ → List ℕ → List ℕ → List ℕ → Planned → Type 0
-PlannedBy job method s t s′ t′ (Accepted f) = (listsRefusal job (length s) (length t) ≡ 0) × PlanGiven job method s t s′ t′ f
-PlannedBy job method s t s′ t′ (Refused n) = (listsRefusal job (length s) (length t) ≡ n) × (0 < n) × (s′ ≡ s) × (t′ ≡ t)
+-- The answer by a method that is known, and the separators then. The lists s of separators and t of work numbers are lent.
+unfoldable pub methodAnswer : Job → Method → List ℕ → List ℕ → Planned
+methodAnswer job method s t = plannedOf (listsRefusal job (length s) (length t)) (planFigures method job)
 
--- The whole answer, by the number m of the method.
-abbrev pub PlanAnswer : Job → ℕ → List ℕ → List ℕ → List ℕ → List ℕ → Planned → Type 0
-PlanAnswer job m s t s′ t′ (Accepted f) =
-    (planRefusal job m (length s) (length t) ≡ 0) × ((method : Method) × (chosenOf m ≡ Known method) × PlanGiven job method s t s′ t′ f)
-PlanAnswer job m s t s′ t′ (Refused n) =
-    (planRefusal job m (length s) (length t) ≡ n) × (0 < n) × (s′ ≡ s) × (t′ ≡ t)
+unfoldable pub methodWrites : Job → List ℕ → List ℕ → List ℕ
+methodWrites job s t = lentAfter (listsRefusal job (length s) (length t)) (planOf job) s
 
--- The scope's number of an answer.
-abbrev pub plannedNumber : Planned → ℕ
-plannedNumber (Accepted f) = 0
-plannedNumber (Refused n) = n
+-- The answer by what the method's number stands for, and the number of the refusal.
+unfoldable pub chosenAnswer : Job → Chosen → ℕ → Planned
+chosenAnswer job (Known method) number = plannedOf number (planFigures method job)
+chosenAnswer job Unknown number = Refused number
+
+-- The whole answer, by the number m of the method, and the separators then.
+unfoldable pub planAnswer : Job → ℕ → List ℕ → List ℕ → Planned
+planAnswer job m s t = chosenAnswer job (chosenOf m) (planRefusal job m (length s) (length t))
+
+unfoldable pub planWrites : Job → ℕ → List ℕ → List ℕ → List ℕ
+planWrites job m s t = lentAfter (planRefusal job m (length s) (length t)) (planOf job) s
+
+-- What planning leaves of the work numbers t, by the number of the refusal: t′. On a refusal, Scope 8.1: "every list or buffer that was
+-- lent stays as it was". Scope 8.6: "After an accepted plan the first 5 × (N + 1) work numbers may hold anything; those behind them
+-- stay."
+pub record ScratchAfter (number : ℕ) (job : Job) (t t′ : List ℕ) : Type 0 where
+  pub refused : number ≢ 0 → t′ ≡ t
+  pub behind : KeptFrom (scratchNeeded job) t t′

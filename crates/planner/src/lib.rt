@@ -5,11 +5,12 @@ ghost use mathlib.Core.List.{_++_};
 ghost use lib.ListN.{length, drop};
 ghost use Rattle.chain.specs.Ranges.{Lendable};
 ghost use Rattle.chain.specs.Job.{Job, jobOf, processors, Valid};
-ghost use Rattle.chain.specs.Plan.{MethodEnds, PlanBy, planOf};
+ghost use Rattle.chain.specs.Plan.{MethodEnds, planOf};
 ghost use Rattle.refusals.specs.Inputs.{scratchNeeded};
 ghost use Rattle.parts.specs.Prefix.{Ready};
 ghost use Rattle.parts.specs.Kept.{KeptFrom};
-ghost use Rattle.planner.specs.Answers.{planWith, PlanGiven, PlannedBy, PlanAnswer};
+ghost use Rattle.planner.specs.Answers.{planRefusal, listsRefusal, planFigures, methodAnswer, methodWrites};
+ghost use Rattle.planner.specs.Answers.{planAnswer, planWrites, ScratchAfter};
 
 mod allowance;
 mod host;
@@ -93,8 +94,8 @@ fn close_plan(
     requires { λ job. ⌜ processors job < length (now separators) ⌝ }
     requires { λ job. ⌜ MethodEnds method job (found .count) (found .bound) ⌝ }
     requires { λ job. ⌜ Lendable (found .bound) ⌝ }
-    ensures { λ job r. ⌜ PlanBy method job (planWith job r) ⌝ }
-    ensures { λ job r. ⌜ now (separators .exit) ≡ planOf job ++ drop (suc (processors job)) (now (separators .entry)) ⌝ }
+    ensures { λ job r. ⌜ r ≡ planFigures method job ⌝ }
+    ensures { λ job _. ⌜ now (separators .exit) ≡ planOf job ++ drop (suc (processors job)) (now (separators .entry)) ⌝ }
 {
     let bound = found.bound;
     let count = found.count;
@@ -123,9 +124,10 @@ pub fn plan_in(
     requires { λ job. ⌜ jobOf (now speeds) (now weights) ≡ job ⌝ }
     requires { λ job. ⌜ Valid job ⌝ }
     requires { λ job. ⌜ (processors job < length (now separators)) × (scratchNeeded job ≤ length (now scratch)) ⌝ }
-    ensures { λ job r.
-        ⌜ PlanGiven job method (now (separators .entry)) (now (scratch .entry)) (now (separators .exit)) (now (scratch .exit)) r ⌝ }
-    ensures { λ job r. ⌜ Ready job (now (scratch .exit)) ⌝ }
+    ensures { λ job r. ⌜ r ≡ planFigures method job ⌝ }
+    ensures { λ job _. ⌜ now (separators .exit) ≡ planOf job ++ drop (suc (processors job)) (now (separators .entry)) ⌝ }
+    ensures { λ job _. ⌜ KeptFrom (scratchNeeded job) (now (scratch .entry)) (now (scratch .exit)) ⌝ }
+    ensures { λ job _. ⌜ Ready job (now (scratch .exit)) ⌝ }
 {
     prefix_sums(weights, scratch);
     let found = run_method(method, speeds, weights, separators, scratch);
@@ -140,9 +142,16 @@ fn plan_by(
     separators: &mut [u32],
     scratch: &mut [u32],
 ) -> Planned
-    ensures { λ r.
+    ensures answer { λ r.
         let job = jobOf (now (speeds .entry)) (now (weights .entry)) in
-        ⌜ PlannedBy job method (now (separators .entry)) (now (scratch .entry)) (now (separators .exit)) (now (scratch .exit)) r ⌝ }
+        ⌜ r ≡ methodAnswer job method (now (separators .entry)) (now (scratch .entry)) ⌝ }
+    ensures separators { λ _.
+        let job = jobOf (now (speeds .entry)) (now (weights .entry)) in
+        ⌜ now (separators .exit) ≡ methodWrites job (now (separators .entry)) (now (scratch .entry)) ⌝ }
+    ensures scratch { λ _.
+        let job = jobOf (now (speeds .entry)) (now (weights .entry)) in
+        let number = listsRefusal job (length (now (separators .entry))) (length (now (scratch .entry))) in
+        ⌜ ScratchAfter number job (now (scratch .entry)) (now (scratch .exit)) ⌝ }
 {
     let tested = test_plan(speeds, weights, separators.len(), scratch.len());
     if tested != 0 {
@@ -160,9 +169,16 @@ pub fn plan(
     separators: &mut [u32],
     scratch: &mut [u32],
 ) -> Planned
-    ensures { λ r.
+    ensures answer { λ r.
         let job = jobOf (now (speeds .entry)) (now (weights .entry)) in
-        ⌜ PlanAnswer job method (now (separators .entry)) (now (scratch .entry)) (now (separators .exit)) (now (scratch .exit)) r ⌝ }
+        ⌜ r ≡ planAnswer job method (now (separators .entry)) (now (scratch .entry)) ⌝ }
+    ensures separators { λ _.
+        let job = jobOf (now (speeds .entry)) (now (weights .entry)) in
+        ⌜ now (separators .exit) ≡ planWrites job method (now (separators .entry)) (now (scratch .entry)) ⌝ }
+    ensures scratch { λ _.
+        let job = jobOf (now (speeds .entry)) (now (weights .entry)) in
+        let number = planRefusal job method (length (now (separators .entry))) (length (now (scratch .entry))) in
+        ⌜ ScratchAfter number job (now (scratch .entry)) (now (scratch .exit)) ⌝ }
 {
     let chosen = choose(method);
     match chosen {

@@ -10,8 +10,7 @@ ghost use Rattle.jobs.specs.Answers.{readNumber, readAnswer, readSpeeds, readWe
 ghost use Rattle.calls.specs.Answers.{measuredNumber, measureAnswer, heuristicAnswer, heuristicWrites};
 ghost use Rattle.calls.specs.Answers.{probedNumber, probeAnswer, probeWrites};
 ghost use Rattle.planfile.specs.Answers.{writePlanAnswer, writePlanBytes};
-ghost use Rattle.planner.specs.Answers.{plannedNumber, PlanAnswer};
-ghost use Rattle.planner.specs.declared.Planned.{Planned};
+ghost use Rattle.planner.specs.Answers.{plannedNumber, planRefusal, planAnswer, planWrites, ScratchAfter};
 ghost use Rattle.test_exports.specs.Answer.{boundPut, readPut, writtenPut, measuredPut, outcomePut, probedPut, plannedPut};
 use bound::Bound;
 use calls::Measured;
@@ -264,12 +263,20 @@ pub extern "C" fn exported_plan(
     scratch: &mut [u32],
     answer: &mut [u64],
 ) -> u32
-    ensures { λ r.
+    ensures number { λ r.
         let job = jobOf (now (speeds .entry)) (now (weights .entry)) in
-        ⌜ ((a : Planned)
-        × ((r ≡ plannedNumber a)
-        × (now (answer .exit) ≡ plannedPut a (now (answer .entry)))
-        × PlanAnswer job method (now (separators .entry)) (now (scratch .entry)) (now (separators .exit)) (now (scratch .exit)) a)) ⌝ }
+        ⌜ r ≡ plannedNumber (planAnswer job method (now (separators .entry)) (now (scratch .entry))) ⌝ }
+    ensures separators { λ _.
+        let job = jobOf (now (speeds .entry)) (now (weights .entry)) in
+        ⌜ now (separators .exit) ≡ planWrites job method (now (separators .entry)) (now (scratch .entry)) ⌝ }
+    ensures scratch { λ _.
+        let job = jobOf (now (speeds .entry)) (now (weights .entry)) in
+        let number = planRefusal job method (length (now (separators .entry))) (length (now (scratch .entry))) in
+        ⌜ ScratchAfter number job (now (scratch .entry)) (now (scratch .exit)) ⌝ }
+    ensures answer { λ _.
+        let job = jobOf (now (speeds .entry)) (now (weights .entry)) in
+        let answered = planAnswer job method (now (separators .entry)) (now (scratch .entry)) in
+        ⌜ now (answer .exit) ≡ plannedPut answered (now (answer .entry)) ⌝ }
 {
     let planned = plan(method, speeds, weights, separators, scratch);
     put_planned(answer, planned)

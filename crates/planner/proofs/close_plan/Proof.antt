@@ -8,10 +8,11 @@ use Rattle.bound.specs.declared.Bound.{Bound}
 use Rattle.chain.specs.Job.{Job, jobOf, bottleneck}
 use Rattle.chain.specs.Probe.{walk}
 use Rattle.chain.specs.Plan.{planOf}
-use Rattle.chain.proofs.Parts.{valid-proper}
+use Rattle.chain.proofs.Parts.{valid-proper, valid-plannable}
+use Rattle.chain.proofs.Demand.{method-unique}
 use Rattle.chain.proofs.Walk.{walk-partition}
 use Rattle.parts.proofs.Front.{front-partition, front-bottleneck}
-use Rattle.planner.proofs.Laws.{walk-is-plan, method-fits, plan-small, plan-above, last-sum, plan-by}
+use Rattle.planner.proofs.Laws.{walk-is-plan, method-fits, plan-small, plan-above, last-sum, figures-are}
 use borrow.Author.Needs.{needs}
 use Rattle.planner.proofs.close_plan.Statement.{statement}
 use Rattle.planner.proofs.close_plan.Tie as tie
@@ -70,7 +71,7 @@ returns c =
     let b : c .before .before .before .before .measure-in .result ≡ bottleneck job (planOf job) =
     front-bottleneck (walk job W) l (walk-partition (valid-proper v) W (method-fits v (s .args .method) (s .args .found .count) W (s .pre .1 .1 .0))) (c .before .before .before .before .before .before .before .before .probe-in .ensures .1) (c .before .before .before .before .measure-in .ensures .1)
     ∙ ap (bottleneck job) e in (
-      plan-by W (s .args .method) _ v (s .pre .1 .1 .0) (c .before .allowance-of .ensures) b (c .imbalance-of .ensures),
+      figures-are job (s .args .method) (method-unique (valid-plannable v) (s .args .method) (s .args .found .count) W (s .pre .1 .1 .0)) (c .before .allowance-of .ensures) b (c .imbalance-of .ensures),
       c .before .before .before .before .before .before .before .before .probe-in .ensures .1 ∙ ap (λ (x : List ℕ). x ++ l) e,
     )
 

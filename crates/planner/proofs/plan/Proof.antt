@@ -1,13 +1,8 @@
 -- `plan` meets its contract: the method, then the plan by it.
 -- Assumes nothing.
-use mathlib.Core.Path.{refl, sym, _∙_}
-use native.Mathlib.Omega.{arith}
-use lib.ListN.{length}
+use mathlib.Core.Path.{sym, _∙_}
 use Rattle.chain.specs.Job.{Job, jobOf}
-use Rattle.refusals.proofs.Methods.{unknown-fails}
-use Rattle.refusals.proofs.Tests.{plan-unknown}
-use Rattle.planner.specs.Answers.{planRefusal}
-use Rattle.planner.proofs.Laws.{planned-known}
+use Rattle.planner.proofs.Laws.{number-unknown, number-known}
 use borrow.Author.Needs.{needs}
 use Rattle.planner.proofs.plan.Statement.{statement}
 use Rattle.planner.proofs.plan.Tie as tie
@@ -29,11 +24,9 @@ plan-by-requires : tie.Need-plan-by-requires
 plan-by-requires c κs = search needs
 
 returns : tie.Need-returns
-unfolding planRefusal
 returns c =
     let s = c .before .before .before .before .before .before .before in
-    let e = unknown-fails (s .args .method) (sym ((c .before .before .choose) .ensures) ∙ (c .enum-told) .given .1) in
-    (sym (plan-unknown (job-at s) (s .args .method) (length (s .args .separators .now)) (length (s .args .scratch .now)) e), omega arith, refl, refl)
+    number-unknown (job-at s) (s .args .method) (s .args .separators .now) (s .args .scratch .now) (sym ((c .before .before .choose) .ensures) ∙ (c .enum-told) .given .1)
 
 same-length : tie.Need-same-length
 same-length c = search needs
@@ -44,7 +37,7 @@ same-length-2 c = search needs
 returns-2 : tie.Need-returns-2
 returns-2 c =
     let s = c .before .before .before .before .before .before .before .before .before .before .before .before .before .before .before in
-    planned-known (job-at s) (s .args .method) (sym ((c .before .before .before .before .before .before .before .before .before .before .choose) .ensures) ∙ (c .before .before .before .before .before .before .before .before .chosen) .given .1) _ _ _ _ ((c .before .before .before .before .plan-by) .result) ((c .before .before .before .before .plan-by) .ensures)
+    number-known (job-at s) (s .args .method) (s .args .separators .now) (s .args .scratch .now) (sym ((c .before .before .before .before .before .before .before .before .before .before .choose) .ensures) ∙ (c .before .before .before .before .before .before .before .before .chosen) .given .1) ((c .before .before .before .before .plan-by) .ensures)
 
 pub plan-spec : {M : Type 1} → statement M
 plan-spec =

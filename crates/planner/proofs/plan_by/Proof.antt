@@ -1,19 +1,27 @@
 -- `plan_by` meets its contract: the tests, then the plan.
 -- Assumes nothing.
-use mathlib.Core.Path.{refl, sym, _∙_}
+use mathlib.Core.Path.{sym, _∙_}
 use native.Mathlib.Omega.{arith}
-use Rattle.refusals.proofs.Accepted.{passed}
+use Rattle.chain.specs.Job.{Job, jobOf}
+use Rattle.refusals.proofs.Accepted.{accepted, passed}
 use Rattle.planner.specs.Answers.{listsRefusal}
+use Rattle.planner.proofs.Laws.{method-refused, method-accepted}
 use borrow.Author.Needs.{needs}
 use Rattle.planner.proofs.plan_by.Statement.{statement}
 use Rattle.planner.proofs.plan_by.Tie as tie
+
+-- The job that the lists make.
+abbrev job-at : tie.Start → Job
+job-at s = jobOf (s .args .speeds .now) (s .args .weights .now)
 
 test-plan-requires : tie.Need-test-plan-requires
 test-plan-requires c κs = search needs
 
 returns : tie.Need-returns
 unfolding listsRefusal
-returns c = (sym ((c .before .test-plan) .ensures), omega (arith, c .if1 .taken), refl, refl)
+returns c =
+    let s = c .before .before .before .before .before .before in
+    method-refused (job-at s) (s .args .method) (s .args .separators .now) (s .args .scratch .now) ((c .before .test-plan) .ensures) (λ z. let y : ⊥ = omega (arith, c .if1 .taken) in y)
 
 plan-in-requires : tie.Need-plan-in-requires
 plan-in-requires c κs =
@@ -28,7 +36,11 @@ same-length-2 c = search needs
 
 returns-2 : tie.Need-returns-2
 unfolding listsRefusal
-returns-2 c = (sym ((c .before .before .before .before .before .before .before .before .test-plan) .ensures) ∙ (c .before .before .before .before .before .before .before .if1) .left, (c .before .before .before .before .plan-in) .ensures .0)
+returns-2 c =
+    let s = c .before .before .before .before .before .before .before .before .before .before .before .before .before in
+    let z = sym ((c .before .before .before .before .before .before .before .before .test-plan) .ensures) ∙ (c .before .before .before .before .before .before .before .if1) .left in
+    let p = (c .before .before .before .before .plan-in) .ensures in
+    method-accepted (job-at s) (s .args .method) (s .args .separators .now) (s .args .scratch .now) z (accepted z .valid) (p .0) (p .1 .0) (p .1 .1 .0)
 
 pub plan-by-spec : {M : Type 1} → statement M
 plan-by-spec =

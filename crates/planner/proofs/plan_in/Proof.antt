@@ -5,7 +5,7 @@ use Rattle.chain.specs.Job.{Job, jobOf}
 use Rattle.chain.specs.Plan.{planOf}
 use Rattle.parts.proofs.Front.{kept-is, kept-trans}
 use Rattle.parts.proofs.Laws.{sums-ready, weights-fit}
-use Rattle.planner.proofs.Laws.{summed-kept, plan-given}
+use Rattle.planner.proofs.Laws.{summed-kept}
 use borrow.Author.Needs.{needs}
 use Rattle.planner.proofs.plan_in.Statement.{statement}
 use Rattle.planner.proofs.plan_in.Tie as tie
@@ -45,12 +45,16 @@ returns : tie.Need-returns
 returns c =
     let s = c .before .before .before .before .before .before .before .before .before .before .before .before .before .before .before .before .before .before .before .before in
     let job : Job = job-at s in
-    let v = s .pre .0 in
     let r = c .before .before .before .before .before .before .before .before .before .run-method .ensures in
     let p = c .before .before .close-plan .ensures in (
-      plan-given v (p .0) (kept-is (planOf job) (r .1 .1 .0) (p .1))
-          (kept-trans (summed-kept job (s .args .scratch .now) (c .before .before .before .before .before .before .before .before .before .before .before .before .before .before .prefix-sums .ensures) (s .pre .1 .1)) (r .1 .1 .1 .1)),
-      r .1 .1 .1 .0,
+      p .0,
+      (
+        kept-is (planOf job) (r .1 .1 .0) (p .1),
+        (
+          kept-trans (summed-kept job (s .args .scratch .now) (c .before .before .before .before .before .before .before .before .before .before .before .before .before .before .prefix-sums .ensures) (s .pre .1 .1)) (r .1 .1 .1 .1),
+          r .1 .1 .1 .0,
+        ),
+      ),
     )
 
 pub plan-in-spec : {M : Type 1} → statement M

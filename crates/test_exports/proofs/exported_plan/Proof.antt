@@ -1,5 +1,9 @@
 -- `exported_plan` meets its contract: number, lists and figures are those of `plan`'s answer.
 -- Assumes nothing.
+use mathlib.Core.Path.{ap, _∙_}
+use Rattle.planner.specs.declared.Planned.{Planned}
+use Rattle.planner.specs.Answers.{plannedNumber}
+use Rattle.test_exports.specs.Answer.{plannedPut}
 use borrow.Author.Needs.{needs}
 use Rattle.test_exports.proofs.exported_plan.Statement.{statement}
 use Rattle.test_exports.proofs.exported_plan.Tie as tie
@@ -21,9 +25,10 @@ same-length-3 c = search needs
 
 returns : tie.Need-returns
 returns c =
-    let called = c .before .before .before .before .before .before .before .before .plan in
+    let a = c .before .before .before .before .before .before .before .before .before .before .before .before .before .before .before .before .args in
+    let r = c .before .before .before .before .before .before .before .before .plan .ensures in
     let p = c .before .before .put-planned .ensures in
-    (called .result, (p .0, p .1, called .ensures))
+    (p .0 ∙ ap plannedNumber (r .0), (r .1 .0, (r .1 .1, p .1 ∙ ap (λ (w : Planned). plannedPut w (a .answer .now)) (r .0))))
 
 pub exported-plan-spec : {M : Type 1} → statement M
 exported-plan-spec =

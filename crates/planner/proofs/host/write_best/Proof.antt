@@ -4,7 +4,10 @@ use native.Mathlib.Omega.{arith}
 use Rattle.chain.specs.Limits.{maxProcessors, maxTasks}
 use Rattle.chain.specs.Job.{Job, jobOf}
 use Rattle.chain.specs.Plan.{planOf}
+use Rattle.chain.proofs.Parts.{valid-plannable}
+use Rattle.chain.proofs.Demand.{plan-of-best}
 use Rattle.parts.proofs.Front.{front-partition}
+use Rattle.planner.proofs.Laws.{plan-length}
 use Rattle.planner.proofs.Reading.{best-bytes}
 use borrow.Author.Needs.{needs}
 use Rattle.planner.proofs.host.write_best.Statement.{statement}
@@ -37,7 +40,7 @@ put-plan-requires c κs =
     let s = c .before .before .before .before .before .before .before .before .before .before .before in
     let job : Job = job-at s in
     let g = c .before .before .before .before .before .plan-in .ensures in
-    (g .1, (front-partition (planOf job) _ (g .0 .best .partition) (g .0 .separators), s .pre .1))
+    (g .1 .1 .1, (front-partition (planOf job) _ (plan-of-best (valid-plannable (s .pre .0)) .partition) (g .1 .0), s .pre .1))
 
 same-length : tie.Need-same-length
 same-length c = search needs
@@ -46,8 +49,8 @@ returns : tie.Need-returns
 returns c =
     let s = c .before .before .before .before .before .before .before .before .before .before .before .before .before .before in
     let job : Job = job-at s in
-    let g = c .before .before .before .before .before .before .before .before .plan-in .ensures .0 in
-    best-bytes job _ _ _ (g .best .partition .count) (g .separators) (c .before .before .put-plan .ensures)
+    let g = c .before .before .before .before .before .before .before .before .plan-in .ensures in
+    best-bytes job _ _ _ (plan-length (s .pre .0)) (g .1 .0) (c .before .before .put-plan .ensures)
 
 pub write-best-spec : {M : Type 1} → statement M
 write-best-spec =

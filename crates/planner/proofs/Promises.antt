@@ -1,0 +1,172 @@
+-- Demand 3 of running code: what a caller may read off the answer of planning and off the lists that it leaves.
+-- Assumes nothing.
+use Prim.Native.Nat.{ℕ, suc, _≤_}
+use mathlib.Core.Path.{_≡_, refl, sym, ap, subst, _∙_}
+use mathlib.Core.Bool.{Bool, true, false, cond}
+use mathlib.Core.List.{List, _++_}
+use mathlib.Core.Logic.{_≢_}
+use native.Mathlib.Omega.{arith}
+use lib.Dec.{T, eqb, eqb→eq}
+use lib.ListN.{length, take, drop}
+use lib.Seq.{drop-at}
+use Rattle.chain.specs.declared.Method.{Method}
+use Rattle.chain.specs.Job.{Job, Valid, processors}
+use Rattle.chain.specs.Plan.{planOf, Best, MethodEnds, countBy, foundBy, Plan, PlanBy}
+use Rattle.chain.proofs.Parts.{valid-plannable}
+use Rattle.chain.proofs.Demand.{method-is, method-allowed, plan-of-best}
+use Rattle.refusals.specs.declared.Chosen.{Chosen}
+use Rattle.refusals.specs.declared.Chosen.the-variants.{Known, Unknown}
+use Rattle.refusals.specs.Methods.{chosenOf}
+use Rattle.refusals.proofs.Accepted.{accepted}
+use Rattle.refusals.proofs.Methods.{unknown-fails}
+use Rattle.refusals.proofs.Tests.{plan-unknown}
+use Rattle.refusals.proofs.Lent.{lent-refused, lent-front}
+use Rattle.parts.proofs.Front.{taken}
+use Rattle.planner.specs.declared.Figures.{Figures}
+use Rattle.planner.specs.declared.Planned.{Planned}
+use Rattle.planner.specs.declared.Planned.the-variants.{Accepted, Refused}
+use Rattle.planner.specs.Answers.{plannedNumber, planRefusal, planFigures, plannedOf, chosenAnswer, planAnswer, planWrites}
+use Rattle.planner.proofs.Laws.{walk-is-plan, plan-length}
+
+-- An answer by its number.
+planned-number : (n : ℕ) (f : Figures) → plannedNumber (plannedOf n f) ≡ n
+unfolding plannedOf
+planned-number n f = go (eqb n 0) refl
+  where
+    go : (b : Bool) → eqb n 0 ≡ b → plannedNumber (cond b (Accepted f) (Refused n)) ≡ n
+    go true e = sym (eqb→eq n 0 (subst T (sym e) tt))
+    go false e = refl
+
+planned-figures : {n : ℕ} {f g : Figures} → plannedOf n g ≡ Accepted f → (n ≡ 0) × (f ≡ g)
+unfolding plannedOf
+planned-figures {n} {f} {g} e = go (eqb n 0) refl e
+  where
+    go : (b : Bool) → eqb n 0 ≡ b → cond b (Accepted g) (Refused n) ≡ Accepted f → (n ≡ 0) × (f ≡ g)
+    go true x h = (eqb→eq n 0 (subst T (sym x) tt), cc)
+    go false x h = let z : _≡_ {A = ℕ} 0 1 = cc in absurd (let y : ⊥ = omega arith in y)
+
+planned-rejected : {n k : ℕ} (g : Figures) → plannedOf n g ≡ Refused k → n ≢ 0
+unfolding plannedOf
+planned-rejected {n} {k} g e z =
+    let h : Accepted g ≡ Refused k = ap (λ (j : ℕ). plannedOf j g) (sym z) ∙ e in
+    let w : _≡_ {A = ℕ} 0 1 = cc in
+    omega arith
+
+-- The plan that an accepted call gives: the separators of the definition, with the figures that were answered.
+abbrev pub planWith : Job → Figures → Plan
+planWith job f =
+    record { separators = planOf job; count = f .count; allowed = f .allowance; bound = f .bottleneck; excess = f .imbalance }
+
+module _ (job : Job) (m : ℕ) (s t : List ℕ) where
+  -- The answer's number is the refusal's.
+  pub plan-number : plannedNumber (planAnswer job m s t) ≡ planRefusal job m (length s) (length t)
+  unfolding planAnswer chosenAnswer
+  plan-number = go (chosenOf m)
+    where
+      go : (c : Chosen) → plannedNumber (chosenAnswer job c (planRefusal job m (length s) (length t))) ≡ planRefusal job m (length s) (length t)
+      go (Known method) = planned-number (planRefusal job m (length s) (length t)) (planFigures method job)
+      go Unknown = refl
+
+  -- A refusal is given with a number, and only where a test fails;
+  pub plan-refused : {n : ℕ} → planAnswer job m s t ≡ Refused n → (n ≡ planRefusal job m (length s) (length t)) × (n ≢ 0)
+  unfolding planAnswer chosenAnswer planRefusal
+  plan-refused {n} e = (is, λ z. go (chosenOf m) refl e (sym is ∙ z))
+    where
+      is : n ≡ planRefusal job m (length s) (length t)
+      is = sym (ap plannedNumber e) ∙ plan-number
+
+      go : (c : Chosen) → chosenOf m ≡ c → chosenAnswer job c (planRefusal job m (length s) (length t)) ≡ Refused n
+          → planRefusal job m (length s) (length t) ≡ 0 → ⊥
+      go (Known k) x h z = planned-rejected (planFigures k job) h z
+      go Unknown x h z =
+          let y : 1 ≡ planRefusal job m (length s) (length t) = plan-unknown job m (length s) (length t) (unknown-fails m x) in
+          omega (arith, y, z)
+
+  -- where none fails, the call is accepted.
+  pub plan-accepted : planRefusal job m (length s) (length t) ≡ 0 → (f : Figures) × (planAnswer job m s t ≡ Accepted f)
+  plan-accepted z = go (planAnswer job m s t) refl
+    where
+      go : (r : Planned) → planAnswer job m s t ≡ r → (f : Figures) × (planAnswer job m s t ≡ Accepted f)
+      go (Accepted f) e = (f, e)
+      go (Refused n) e = let r = plan-refused e in absurd (r .1 (r .0 ∙ z))
+
+  -- A refusal leaves the separators as they were.
+  pub plan-keeps : planRefusal job m (length s) (length t) ≢ 0 → planWrites job m s t ≡ s
+  unfolding planWrites
+  plan-keeps h = lent-refused h (planOf job) s
+
+  -- An accepted call: nothing refuses it, its number is a method's, and the figures are that method's.
+  pub record Given (f : Figures) : Type 0 where
+    pub none : planRefusal job m (length s) (length t) ≡ 0
+    pub method : Method
+    pub chosen : chosenOf m ≡ Known method
+    pub figures : f ≡ planFigures method job
+
+  pub given : {f : Figures} → planAnswer job m s t ≡ Accepted f → Given f
+  unfolding planAnswer chosenAnswer
+  given {f} e = go (chosenOf m) refl e
+    where
+      go : (c : Chosen) → chosenOf m ≡ c → chosenAnswer job c (planRefusal job m (length s) (length t)) ≡ Accepted f → Given f
+      go (Known k) x h = let p = planned-figures {n = planRefusal job m (length s) (length t)} h in record { none = p .0; method = k; chosen = x; figures = p .1 }
+      go Unknown x h = let z : _≡_ {A = ℕ} 0 1 = cc in absurd (let y : ⊥ = omega arith in y)
+
+  -- The job is then within the limits.
+  pub plan-valid : planRefusal job m (length s) (length t) ≡ 0 → Valid job
+  unfolding planRefusal
+  plan-valid z = (accepted z) .valid
+
+  module _ {f : Figures} (e : planAnswer job m s t ≡ Accepted f) where
+    valid : Valid job
+    valid = plan-valid (given e .none)
+
+    -- No division has a smaller bottleneck; of an equal one each separator is at or before.
+    pub accepted-best : Best job (planOf job)
+    accepted-best = plan-of-best (valid-plannable valid)
+
+    -- The method that was called ends with the count answered.
+    pub accepted-ends : MethodEnds (given e .method) job (f .count) (foundBy (given e .method) job)
+    unfolding planFigures
+    accepted-ends =
+        subst (λ (g : Figures). MethodEnds (given e .method) job (g .count) (foundBy (given e .method) job)) (sym (given e .figures))
+        (method-is (valid-plannable valid) (given e .method))
+
+    -- The plan is the method's, with every figure.
+    pub accepted-plan : PlanBy (given e .method) job (planWith job f)
+    unfolding planFigures
+    accepted-plan =
+        let is = method-is (valid-plannable valid) (given e .method) in
+        subst (λ (g : Figures). PlanBy (given e .method) job (planWith job g)) (sym (given e .figures))
+        (record {
+          found = foundBy (given e .method) job;
+          ended = is;
+          walked = sym (walk-is-plan valid (given e .method) (countBy (given e .method) job) (foundBy (given e .method) job) is);
+          allows = refl;
+          measured = refl;
+          exceeds = refl;
+        })
+
+    -- The count is within the allowance.
+    pub accepted-count : f .count ≤ f .allowance
+    unfolding planFigures
+    accepted-count =
+        subst (λ (g : Figures). g .count ≤ g .allowance) (sym (given e .figures))
+        (method-allowed (valid-plannable valid) (given e .method) (countBy (given e .method) job) (foundBy (given e .method) job)
+        (method-is (valid-plannable valid) (given e .method)))
+
+    written : planWrites job m s t ≡ planOf job ++ drop (suc (processors job)) s
+    unfolding planWrites
+    written = lent-front (planOf job) s (given e .none) (plan-length valid)
+
+    -- The first P + 1 separators are the plan's, and those behind stay.
+    pub accepted-separators : take (suc (processors job)) (planWrites job m s t) ≡ planOf job
+    accepted-separators = taken (planOf job) (drop (suc (processors job)) s) (plan-length valid) written
+
+    pub accepted-behind : drop (suc (processors job)) (planWrites job m s t) ≡ drop (suc (processors job)) s
+    accepted-behind =
+        ap (drop (suc (processors job))) written
+        ∙ drop-at (planOf job) (drop (suc (processors job)) s) (suc (processors job)) (plan-length valid)
+
+-- Any two accepted calls for a job, by whichever methods and with whichever lists, write the same separators.
+pub same-separators : (job : Job) (m k : ℕ) (s t s′ t′ : List ℕ) {f g : Figures} → planAnswer job m s t ≡ Accepted f → planAnswer job k s′ t′ ≡ Accepted g
+    → take (suc (processors job)) (planWrites job m s t) ≡ take (suc (processors job)) (planWrites job k s′ t′)
+same-separators job m k s t s′ t′ e h = accepted-separators job m s t e ∙ sym (accepted-separators job k s′ t′ h)
