@@ -11,7 +11,7 @@ use Rattle.bound.specs.Order.{_≼_, _≈_, Finite}
 use Rattle.bound.proofs.Order.{finite-below, le-refl, le-trans}
 use Rattle.chain.specs.Job.{Job, tasks, last, bottleneck, ideal}
 use Rattle.chain.specs.Probe.{walk, fits}
-use Rattle.chain.specs.Dynamic.{tableValue, moves}
+use Rattle.chain.specs.Dynamic.{tableValue}
 use Rattle.chain.specs.Bidding.{bidding}
 use Rattle.chain.specs.Bisection.{ends, meet}
 use Rattle.chain.specs.declared.Method.{Method}
