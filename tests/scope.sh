@@ -1,6 +1,7 @@
 #!/bin/sh
 # Every quote in a comment of crates/ stands in docs/SCOPE.md: behind 'Scope 3.4:' in that sentence, behind 'Refusal 7:' in that row of
-# the table, else anywhere on the page. ' .. ' in a quote leaves words out.
+# the table, else anywhere on the page. ' .. ' in a quote leaves words out. The page's worked jobs have the figures of their listings in
+# examples/, which are those that the program writes (tests/strips.sh).
 set -eu
 cd "$(dirname "$0")/.."
 find crates -name '*.antt' -o -name '*.rt' | grep -v /declared/ | LC_ALL=C sort | xargs awk '
@@ -59,3 +60,27 @@ find crates -name '*.antt' -o -name '*.rt' | grep -v /declared/ | LC_ALL=C sort 
     if (failed) { printf "tests/scope.sh: %d wrong\n", failed; exit 1 }
     printf "tests/scope.sh: %d quotes, each in docs/SCOPE.md, which has %d sentences\n", quotes, sentences
   }'
+
+# A row of the page's table from a listing: what stands behind weights and speeds; and N, P, Wtot.
+row() {
+    awk 'NR == 1 { n = $2; p = $4; total = $6; next }
+        { counts = counts comma $2; allowances = allowances comma $3; comma = ", "; bottleneck = $4 "/" $5; imbalance = $6
+          s = ""; for (i = 7; i <= NF; i++) s = s (i > 7 ? " " : "") $i }
+        END { print n, p, total " | " s " | " bottleneck " | " imbalance " | " counts " | " allowances " |" }' "$1"
+}
+failed=0
+for job in A B C D E; do
+    said=$(awk -v job="$job" -F ' *[|] *' '/^## / { inside = /^## 11 / } inside && $2 == job {
+        n = $3 == "none" ? 0 : split($3, w, " "); for (i = 1; i <= n; i++) total += w[i]
+        print n, split($4, e, " "), total + 0 " | " $5 " | " $6 " | " $7 " | " $8 " | " $9 " |" }' docs/SCOPE.md)
+    if [ "$said" != "$(row "examples/$job.txt")" ]; then
+        printf 'docs/SCOPE.md, section 11: job %s is said to have\n  %s\nand examples/%s.txt has\n  %s\n' "$job" "$said" "$job" "$(row "examples/$job.txt")"
+        failed=1
+    fi
+done
+if [ "$(sed -n '/^9\. `strips` writes for A:/,/^## /s/^       //p' docs/SCOPE.md)" != "$(cat examples/A.txt)" ]; then
+    echo "docs/SCOPE.md, sentence 11.9: the listing is not that of examples/A.txt"
+    failed=1
+fi
+[ "$failed" = 0 ] || { echo "tests/scope.sh: FAILED"; exit 1; }
+echo "tests/scope.sh: the worked jobs have the figures of their listings"
