@@ -23,7 +23,7 @@ impl Bound {
         a.load * b.speed <= b.load * a.speed
     }
 
-    // Whether a is nought, as a bound.
+    // Whether a is nought, as a bound. Inner.
     pub fn is_nought(a: Bound) -> bool
         ensures { λ r. ⌜ r ≡ le a nought ⌝ }
     {

@@ -126,7 +126,7 @@ fn is_partition(speeds: &[u32], weights: &[u32], separators: &[u32]) -> bool
     separators[p] as usize == weights.len()
 }
 
-// The method with this number. No other number is a method's: refusal 1.
+// Inner. The method with this number. No other number is a method's: refusal 1.
 pub fn choose(number: u32) -> Chosen
     ensures { λ r. ⌜ r ≡ chosenOf number ⌝ }
 {
