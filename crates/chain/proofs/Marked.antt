@@ -13,8 +13,8 @@ use Rattle.chain.specs.Bidding.{bidding}
 use Rattle.chain.specs.Bisection.{firstEnds, nextEnds, ends, meet}
 use Rattle.chain.specs.Plan.{spread, onward, partitions, leastBound, leastBottleneck, planOf, difference, allowance, biddingFailures, bisectionRounds, countBy, foundBy, imbalance}
 use Rattle.chain.specs.Refusal.{eachBetween, methodTest, speedsTest, weightsTest, processorsTest, tasksTest, lengthTest, boundTest, isPartition, partitionTest, firstRefusal, jobTests, callTests, refusal}
-use Rattle.chain.specs.Marked.{sameList, samePair, countsAre, allowancesAre, walksAre, isFailing, isFitting, holds, everyHolds, marked, worked}
+use Rattle.chain.specs.Marked.{sameList, samePair, figuresAre, walksAre, isFailing, isFitting, holds, everyHolds, marked, worked}
 
 pub marked-jobs : T (everyHolds (marked ++ worked))
-unfolding le greater lesser maxTasks maxWeight maxProcessors maxSpeed maxBoundLoad maxBoundSpeed sum greatestOf leastOf tabulate sumTo all greatestFrom smallestFrom smallestLeast digitsWithin digits speedOf partOf partWeight partLoad slowestOf partBound within offer boundAt bottleneckTo bottleneck ideal reach separator walk fits bid leastBidTo nextBid probe miss nearest heuristic startOf candidate crossingOf lesserAt tableValue crossing movesTo moves bidding firstEnds nextEnds ends meet spread onward partitions leastBound leastBottleneck planOf difference allowance biddingFailures bisectionRounds countBy foundBy imbalance eachBetween methodTest speedsTest weightsTest processorsTest tasksTest lengthTest boundTest isPartition partitionTest firstRefusal jobTests callTests refusal sameList samePair countsAre allowancesAre walksAre isFailing isFitting holds everyHolds marked worked
+unfolding le greater lesser maxTasks maxWeight maxProcessors maxSpeed maxBoundLoad maxBoundSpeed sum greatestOf leastOf tabulate sumTo all greatestFrom smallestFrom smallestLeast digitsWithin digits speedOf partOf partWeight partLoad slowestOf partBound within offer boundAt bottleneckTo bottleneck ideal reach separator walk fits bid leastBidTo nextBid probe miss nearest heuristic startOf candidate crossingOf lesserAt tableValue crossing movesTo moves bidding firstEnds nextEnds ends meet spread onward partitions leastBound leastBottleneck planOf difference allowance biddingFailures bisectionRounds countBy foundBy imbalance eachBetween methodTest speedsTest weightsTest processorsTest tasksTest lengthTest boundTest isPartition partitionTest firstRefusal jobTests callTests refusal sameList samePair figuresAre walksAre isFailing isFitting holds everyHolds marked worked
 marked-jobs = tt

@@ -5,6 +5,7 @@ use mathlib.Core.List.{List, [], _∷_}
 use lib.Dec.{eqb}
 use Rattle.bound.specs.declared.Bound.{Bound}
 use Rattle.bound.specs.Order.{over}
+use Rattle.chain.specs.declared.Method.{Method}
 use Rattle.chain.specs.declared.Method.the-variants.{Table, Bidding, Bisection}
 use Rattle.chain.specs.declared.Outcome.{Outcome}
 use Rattle.chain.specs.declared.Outcome.the-variants.{Fits, Fails}
@@ -33,16 +34,9 @@ pub record Three : Type 0 where
 abbrev pub three : ℕ → ℕ → ℕ → Three
 three a b c = record { byTable = a; byBidding = b; byBisection = c }
 
--- The counts are those of the methods.
-unfoldable pub countsAre : Job → Three → Bool
-countsAre job n =
-    eqb (countBy Table job) (n .byTable) && eqb (countBy Bidding job) (n .byBidding) && eqb (countBy Bisection job) (n .byBisection)
-
--- The allowances are those of the methods.
-unfoldable pub allowancesAre : Job → Three → Bool
-allowancesAre job a =
-    eqb (allowance Table job) (a .byTable) && eqb (allowance Bidding job) (a .byBidding)
-    && eqb (allowance Bisection job) (a .byBisection)
+-- The figures are f's, method by method.
+unfoldable pub figuresAre : (Method → ℕ) → Three → Bool
+figuresAre f n = eqb (f Table) (n .byTable) && eqb (f Bidding) (n .byBidding) && eqb (f Bisection) (n .byBisection)
 
 -- The walk at the bottleneck that a method finds gives these separators, for each method.
 unfoldable pub walksAre : Job → List ℕ → Bool
@@ -74,8 +68,8 @@ isFitting (Fails B) = false
 -- The row says what the definitions give.
 unfoldable pub holds : Row → Bool
 holds (planned job s B i n a) =
-    sameList (planOf job) s && samePair (bottleneck job s) B && eqb (imbalance job B) i && countsAre job n && allowancesAre job a
-    && walksAre job s
+    sameList (planOf job) s && samePair (bottleneck job s) B && eqb (imbalance job B) i && figuresAre (λ m. countBy m job) n
+    && figuresAre (λ m. allowance m job) a && walksAre job s
 holds (fitsWith job B s) = isFitting (probe job B) && sameList (walk job B) s
 holds (failsWith job B C) = isFailing (probe job B) C
 holds (quick job s B) = sameList (heuristic job) s && samePair (bottleneck job s) B
