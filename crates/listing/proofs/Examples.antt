@@ -21,6 +21,7 @@ use Rattle.refusals.specs.Methods.{numberOf}
 use Rattle.jobs.specs.JobFile.{recordBytes, recordsBytes, jobBytes}
 use Rattle.jobs.specs.Parse.{byteAt, kindAt, valueAt, isKind, taskBefore, multipleTest, blank, formTest, orderTest, speedTest, weightTest, recordTests, recordsTests, valuesOf, speedsOf, weightsOf, fileTests, fileRefusal}
 use Rattle.planner.specs.Answers.{planFigures}
+use Rattle.listing.specs.Room.{listingRoom}
 use Rattle.listing.specs.Listing.{text, width, decimal, field, fields, labelled, countsLine, figuresText, planLine, methodLine, jobListing, refusalLine, listingOf, intake, listing}
 
 -- Job A's file gives, Scope 11.9, the four lines.
@@ -46,3 +47,8 @@ pub listings : lists fileA "tiles 3 machines 2 total 12\n1 2 3 11 3 222 0 1 3\n2
     × lists (replicate 7 0) "refused 2\n"
 unfolding le greater lesser maxTasks maxWeight maxProcessors maxSpeed sum greatestOf leastOf tabulate sumTo all greatestFrom smallestFrom smallestLeast digitsWithin digits speedOf partOf partWeight partLoad slowestOf partBound within offer boundAt bottleneckTo bottleneck ideal reach separator walk fits bid leastBidTo nextBid miss nearest heuristic startOf candidate crossingOf lesserAt tableValue crossing movesTo moves bidding firstEnds nextEnds ends meet spread onward partitions leastBound leastBottleneck planOf difference allowance biddingFailures bisectionRounds countBy imbalance processorsTest tasksTest firstRefusal fieldBytes fieldAt numberOf recordBytes recordsBytes jobBytes byteAt kindAt valueAt isKind taskBefore multipleTest blank formTest orderTest speedTest weightTest recordTests recordsTests valuesOf speedsOf weightsOf fileTests fileRefusal planFigures text width decimal field fields labelled countsLine figuresText planLine methodLine jobListing refusalLine listingOf intake listing
 listings = (refl, refl, refl, refl, refl, refl, refl)
+
+-- Scope 8.7: "16,653 bytes for a listing"
+pub room : listingRoom ≡ 16653
+unfolding listingRoom maxProcessors
+room = refl

@@ -1,4 +1,4 @@
--- The most bytes of what a listing is made of, and what putting a text into a buffer leaves.
+-- Room for what a listing is made of, and what putting a text into a buffer leaves.
 use Prim.Native.Nat.{ℕ, _+_, _*_}
 use mathlib.Core.Path.{_≡_}
 use mathlib.Core.List.{List}
@@ -26,11 +26,7 @@ planRoom separators = figuresRoom + fieldRoom * separators
 abbrev pub countsRoom : ℕ
 countsRoom = 21 + 3 * fieldRoom
 
--- The line of a refusal: `refused` and the line feed, and a field.
-abbrev pub refusalRoom : ℕ
-refusalRoom = 8 + fieldRoom
-
--- The whole listing: the first line, and one for each of the three methods.
+-- The whole listing: the first line, and one for each of the three methods. The line of a refusal is shorter.
 unfoldable pub listingRoom : ℕ
 listingRoom = countsRoom + 3 * planRoom (maxProcessors + 1)
 

@@ -9,7 +9,7 @@ ghost use Rattle.jobs.specs.Parse.{fileRefusal};
 ghost use Rattle.listing.specs.Listing as says;
 ghost use Rattle.listing.specs.Listing.{decimal, field, fields, countsLine, figuresText, planLine, methodLine, jobListing, refusalLine};
 ghost use Rattle.listing.specs.Listing.{listingOf};
-ghost use Rattle.listing.specs.Room.{numberRoom, fieldRoom, figuresRoom, planRoom, countsRoom, refusalRoom, listingRoom};
+ghost use Rattle.listing.specs.Room.{numberRoom, fieldRoom, figuresRoom, planRoom, countsRoom, listingRoom};
 ghost use Rattle.listing.specs.Room.{Put};
 ghost use Rattle.listing.specs.Answers.{listAnswer, listWrites};
 use chain::Method;
@@ -31,7 +31,7 @@ use refusals::test_length;
 // One record more than the longest job: a longer file is judged by that much.
 pub const INTAKE: usize = RECORD * (MAX_PROCESSORS + MAX_TASKS + 1);
 
-// The most bytes that each takes: a number of 64 bits, one with its space, the line of a plan, the first line, the listing.
+// Room for each: a number of 64 bits, one with its space, the line of a plan, the first line, the listing.
 const NUMBER_ROOM: usize = 20;
 
 const FIELD_ROOM: usize = 1 + NUMBER_ROOM;
@@ -104,9 +104,9 @@ fn put_labelled(word: &[u8], n: u64, at: usize, out: &mut [u8]) -> usize
 
 // Inner. Puts the line of a refusal.
 fn put_refusal_line(number: u32, out: &mut [u8]) -> usize
-    requires { ⌜ refusalRoom ≤ length (now out) ⌝ }
+    requires { ⌜ listingRoom ≤ length (now out) ⌝ }
     ensures { λ r. ⌜ Put (refusalLine number) 0 (now (out .entry)) (now (out .exit)) r ⌝ }
-    ensures { λ r. ⌜ r ≤ refusalRoom ⌝ }
+    ensures { λ r. ⌜ r ≤ listingRoom ⌝ }
 {
     let next = put_labelled(b"refused", wide(number), 0, out);
     put_text(b"\n", next, out)

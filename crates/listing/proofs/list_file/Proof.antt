@@ -7,7 +7,6 @@ use lib.ListN.{replicate, length-replicate}
 use lib.Seq.{length-take-le}
 use Rattle.chain.specs.Limits.{maxProcessors, maxTasks}
 use Rattle.planner.proofs.Reading.{read-taken, read-rejected, taken-job, taken-valid}
-use Rattle.listing.specs.Room.{listingRoom}
 use Rattle.listing.proofs.Laws.{put-as}
 use Rattle.listing.proofs.Listings.{listed-read, listed-refused}
 use borrow.Author.Needs.{needs}
@@ -60,8 +59,7 @@ enum-known-read-2 : tie.Need-enum-known-read-2
 enum-known-read-2 c = search needs
 
 put-refusal-line-requires : tie.Need-put-refusal-line-requires
-unfolding listingRoom
-put-refusal-line-requires c κs = omega arith
+put-refusal-line-requires c κs = search needs
 
 same-length : tie.Need-same-length
 same-length c = search needs
@@ -76,7 +74,7 @@ same-length-2 : tie.Need-same-length-2
 same-length-2 c = search needs
 
 returns-2 : tie.Need-returns-2
-unfolding listingRoom maxProcessors maxTasks
+unfolding maxProcessors maxTasks
 returns-2 c =
     let file = c .before .before .before .before .before .before .before .before .before .before .before .before .before .before .args .file .now in
     let k =
