@@ -16,7 +16,8 @@ listTests lent = lengthTest listingRoom lent ∷ []
 unfoldable pub listRefusal : ℕ → ℕ
 listRefusal lent = firstRefusal (listTests lent)
 
--- The answer: the count of bytes, or the number of the refusal; and the buffer then.
+-- Scope 9.8: "puts the listing to the front of a lent buffer and answers how many bytes it has": the answer, that count or the number
+-- of the refusal; and the buffer then.
 unfoldable pub listAnswer : List ℕ → ℕ → Written
 listAnswer file lent = writtenOf (listRefusal lent) (length (listing file))
 
