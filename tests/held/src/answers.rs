@@ -4,7 +4,7 @@ use crate::job::{self, Job};
 use crate::methods::{self, Tried};
 use crate::planner::Call;
 use crate::slow::{self, Bound};
-use crate::{damage, fast};
+use crate::{damage, fast, listing};
 
 /// What a lent list holds after a call: this in front, then `free` bytes with anything, then what it held.
 #[derive(Clone, Debug, Default)]
@@ -73,6 +73,7 @@ pub fn expected(call: Call, given: &[&[u8]], solved: Option<&Solved>) -> Result<
     match call {
         Call::Read => read(given),
         Call::Host { method } => host(method, given, solved),
+        Call::List => listed(given),
         Call::Plan { method } if !(1..=3).contains(&method) => Err(1),
         _ => {
             let (speeds, weights) = (words(given[0]), words(given[1]));
@@ -106,6 +107,16 @@ fn host(method: u32, given: &[&[u8]], solved: Option<&Solved>) -> Result<Vec<Aft
     };
     let plan = job::encode(&job::plan_of(&job, best));
     Ok(vec![After::default(), After { front: plan, free: 0 }])
+}
+
+/// The listing, in a buffer with room for the longest one.
+fn listed(given: &[&[u8]]) -> Result<Vec<After>, u32> {
+    if given[1].len() < listing::ROOM {
+        return Err(9);
+    }
+    let text = listing::wanted(given[0]).into_bytes();
+    let bytes = text.len() as u128;
+    Ok(vec![After::default(), After { front: text, free: 0 }, answer(given[2], &[bytes])])
 }
 
 /// The calls on lists, where the job itself is accepted.

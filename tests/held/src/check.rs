@@ -24,12 +24,12 @@ pub struct Check {
     /// The part of the test that runs.
     pub part: &'static str,
     /// How often each call gave each number.
-    seen: [[u64; 13]; 9],
+    seen: [[u64; 13]; 10],
     pub fits: u64,
 }
 
 /// The calls, the name of each, and the numbers that it can give.
-pub const KINDS: [(&str, &[u32]); 9] = [
+pub const KINDS: [(&str, &[u32]); 10] = [
     ("testing", &[0, 5, 6, 7, 8]),
     ("reading", &[0, 2, 3, 4, 5, 6, 7, 8, 9]),
     ("writing", &[0, 5, 6, 7, 8, 9]),
@@ -39,6 +39,7 @@ pub const KINDS: [(&str, &[u32]); 9] = [
     ("plan", &[0, 1, 5, 6, 7, 8, 9]),
     ("plan file", &[0, 5, 6, 7, 8, 9, 11]),
     ("C call", &[0, 1, 2, 3, 4, 5, 6, 7, 8, 9]),
+    ("listing", &[0, 9]),
 ];
 
 fn kind(call: Call) -> usize {
@@ -52,6 +53,7 @@ fn kind(call: Call) -> usize {
         Call::Plan { .. } => 6,
         Call::PlanFile => 7,
         Call::Host { .. } => 8,
+        Call::List => 9,
     }
 }
 
@@ -95,7 +97,7 @@ impl Check {
             failures: 0,
             hasty: false,
             part: "",
-            seen: [[0; 13]; 9],
+            seen: [[0; 13]; 10],
             fits: 0,
         }
     }

@@ -5,6 +5,7 @@ use std::sync::OnceLock;
 
 use crate::answers;
 use crate::job::{self, Job};
+use crate::listing;
 use crate::methods::{self, Tried};
 use crate::planner::{self, At, Call, Slot};
 use crate::slow::{self, less, Bound};
@@ -82,7 +83,7 @@ impl Lists<'_> {
 
     fn job(&self) -> Job {
         match self.call {
-            Call::Read | Call::Host { .. } => job::read(self.bytes(Slot::File), 1, usize::MAX).unwrap(),
+            Call::Read | Call::List | Call::Host { .. } => job::read(self.bytes(Slot::File), 1, usize::MAX).unwrap(),
             _ => Job::new(self.words(Slot::Speeds), self.words(Slot::Weights)),
         }
     }
@@ -101,6 +102,15 @@ impl Lists<'_> {
 
     fn is_trial(&self) -> bool {
         matches!(self.call, Call::Trial { .. })
+    }
+
+    /// Spoils a listing, which has so many bytes.
+    fn listed(&self, spoil: impl FnOnce(&Self, usize)) -> u32 {
+        let code = self.real();
+        if self.call == Call::List && code == 0 {
+            spoil(self, listing::wanted(self.bytes(Slot::File)).len());
+        }
+        code
     }
 
     /// Spoils an entry of the answer of an accepted call.
@@ -420,15 +430,18 @@ const FAULTS: &[(&str, &str, Run)] = &[
     ("refused-file", "writing: the buffer changed on refusal", |l| l.mark(l.call == Call::Write, Slot::File)),
     ("refused-speeds", "reading: the list of speeds changed on refusal", |l| l.mark(l.call == Call::Read, Slot::Speeds)),
     ("refused-plan", "plan file: the buffer changed on refusal", |l| l.mark(l.call == Call::PlanFile, Slot::Plan)),
+    ("refused-text", "listing: the buffer changed on refusal", |l| l.mark(l.call == Call::List, Slot::Text)),
     ("past-separators", "quick plan: written past the separators", |l| l.stray(l.call == Call::Quick, Slot::Separators, true)),
     ("past-work", "plan: written past the work numbers", |l| l.stray(l.is_plans(), Slot::Work, true)),
     ("past-weights", "reading: written past the weights", |l| l.stray(l.call == Call::Read, Slot::Weights, true)),
     ("past-file", "writing: written past the buffer", |l| l.stray(l.call == Call::Write, Slot::File, true)),
+    ("past-text", "listing: written past the buffer", |l| l.listed(|l, _| if let Some((at, n)) = l.place(Slot::Text) { unsafe { *at.wrapping_add(n) ^= 1 } })),
     ("before-plan", "plan file: written before the buffer", |l| l.stray(l.call == Call::PlanFile, Slot::Plan, false)),
     ("later-separators", "plan: the entry after the separators changed", |l| l.then(l.is_plans(), |j| if let Some(v) = l.words(Slot::Separators).get_mut(j.speeds.len() + 1) { *v ^= 1 })),
     ("later-work", "plan: a work number past 5 (N + 1) changed", |l| l.then(l.is_plans(), |j| if let Some(v) = l.words(Slot::Work).get_mut(5 * (j.weights.len() + 1)) { *v ^= 1 })),
     ("later-speeds", "reading: entries after the speeds cleared", |l| l.then(l.call == Call::Read, |j| l.words(Slot::Speeds)[j.speeds.len()..].fill(0))),
     ("later-file", "writing: bytes after the file cleared", |l| l.then(l.call == Call::Write, |j| l.bytes(Slot::File)[8 * (j.speeds.len() + j.weights.len())..].fill(0))),
+    ("later-text", "listing: the byte after it changed", |l| l.listed(|l, n| if let Some(v) = l.bytes(Slot::Text).get_mut(n) { *v ^= 1 })),
     ("input-weights", "measuring: a weight changed", |l| l.then(l.call == Call::Measure, |_| if let Some(v) = l.words(Slot::Weights).first_mut() { *v ^= 1 })),
     ("input-separators", "plan file: a separator changed", |l| l.then(l.call == Call::PlanFile, |_| l.words(Slot::Separators)[0] ^= 1)),
     // Files.
@@ -448,6 +461,9 @@ const FAULTS: &[(&str, &str, Run)] = &[
     ("planfile-30-bits", "plan file: a load of 30 bits", |l| l.records(l.call == Call::PlanFile, |r| r[11] &= 0x3F)),
     ("planfile-count", "plan file: records counted, not bytes", |l| l.figure(l.call == Call::PlanFile, 0, |_, v| v / 16)),
     ("planfile-no-division", "plan file: a division that ends early taken", |l| match l.real() { 11 if l.call == Call::PlanFile => { let (s, n) = (l.words(Slot::Separators), l.at[0].1); if answers::is_division(&s[..n + 1], s[n] as usize) && (s[n] as usize) < l.at[1].1 { 0 } else { 11 } } n => n }),
+    ("list-space", "listing: two spaces in the place of the first digit and its space", |l| l.listed(|l, _| if let Some(k) = l.bytes(Slot::Text).iter().position(|&b| b == b' ') { l.bytes(Slot::Text)[k + 1] = b' ' })),
+    ("list-count", "listing: a byte too many counted", |l| l.listed(|l, _| if let Some(v) = l.answer().first_mut() { *v += 1 })),
+    ("list-short", "listing: a buffer one byte too short taken for enough", |l| match l.real() { 9 if l.call == Call::List && l.at[1].1 + 1 == listing::ROOM => 0, code => code }),
     // Measuring, trial, quick plan.
     ("measure-no-division", "measuring: a division that does not begin at 0 taken", |l| match l.real() { 11 if l.call == Call::Measure => { let (s, n) = (l.words(Slot::Separators), l.at[0].1); let first = std::mem::replace(&mut s[0], 0); let code = l.real(); s[0] = first; if n > 0 { code } else { 11 } } n => n }),
     ("measure-load", "measuring: the greatest load, not the greatest bound", |l| { let s = l.words(Slot::Separators).to_vec(); l.pair(l.call == Call::Measure, 0, |j, _| (0..j.speeds.len()).map(|p| (j.weight(s[p] as usize, s[p + 1] as usize), j.speeds[p] as u128)).reduce(|a, b| if b.0 > a.0 { b } else { a }).unwrap()) }),

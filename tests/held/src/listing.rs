@@ -1,4 +1,5 @@
-//! The program `strips`: what it writes for a file, however the file comes, against the solver.
+//! The listing: what the program `strips` writes for a file, however the file comes, and what the call puts into a buffer, against
+//! the solver.
 
 use std::io::Write;
 use std::process::{Command, Stdio};
@@ -13,8 +14,11 @@ use crate::{damage, methods, small};
 /// One record more than the longest job: what the program takes in.
 const INTAKE: usize = 8 * (256 + 2_048 + 1);
 
+/// Three lines of a plan with 256 machines and the first line, each number taken for one of 20 digits.
+pub const ROOM: usize = 84 + 3 * (126 + 21 * 257);
+
 /// What the program must write.
-fn wanted(file: &[u8]) -> String {
+pub fn wanted(file: &[u8]) -> String {
     let taken = &file[..file.len().min(INTAKE)];
     let job = match job::read(taken, 1, usize::MAX) {
         Ok(job) => job,
@@ -65,12 +69,26 @@ fn one(c: &mut Check, program: &str, file: &[u8]) {
     let pieces = if c.rng.once_in(4) { 1 + c.rng.below(4) } else { 0 };
     let mut cuts: Vec<usize> = (0..pieces).map(|_| c.rng.below(file.len() + 1)).collect();
     cuts.sort();
+    called(c, file);
     let must = wanted(file);
     let got = fed(program, file, &cuts, (pieces > 0) as u64);
     if got != must {
         let what = format!("strips, in pieces {:?}, writes\n{}instead of\n{}", cuts, got, must);
         c.fail(&what, check::describe(Call::Host { method: 0 }, &[file, &[]]));
     }
+}
+
+/// By the call: a buffer of just enough room or of more, now and then one that is too short.
+fn called(c: &mut Check, file: &[u8]) {
+    let room = match c.rng.below(8) {
+        0 => c.rng.below(ROOM),
+        1 => ROOM - 1,
+        2..=4 => ROOM,
+        _ => ROOM + 1 + c.rng.below(300),
+    };
+    let (text, entries) = (c.rng.pattern(room), c.rng.below(3));
+    let answer = c.rng.pattern(8 * entries);
+    c.judge(Call::List, &[file, &text, &answer], None);
 }
 
 fn random_job(c: &mut Check, machines: usize, tiles: usize) -> Job {

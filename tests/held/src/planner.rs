@@ -11,6 +11,7 @@ pub enum Call {
     Quick,
     Plan { method: u32 },
     PlanFile,
+    List,
     Host { method: u32 },
 }
 
@@ -23,6 +24,7 @@ pub enum Slot {
     Work,
     File,
     Plan,
+    Text,
     Answer,
 }
 
@@ -30,7 +32,7 @@ impl Slot {
     /// The bytes of an entry.
     pub fn width(self) -> usize {
         match self {
-            Slot::File | Slot::Plan => 1,
+            Slot::File | Slot::Plan | Slot::Text => 1,
             Slot::Answer => 8,
             _ => 4,
         }
@@ -48,6 +50,7 @@ impl Call {
             Call::Measure | Call::Trial { .. } | Call::Quick => &[Speeds, Weights, Separators, Answer],
             Call::Plan { .. } => &[Speeds, Weights, Separators, Work, Answer],
             Call::PlanFile => &[Speeds, Weights, Separators, Plan, Answer],
+            Call::List => &[File, Text, Answer],
             Call::Host { .. } => &[File, Plan],
         }
     }
@@ -65,6 +68,7 @@ extern "C" {
     fn exported_test_job(e: Words, e_len: usize, w: Words, w_len: usize) -> u32;
     fn exported_read_job(f: Bytes, f_len: usize, e: Words, e_len: usize, w: Words, w_len: usize, a: Longs, a_len: usize) -> u32;
     fn exported_write_job(e: Words, e_len: usize, w: Words, w_len: usize, f: Bytes, f_len: usize, a: Longs, a_len: usize) -> u32;
+    fn exported_list(f: Bytes, f_len: usize, t: Bytes, t_len: usize, a: Longs, a_len: usize) -> u32;
     fn exported_measure(e: Words, e_len: usize, w: Words, w_len: usize, s: Words, s_len: usize, a: Longs, a_len: usize) -> u32;
     fn exported_heuristic(e: Words, e_len: usize, w: Words, w_len: usize, s: Words, s_len: usize, a: Longs, a_len: usize) -> u32;
     #[rustfmt::skip]
@@ -91,6 +95,7 @@ pub unsafe fn real(call: Call, at: &[At]) -> u32 {
         Call::Quick => exported_heuristic(w(0), n(0), w(1), n(1), w(2), n(2), a(3), n(3)),
         Call::Plan { method } => exported_plan(method, w(0), n(0), w(1), n(1), w(2), n(2), w(3), n(3), a(4), n(4)),
         Call::PlanFile => exported_write_plan(w(0), n(0), w(1), n(1), w(2), n(2), b(3), n(3), a(4), n(4)),
+        Call::List => exported_list(b(0), n(0), b(1), n(1), a(2), n(2)),
         Call::Host { method } => plan_job(b(0), n(0), method, b(1), n(1)),
     }
 }
