@@ -23,18 +23,18 @@ use Rattle.planfile.proofs.Records.{length-plan}
 use Rattle.planfile.proofs.Promises.{lent-loads-add-up}
 use Rattle.refusals.specs.Inputs.{planNeeded, planInputs}
 use Rattle.refusals.proofs.Lent.{lent-refused, lent-front}
-use Rattle.planner.specs.Answers.{plannedNumber, planRefusal, planAnswer}
+use Rattle.planner.specs.Answers.{plannedSaid, planRefusal, planAnswer}
 use Rattle.planner.proofs.Promises.{plan-number}
 use Rattle.planner.specs.HostCall.{hostFileTests, hostTests, hostAnswer, bytesAfter, hostWrites}
 
 -- Planning: 0, or one of 1 and 5 to 9; that of the first test that fails.
 module _ (job : Job) (m : ℕ) (s t : List ℕ) where
-  pub plan-numbers : List·Memᴰ (plannedNumber (planAnswer job m s t)) (0 ∷ 1 ∷ 5 ∷ 6 ∷ 7 ∷ 8 ∷ 9 ∷ [])
+  pub plan-numbers : List·Memᴰ ((plannedSaid (planAnswer job m s t)) .number) (0 ∷ 1 ∷ 5 ∷ 6 ∷ 7 ∷ 8 ∷ 9 ∷ [])
   unfolding planRefusal refusal callTests jobTests methodTest speedsTest weightsTest processorsTest tasksTest lengthTest
   plan-numbers = given-number (1 ∷ 5 ∷ 6 ∷ 7 ∷ 8 ∷ 9 ∷ []) (callTests job (planInputs job m (length s) (length t))) (plan-number job m s t) tt
 
   pub plan-gives : {n : ℕ} → n ≢ 0
-      → (plannedNumber (planAnswer job m s t) ≡ n) ↔ FirstFailing (callTests job (planInputs job m (length s) (length t))) n
+      → ((plannedSaid (planAnswer job m s t)) .number ≡ n) ↔ FirstFailing (callTests job (planInputs job m (length s) (length t))) n
   unfolding planRefusal refusal
   plan-gives h = gives (callTests job (planInputs job m (length s) (length t))) (plan-number job m s t) h
 

@@ -5,13 +5,13 @@ ghost use mathlib.Core.Path.{_≡_};
 ghost use Rattle.chain.specs.Job.{jobOf};
 ghost use Rattle.chain.specs.Refusal.{firstRefusal, jobTests};
 ghost use lib.ListN.{length, set};
-ghost use Rattle.refusals.specs.Answers.{writtenNumber};
-ghost use Rattle.jobs.specs.Answers.{readNumber, readAnswer, readSpeeds, readWeights, writeAnswer, writeBytes};
-ghost use Rattle.calls.specs.Answers.{measuredNumber, measureAnswer, heuristicAnswer, heuristicWrites};
-ghost use Rattle.calls.specs.Answers.{probedNumber, probeAnswer, probeWrites};
+ghost use Rattle.refusals.specs.Answers.{writtenSaid};
+ghost use Rattle.jobs.specs.Answers.{readSaid, readAnswer, readSpeeds, readWeights, writeAnswer, writeBytes};
+ghost use Rattle.calls.specs.Answers.{measuredSaid, measureAnswer, heuristicAnswer, heuristicWrites};
+ghost use Rattle.calls.specs.Answers.{probedSaid, probeAnswer, probeWrites};
 ghost use Rattle.planfile.specs.Answers.{writePlanAnswer, writePlanBytes};
-ghost use Rattle.planner.specs.Answers.{plannedNumber, planRefusal, planAnswer, planWrites, ScratchAfter};
-ghost use Rattle.test_exports.specs.Answer.{boundPut, readPut, writtenPut, measuredPut, outcomePut, probedPut, plannedPut};
+ghost use Rattle.planner.specs.Answers.{plannedSaid, planRefusal, planAnswer, planWrites, ScratchAfter};
+ghost use Rattle.test_exports.specs.Answer.{boundPut, saidPut, outcomePut, probedPut};
 use bound::Bound;
 use calls::Measured;
 use calls::Probed;
@@ -48,8 +48,8 @@ fn put_bound(answer: &mut [u64], i: usize, j: usize, bound: Bound)
 
 // Inner. What reading answers.
 fn put_read(answer: &mut [u64], read: JobRead) -> u32
-    ensures number { λ r. ⌜ r ≡ readNumber read ⌝ }
-    ensures answer { λ _. ⌜ now (answer .exit) ≡ readPut read (now (answer .entry)) ⌝ }
+    ensures number { λ r. ⌜ r ≡ (readSaid read) .number ⌝ }
+    ensures answer { λ _. ⌜ now (answer .exit) ≡ saidPut (readSaid read) (now (answer .entry)) ⌝ }
 {
     match read {
         JobRead::Refused(number) => number,
@@ -63,8 +63,8 @@ fn put_read(answer: &mut [u64], read: JobRead) -> u32
 
 // Inner. What writing a file answers.
 fn put_written(answer: &mut [u64], written: Written) -> u32
-    ensures number { λ r. ⌜ r ≡ writtenNumber written ⌝ }
-    ensures answer { λ _. ⌜ now (answer .exit) ≡ writtenPut written (now (answer .entry)) ⌝ }
+    ensures number { λ r. ⌜ r ≡ (writtenSaid written) .number ⌝ }
+    ensures answer { λ _. ⌜ now (answer .exit) ≡ saidPut (writtenSaid written) (now (answer .entry)) ⌝ }
 {
     match written {
         Written::Refused(number) => number,
@@ -92,7 +92,7 @@ fn put_outcome(answer: &mut [u64], outcome: Outcome)
 
 // Inner. What a probe answers.
 fn put_probed(answer: &mut [u64], probed: Probed) -> u32
-    ensures number { λ r. ⌜ r ≡ probedNumber probed ⌝ }
+    ensures number { λ r. ⌜ r ≡ (probedSaid probed) .number ⌝ }
     ensures answer { λ _. ⌜ now (answer .exit) ≡ probedPut probed (now (answer .entry)) ⌝ }
 {
     match probed {
@@ -106,8 +106,8 @@ fn put_probed(answer: &mut [u64], probed: Probed) -> u32
 
 // Inner. What planning answers.
 fn put_planned(answer: &mut [u64], planned: Planned) -> u32
-    ensures number { λ r. ⌜ r ≡ plannedNumber planned ⌝ }
-    ensures answer { λ _. ⌜ now (answer .exit) ≡ plannedPut planned (now (answer .entry)) ⌝ }
+    ensures number { λ r. ⌜ r ≡ (plannedSaid planned) .number ⌝ }
+    ensures answer { λ _. ⌜ now (answer .exit) ≡ saidPut (plannedSaid planned) (now (answer .entry)) ⌝ }
 {
     match planned {
         Planned::Refused(number) => number,
@@ -123,8 +123,8 @@ fn put_planned(answer: &mut [u64], planned: Planned) -> u32
 
 // Inner. What measuring and the heuristic answer.
 fn put_measured(answer: &mut [u64], measured: Measured) -> u32
-    ensures number { λ r. ⌜ r ≡ measuredNumber measured ⌝ }
-    ensures answer { λ _. ⌜ now (answer .exit) ≡ measuredPut measured (now (answer .entry)) ⌝ }
+    ensures number { λ r. ⌜ r ≡ (measuredSaid measured) .number ⌝ }
+    ensures answer { λ _. ⌜ now (answer .exit) ≡ saidPut (measuredSaid measured) (now (answer .entry)) ⌝ }
 {
     match measured {
         Measured::Refused(number) => number,
@@ -154,12 +154,12 @@ pub extern "C" fn exported_read_job(
 ) -> u32
     ensures number { λ r.
         let answered = readAnswer (now (file .entry)) (length (now (speeds .entry))) (length (now (weights .entry))) in
-        ⌜ r ≡ readNumber answered ⌝ }
+        ⌜ r ≡ (readSaid answered) .number ⌝ }
     ensures speeds { λ _. ⌜ now (speeds .exit) ≡ readSpeeds (now (file .entry)) (now (speeds .entry)) (now (weights .entry)) ⌝ }
     ensures weights { λ _. ⌜ now (weights .exit) ≡ readWeights (now (file .entry)) (now (speeds .entry)) (now (weights .entry)) ⌝ }
     ensures answer { λ _.
         let answered = readAnswer (now (file .entry)) (length (now (speeds .entry))) (length (now (weights .entry))) in
-        ⌜ now (answer .exit) ≡ readPut answered (now (answer .entry)) ⌝ }
+        ⌜ now (answer .exit) ≡ saidPut (readSaid answered) (now (answer .entry)) ⌝ }
 {
     let read = read_job(file, speeds, weights);
     put_read(answer, read)
@@ -175,13 +175,13 @@ pub extern "C" fn exported_write_job(
 ) -> u32
     ensures number { λ r.
         let job = jobOf (now (speeds .entry)) (now (weights .entry)) in
-        ⌜ r ≡ writtenNumber (writeAnswer job (length (now (file .entry)))) ⌝ }
+        ⌜ r ≡ (writtenSaid (writeAnswer job (length (now (file .entry))))) .number ⌝ }
     ensures bytes { λ _.
         let job = jobOf (now (speeds .entry)) (now (weights .entry)) in
         ⌜ now (file .exit) ≡ writeBytes job (now (file .entry)) ⌝ }
     ensures answer { λ _.
         let job = jobOf (now (speeds .entry)) (now (weights .entry)) in
-        ⌜ now (answer .exit) ≡ writtenPut (writeAnswer job (length (now (file .entry)))) (now (answer .entry)) ⌝ }
+        ⌜ now (answer .exit) ≡ saidPut (writtenSaid (writeAnswer job (length (now (file .entry))))) (now (answer .entry)) ⌝ }
 {
     let written = write_job(speeds, weights, file);
     put_written(answer, written)
@@ -197,10 +197,10 @@ pub extern "C" fn exported_measure(
 ) -> u32
     ensures number { λ r.
         let job = jobOf (now (speeds .entry)) (now (weights .entry)) in
-        ⌜ r ≡ measuredNumber (measureAnswer job (now (separators .entry))) ⌝ }
+        ⌜ r ≡ (measuredSaid (measureAnswer job (now (separators .entry)))) .number ⌝ }
     ensures answer { λ _.
         let job = jobOf (now (speeds .entry)) (now (weights .entry)) in
-        ⌜ now (answer .exit) ≡ measuredPut (measureAnswer job (now (separators .entry))) (now (answer .entry)) ⌝ }
+        ⌜ now (answer .exit) ≡ saidPut (measuredSaid (measureAnswer job (now (separators .entry)))) (now (answer .entry)) ⌝ }
 {
     let measured = measure(speeds, weights, separators);
     put_measured(answer, measured)
@@ -218,7 +218,7 @@ pub extern "C" fn exported_probe(
 ) -> u32
     ensures number { λ r.
         let job = jobOf (now (speeds .entry)) (now (weights .entry)) in
-        ⌜ r ≡ probedNumber (probeAnswer job (record { load = load; speed = speed }) (now (separators .entry))) ⌝ }
+        ⌜ r ≡ (probedSaid (probeAnswer job (record { load = load; speed = speed }) (now (separators .entry)))) .number ⌝ }
     ensures separators { λ _.
         let job = jobOf (now (speeds .entry)) (now (weights .entry)) in
         ⌜ now (separators .exit) ≡ probeWrites job (record { load = load; speed = speed }) (now (separators .entry)) ⌝ }
@@ -241,13 +241,13 @@ pub extern "C" fn exported_heuristic(
 ) -> u32
     ensures number { λ r.
         let job = jobOf (now (speeds .entry)) (now (weights .entry)) in
-        ⌜ r ≡ measuredNumber (heuristicAnswer job (now (separators .entry))) ⌝ }
+        ⌜ r ≡ (measuredSaid (heuristicAnswer job (now (separators .entry)))) .number ⌝ }
     ensures separators { λ _.
         let job = jobOf (now (speeds .entry)) (now (weights .entry)) in
         ⌜ now (separators .exit) ≡ heuristicWrites job (now (separators .entry)) ⌝ }
     ensures answer { λ _.
         let job = jobOf (now (speeds .entry)) (now (weights .entry)) in
-        ⌜ now (answer .exit) ≡ measuredPut (heuristicAnswer job (now (separators .entry))) (now (answer .entry)) ⌝ }
+        ⌜ now (answer .exit) ≡ saidPut (measuredSaid (heuristicAnswer job (now (separators .entry)))) (now (answer .entry)) ⌝ }
 {
     let measured = heuristic(speeds, weights, separators);
     put_measured(answer, measured)
@@ -265,7 +265,7 @@ pub extern "C" fn exported_plan(
 ) -> u32
     ensures number { λ r.
         let job = jobOf (now (speeds .entry)) (now (weights .entry)) in
-        ⌜ r ≡ plannedNumber (planAnswer job method (now (separators .entry)) (now (scratch .entry))) ⌝ }
+        ⌜ r ≡ (plannedSaid (planAnswer job method (now (separators .entry)) (now (scratch .entry)))) .number ⌝ }
     ensures separators { λ _.
         let job = jobOf (now (speeds .entry)) (now (weights .entry)) in
         ⌜ now (separators .exit) ≡ planWrites job method (now (separators .entry)) (now (scratch .entry)) ⌝ }
@@ -276,7 +276,7 @@ pub extern "C" fn exported_plan(
     ensures answer { λ _.
         let job = jobOf (now (speeds .entry)) (now (weights .entry)) in
         let answered = planAnswer job method (now (separators .entry)) (now (scratch .entry)) in
-        ⌜ now (answer .exit) ≡ plannedPut answered (now (answer .entry)) ⌝ }
+        ⌜ now (answer .exit) ≡ saidPut (plannedSaid answered) (now (answer .entry)) ⌝ }
 {
     let planned = plan(method, speeds, weights, separators, scratch);
     put_planned(answer, planned)
@@ -293,14 +293,14 @@ pub extern "C" fn exported_write_plan(
 ) -> u32
     ensures number { λ r.
         let job = jobOf (now (speeds .entry)) (now (weights .entry)) in
-        ⌜ r ≡ writtenNumber (writePlanAnswer job (now (separators .entry)) (length (now (plan .entry)))) ⌝ }
+        ⌜ r ≡ (writtenSaid (writePlanAnswer job (now (separators .entry)) (length (now (plan .entry))))) .number ⌝ }
     ensures bytes { λ _.
         let job = jobOf (now (speeds .entry)) (now (weights .entry)) in
         ⌜ now (plan .exit) ≡ writePlanBytes job (now (separators .entry)) (now (plan .entry)) ⌝ }
     ensures answer { λ _.
         let job = jobOf (now (speeds .entry)) (now (weights .entry)) in
         let answered = writePlanAnswer job (now (separators .entry)) (length (now (plan .entry))) in
-        ⌜ now (answer .exit) ≡ writtenPut answered (now (answer .entry)) ⌝ }
+        ⌜ now (answer .exit) ≡ saidPut (writtenSaid answered) (now (answer .entry)) ⌝ }
 {
     let written = write_plan(speeds, weights, separators, plan);
     put_written(answer, written)

@@ -2,8 +2,8 @@
 -- Assumes nothing.
 use mathlib.Core.Path.{ap, _∙_}
 use Rattle.planner.specs.declared.Planned.{Planned}
-use Rattle.planner.specs.Answers.{plannedNumber}
-use Rattle.test_exports.specs.Answer.{plannedPut}
+use Rattle.planner.specs.Answers.{plannedSaid}
+use Rattle.test_exports.specs.Answer.{saidPut}
 use borrow.Author.Needs.{needs}
 use Rattle.test_exports.proofs.exported_plan.Statement.{statement}
 use Rattle.test_exports.proofs.exported_plan.Tie as tie
@@ -28,7 +28,7 @@ returns c =
     let a = c .before .before .before .before .before .before .before .before .before .before .before .before .before .before .before .before .args in
     let r = c .before .before .before .before .before .before .before .before .plan .ensures in
     let p = c .before .before .put-planned .ensures in
-    (p .0 ∙ ap plannedNumber (r .0), (r .1 .0, (r .1 .1, p .1 ∙ ap (λ (w : Planned). plannedPut w (a .answer .now)) (r .0))))
+    (p .0 ∙ ap (λ (w : Planned). (plannedSaid w) .number) (r .0), (r .1 .0, (r .1 .1, p .1 ∙ ap (λ (w : Planned). saidPut (plannedSaid w) (a .answer .now)) (r .0))))
 
 pub exported-plan-spec : {M : Type 1} → statement M
 exported-plan-spec =
