@@ -7,7 +7,7 @@ use mathlib.Core.Logic.{_≢_, _↔_}
 use native.Mathlib.Omega.{arith}
 use lib.ListN.{length, drop}
 use Rattle.chain.specs.Lists.{sumTo}
-use Rattle.chain.specs.Job.{Job, processors, totalWeight}
+use Rattle.chain.specs.Job.{Job, Valid, processors, totalWeight}
 use Rattle.chain.specs.Refusal.{methodTest, speedsTest, weightsTest, processorsTest, tasksTest, lengthTest, jobTests, callTests, refusal}
 use Rattle.chain.specs.Plan.{planOf}
 use Rattle.chain.proofs.Demand.{plan-of-best}
@@ -66,12 +66,18 @@ pub host-keeps : (file plan : List ℕ) (m : ℕ) → hostAnswer file m (length 
 unfolding hostWrites bytesAfter
 host-keeps file plan m h = lent-refused h (planBytes (jobIn file) (planOf (jobIn file))) plan
 
+-- Where nothing refuses it, the file holds a valid job.
+pub host-valid : (file : List ℕ) (m lent : ℕ) → hostAnswer file m lent ≡ 0 → Valid (jobIn file)
+unfolding hostAnswer hostTests hostFileTests fileRefusal methodTest
+host-valid file m lent e =
+    let numbered : Numbered (methodTest m ∷ []) = numbered-cons (omega arith) numbered-nil in
+    let front = append-accepted (methodTest m ∷ fileTests file) (lengthTest (planNeeded (jobIn file)) lent ∷ []) (numbered-append numbered (file-numbered file)) e .0 in
+    accepted-valid file (append-accepted (methodTest m ∷ []) (fileTests file) numbered front .1)
+
 -- Scope 7.8: "The loads of a plan file add up to Wtot." As they are read from the buffer after the C call.
 pub host-loads-add-up : (file plan : List ℕ) (m : ℕ) → hostAnswer file m (length plan) ≡ 0
     → sumTo (λ p. fieldAt (hostWrites file m plan) (16 * p + 8)) (processors (jobIn file)) ≡ totalWeight (jobIn file)
-unfolding hostAnswer hostTests hostFileTests hostWrites bytesAfter fileRefusal methodTest
+unfolding hostWrites bytesAfter
 host-loads-add-up file plan m e =
-    let numbered : Numbered (methodTest m ∷ []) = numbered-cons (omega arith) numbered-nil in
-    let front = append-accepted (methodTest m ∷ fileTests file) (lengthTest (planNeeded (jobIn file)) (length plan) ∷ []) (numbered-append numbered (file-numbered file)) e .0 in
-    let v = accepted-valid file (append-accepted (methodTest m ∷ []) (fileTests file) numbered front .1) in
+    let v = host-valid file m (length plan) e in
     lent-loads-add-up plan v ((plan-of-best (valid-plannable v)) .partition) e
