@@ -13,7 +13,7 @@ use Rattle.chain.specs.Probe.{walk, fits, probe}
 use Rattle.chain.specs.Heuristic.{heuristic}
 use Rattle.chain.specs.Refusal.{measureInputs, refusal}
 use Rattle.refusals.specs.Inputs.{probeInputs, heuristicInputs}
-use Rattle.refusals.specs.Answers.{Said, accepting, refusing, boundValues, lentAfter}
+use Rattle.refusals.specs.Answers.{Said, accepting, alone, boundValues, lentAfter}
 use Rattle.calls.specs.declared.Measured.{Measured}
 use Rattle.calls.specs.declared.Measured.the-variants.{Bottleneck, Refused}
 use Rattle.calls.specs.declared.Probed.{Probed}
@@ -22,7 +22,7 @@ use Rattle.calls.specs.declared.Probed.the-variants.{Answered, Refused a
 -- Measuring and the heuristic say the bottleneck;
 abbrev pub measuredSaid : Measured → Said
 measuredSaid (Bottleneck B) = accepting (boundValues B)
-measuredSaid (Refused number) = refusing number
+measuredSaid (Refused number) = alone number
 
 -- a probe says the next bid where it fails, and no value where it fits.
 abbrev pub outcomeValues : Outcome → List ℕ
@@ -31,7 +31,7 @@ outcomeValues (Fails B) = boundValues B
 
 abbrev pub probedSaid : Probed → Said
 probedSaid (Answered outcome) = accepting (outcomeValues outcome)
-probedSaid (ProbeRefused number) = refusing number
+probedSaid (ProbeRefused number) = alone number
 
 -- The answer of measuring and of the heuristic by the number of the refusal: the bottleneck, or that number.
 unfoldable pub measuredOf : ℕ → Bound → Measured

@@ -22,7 +22,7 @@ use Rattle.fields.proofs.Laws.{Bytes}
 use Rattle.refusals.specs.declared.Written.{Written}
 use Rattle.refusals.specs.Inputs.{planNeeded, probeInputs, heuristicInputs, planInputs, writeInputs, writePlanInputs}
 use Rattle.refusals.specs.Answers.{Said, saidBy}
-use Rattle.refusals.proofs.Answering.{said-alone, number-of}
+use Rattle.refusals.proofs.Answering.{said-alone, said-nothing, number-of}
 use Rattle.refusals.proofs.Lent.{lent-refused}
 use Rattle.refusals.proofs.Promises.{job-numbers}
 use Rattle.jobs.specs.declared.JobRead.{JobRead}
@@ -52,7 +52,7 @@ use Rattle.demands.specs.Demands.{number, Accepts, DemandOne, front, Som
 -- Demand 1. What each call says;
 says : (call : Call) → said call ≡ saidBy (firstRefusal (tests call)) (values call)
 unfolding readRefusal refusal planRefusal hostAnswer
-says (TestJob es ws) = refl
+says (TestJob es ws) = said-nothing (firstRefusal (jobTests (jobOf es ws)))
 says (ReadJob file es ws) = read-said file (length es) (length ws)
 says (WriteJob es ws file) = write-said (jobOf es ws) (length file)
 says (Measure es ws s) = measure-said (jobOf es ws) s
@@ -60,14 +60,14 @@ says (Probe es ws B s) = probe-said (jobOf es ws) B s
 says (Heuristic es ws s) = heuristic-said (jobOf es ws) s
 says (Plan m es ws s t) = plan-said (jobOf es ws) m s t
 says (WritePlan es ws s plan) = write-plan-said (jobOf es ws) s (length plan)
-says (PlanJob file m plan) = refl
+says (PlanJob file m plan) = said-nothing (firstRefusal (hostTests file m (length plan)))
 
 -- its number is then that of the tests.
 tested : (call : Call) → number call ≡ firstRefusal (tests call)
 tested call = number-of (values call) (says call)
 
 listed : (call : Call) → List·Memᴰ (number call) (0 ∷ numbers call)
-listed (TestJob es ws) = subst (λ (n : ℕ). List·Memᴰ n (0 ∷ 5 ∷ 6 ∷ 7 ∷ 8 ∷ [])) (sym (tested (TestJob es ws))) (job-numbers (jobOf es ws))
+listed (TestJob es ws) = job-numbers (jobOf es ws)
 listed (ReadJob file es ws) = read-numbers file (length es) (length ws)
 listed (WriteJob es ws file) = write-numbers (jobOf es ws) (length file)
 listed (Measure es ws s) = measure-numbers (jobOf es ws) s
@@ -75,8 +75,7 @@ listed (Probe es ws B s) = probe-numbers (jobOf es ws) B s
 listed (Heuristic es ws s) = heuristic-numbers (jobOf es ws) s
 listed (Plan m es ws s t) = plan-numbers (jobOf es ws) m s t
 listed (WritePlan es ws s plan) = write-plan-numbers (jobOf es ws) s (length plan)
-listed (PlanJob file m plan) =
-    subst (λ (n : ℕ). List·Memᴰ n (0 ∷ numbers (PlanJob file m plan))) (sym (number-of [] refl)) (host-numbers file m (length plan))
+listed (PlanJob file m plan) = host-numbers file m (length plan)
 
 ranged : (call : Call) → T (eachBetween 1 11 (numbers call))
 unfolding eachBetween
@@ -164,7 +163,7 @@ demand-one call =
       ordered = ordered call;
       first = λ n h. gives (tests call) (tested call) h;
       accepted = (λ e. accepted-passes (tests call) (numbered call) (sym (tested call) ∙ e), λ p. tested call ∙ passes-accepted (tests call) p);
-      alone = λ h. ap (λ (s : Said). s .values) (says call ∙ said-alone (λ z. h (tested call ∙ z)) (values call));
+      nothing-else = λ h. ap (λ (s : Said). s .values) (says call ∙ said-alone (λ z. h (tested call ∙ z)) (values call));
       kept = λ h. kept call (λ z. h (tested call ∙ z));
     }
 
@@ -255,10 +254,8 @@ module _ (m : ℕ) (es ws s t : List ℕ) (e : Accepts (Plan m es ws s t)) where
       }
 
 host : (file plan : List ℕ) (m : ℕ) → Accepts (PlanJob file m plan) → HostLeft file plan m (planOf (jobIn file))
-unfolding hostAnswer
 host file plan m e =
-    let none = sym (tested (PlanJob file m plan)) ∙ e in
-    record { best = plan-of-best (valid-plannable (host-valid file m (length plan) none)); bytes = host-plan file plan m none }
+    record { best = plan-of-best (valid-plannable (host-valid file m (length plan) e)); bytes = host-plan file plan m e }
 
 pub demand-three : DemandThree
 demand-three =

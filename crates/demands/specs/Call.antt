@@ -11,7 +11,7 @@ use Rattle.chain.specs.Heuristic as guessing
 use Rattle.chain.specs.Refusal.{Test, firstRefusal, jobTests, measureInputs, callTests}
 use Rattle.refusals.specs.Methods.{chosenOf}
 use Rattle.refusals.specs.Inputs.{planNeeded, bytesNeeded, probeInputs, heuristicInputs, planInputs, writeInputs, writePlanInputs}
-use Rattle.refusals.specs.Answers.{Said, saidBy, boundValues, writtenSaid}
+use Rattle.refusals.specs.Answers.{Said, alone, boundValues, writtenSaid}
 use Rattle.jobs.specs.Parse.{recordCount, speedsOf, weightsOf}
 use Rattle.jobs.specs.Answers.{readSaid, readTests, readAnswer, readSpeeds, readWeights, writeAnswer, writeBytes}
 use Rattle.calls.specs.Answers.{measuredSaid, outcomeValues, probedSaid, measureAnswer, probeAnswer, probeWrites, heuristicAnswer, heuristicWrites}
@@ -33,7 +33,7 @@ pub data Call : Type 0 where
 
 -- What its answer says, number and values.
 abbrev pub said : Call → Said
-said (TestJob es ws) = saidBy (firstRefusal (jobTests (jobOf es ws))) []
+said (TestJob es ws) = alone (firstRefusal (jobTests (jobOf es ws)))
 said (ReadJob file es ws) = readSaid (readAnswer file (length es) (length ws))
 said (WriteJob es ws file) = writtenSaid (writeAnswer (jobOf es ws) (length file))
 said (Measure es ws s) = measuredSaid (measureAnswer (jobOf es ws) s)
@@ -41,7 +41,7 @@ said (Probe es ws B s) = probedSaid (probeAnswer (jobOf es ws) B s)
 said (Heuristic es ws s) = measuredSaid (heuristicAnswer (jobOf es ws) s)
 said (Plan m es ws s t) = plannedSaid (planAnswer (jobOf es ws) m s t)
 said (WritePlan es ws s plan) = writtenSaid (writePlanAnswer (jobOf es ws) s (length plan))
-said (PlanJob file m plan) = saidBy (hostAnswer file m (length plan)) []
+said (PlanJob file m plan) = alone (hostAnswer file m (length plan))
 
 -- The values that it says where nothing refuses it.
 abbrev pub values : Call → List ℕ

@@ -54,7 +54,7 @@ pub record DemandOne (call : Call) : Type 0 where
   pub first : (n : ℕ) → n ≢ 0 → (number call ≡ n) ↔ FirstFailing (tests call) n
   pub accepted : Accepts call ↔ ((t : Test) → List·Memᴰ t (tests call) → T (t .passes))
   -- Scope 8.1: "A refusal gives a number and nothing else, and every list or buffer that was lent stays as it was."
-  pub alone : number call ≢ 0 → (said call) .values ≡ []
+  pub nothing-else : number call ≢ 0 → (said call) .values ≡ []
   pub kept : number call ≢ 0 → (left : List (List ℕ)) → Leaves call left → left ≡ lent call
 
 -- The first P + 1 entries of a list of separators.

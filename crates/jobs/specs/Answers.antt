@@ -7,7 +7,7 @@ use lib.Dec.{eqb}
 use Rattle.chain.specs.Job.{Job}
 use Rattle.chain.specs.Refusal.{Test, lengthTest, firstRefusal, refusal}
 use Rattle.refusals.specs.Inputs.{bytesNeeded, writeInputs}
-use Rattle.refusals.specs.Answers.{Said, accepting, refusing, writtenOf, lentAfter}
+use Rattle.refusals.specs.Answers.{Said, accepting, alone, writtenOf, lentAfter}
 use Rattle.refusals.specs.declared.Written.{Written}
 use Rattle.jobs.specs.JobFile.{jobBytes}
 use Rattle.jobs.specs.Parse.{speedsOf, weightsOf, fileTests}
@@ -16,7 +16,7 @@ use Rattle.jobs.specs.declared.JobRead.{JobRead}
 -- Reading says P and N.
 abbrev pub readSaid : JobRead → Said
 readSaid (JobRead.Read processors tasks) = accepting (processors ∷ tasks ∷ [])
-readSaid (JobRead.Refused number) = refusing number
+readSaid (JobRead.Refused number) = alone number
 
 -- The answer of a call that reads the file, by the number that it is refused with: P and N, or that number.
 unfoldable pub answerOf : ℕ → List ℕ → JobRead

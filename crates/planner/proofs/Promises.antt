@@ -3,7 +3,7 @@
 use Prim.Native.Nat.{ℕ, suc, _≤_}
 use mathlib.Core.Path.{_≡_, refl, sym, ap, subst, _∙_}
 use mathlib.Core.Bool.{Bool, true, false, cond}
-use mathlib.Core.List.{List, [], _++_}
+use mathlib.Core.List.{List, _++_}
 use mathlib.Core.Logic.{_≢_}
 use native.Mathlib.Omega.{arith}
 use lib.Dec.{T, eqb, eqb→eq}
@@ -20,8 +20,8 @@ use Rattle.refusals.specs.Methods.{chosenOf}
 use Rattle.refusals.proofs.Accepted.{accepted}
 use Rattle.refusals.proofs.Methods.{unknown-fails}
 use Rattle.refusals.proofs.Tests.{plan-unknown}
-use Rattle.refusals.specs.Answers.{refusing, saidBy}
-use Rattle.refusals.proofs.Answering.{said-choice, number-of}
+use Rattle.refusals.specs.Answers.{saidBy}
+use Rattle.refusals.proofs.Answering.{said-choice, said-nothing, number-of}
 use Rattle.refusals.proofs.Lent.{lent-refused, lent-front}
 use Rattle.parts.proofs.Front.{taken}
 use Rattle.planner.specs.declared.Figures.{Figures}
@@ -34,15 +34,6 @@ use Rattle.planner.proofs.Laws.{walk-is-plan, plan-length}
 planned-said : (n : ℕ) (f : Figures) → plannedSaid (plannedOf n f) ≡ saidBy n (figureValues f)
 unfolding plannedOf saidBy
 planned-said n f = said-choice plannedSaid (eqb n 0) (Accepted f) (Refused n)
-
--- Without values it is the number alone.
-said-nothing : (n : ℕ) → refusing n ≡ saidBy n []
-unfolding saidBy
-said-nothing n = go (eqb n 0) refl
-  where
-    go : (b : Bool) → eqb n 0 ≡ b → refusing n ≡ cond b (refusing 0) (refusing n)
-    go true e = ap refusing (eqb→eq n 0 (subst T (sym e) tt))
-    go false e = refl
 
 planned-figures : {n : ℕ} {f g : Figures} → plannedOf n g ≡ Accepted f → (n ≡ 0) × (f ≡ g)
 unfolding plannedOf

@@ -14,7 +14,7 @@ use Rattle.refusals.specs.declared.Chosen.{Chosen}
 use Rattle.refusals.specs.declared.Chosen.the-variants.{Known, Unknown}
 use Rattle.refusals.specs.Methods.{chosenOf}
 use Rattle.refusals.specs.Inputs.{scratchNeeded, planLists, planInputs}
-use Rattle.refusals.specs.Answers.{Said, accepting, refusing, boundValues, lentAfter}
+use Rattle.refusals.specs.Answers.{Said, accepting, alone, boundValues, lentAfter}
 use Rattle.parts.specs.Kept.{KeptFrom}
 use Rattle.planner.specs.declared.Figures.{Figures}
 use Rattle.planner.specs.declared.Planned.{Planned}
@@ -26,7 +26,7 @@ figureValues f = f .count ∷ f .allowance ∷ (boundValues (f .bottleneck) ++ f
 
 abbrev pub plannedSaid : Planned → Said
 plannedSaid (Accepted f) = accepting (figureValues f)
-plannedSaid (Refused number) = refusing number
+plannedSaid (Refused number) = alone number
 
 -- The number that planning is refused with, 0 where it is accepted.
 unfoldable pub planRefusal : Job → ℕ → ℕ → ℕ → ℕ

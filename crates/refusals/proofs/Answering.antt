@@ -9,7 +9,7 @@ use lib.Dec.{eqb}
 use lib.ListN.{length, drop}
 use borrow.Author.Tests.{ne-eqb, eqb-true}
 use Rattle.refusals.specs.declared.Written.{Written}
-use Rattle.refusals.specs.Answers.{Said, accepting, refusing, saidBy, writtenSaid, writtenOf, lentAfter}
+use Rattle.refusals.specs.Answers.{Said, accepting, alone, saidBy, writtenSaid, writtenOf, lentAfter}
 use Rattle.refusals.proofs.Lent.{lent-front, lent-kept}
 
 -- What the one or the other answer says.
@@ -22,15 +22,24 @@ pub said-number : (n : ℕ) (values : List ℕ) → (saidBy n values) .number �
 unfolding saidBy
 said-number n values = go (eqb n 0) refl
   where
-    go : (b : Bool) → eqb n 0 ≡ b → (cond b (accepting values) (refusing n)) .number ≡ n
+    go : (b : Bool) → eqb n 0 ≡ b → (cond b (accepting values) (alone n)) .number ≡ n
     go true e = sym (eqb-true n 0 e)
     go false e = refl
 
-pub said-alone : {n : ℕ} → n ≢ 0 → (values : List ℕ) → saidBy n values ≡ refusing n
+pub said-alone : {n : ℕ} → n ≢ 0 → (values : List ℕ) → saidBy n values ≡ alone n
 unfolding saidBy
-said-alone {n} h values = ap (λ (b : Bool). cond b (accepting values) (refusing n)) (ne-eqb n 0 h)
+said-alone {n} h values = ap (λ (b : Bool). cond b (accepting values) (alone n)) (ne-eqb n 0 h)
 
--- So is the number of an answer that says so.
+-- With no values it is the number alone, refused or not.
+pub said-nothing : (n : ℕ) → alone n ≡ saidBy n []
+unfolding saidBy
+said-nothing n = go (eqb n 0) refl
+  where
+    go : (b : Bool) → eqb n 0 ≡ b → alone n ≡ cond b (accepting []) (alone n)
+    go true e = ap alone (eqb-true n 0 e)
+    go false e = refl
+
+-- The number of an answer that says so.
 pub number-of : {said : Said} {n : ℕ} (values : List ℕ) → said ≡ saidBy n values → said .number ≡ n
 number-of {n = n} values e = ap (λ (s : Said). s .number) e ∙ said-number n values
 

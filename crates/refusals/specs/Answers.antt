@@ -17,13 +17,13 @@ pub record Said : Type 0 where
 abbrev pub accepting : List ℕ → Said
 accepting values = record { number = 0; values = values }
 
--- Scope 8.1: "A refusal gives a number and nothing else"
-abbrev pub refusing : ℕ → Said
-refusing number = record { number = number; values = [] }
+-- A number alone. Scope 8.1: "A refusal gives a number and nothing else"
+abbrev pub alone : ℕ → Said
+alone number = record { number = number; values = [] }
 
 -- The same by the number of the refusal: these values, or that number.
 unfoldable pub saidBy : ℕ → List ℕ → Said
-saidBy number values = cond (eqb number 0) (accepting values) (refusing number)
+saidBy number values = cond (eqb number 0) (accepting values) (alone number)
 
 -- A bound says its load and its speed. Scope 2.1: "A bound is a pair: a load over a speed."
 abbrev pub boundValues : Bound → List ℕ
@@ -32,7 +32,7 @@ boundValues B = B .load ∷ B .speed ∷ []
 -- Writing a file says the count of its bytes.
 abbrev pub writtenSaid : Written → Said
 writtenSaid (Written.Bytes count) = accepting (count ∷ [])
-writtenSaid (Written.Refused number) = refusing number
+writtenSaid (Written.Refused number) = alone number
 
 -- The answer by the number of the refusal: the count of bytes, or that number.
 unfoldable pub writtenOf : ℕ → ℕ → Written
