@@ -66,29 +66,6 @@ says (PlanJob file m plan) = said-nothing (firstRefusal (hostTests file m (lengt
 tested : (call : Call) → number call ≡ firstRefusal (tests call)
 tested call = number-of (values call) (says call)
 
-listed : (call : Call) → List·Memᴰ (number call) (0 ∷ numbers call)
-listed (TestJob es ws) = job-numbers (jobOf es ws)
-listed (ReadJob file es ws) = read-numbers file (length es) (length ws)
-listed (WriteJob es ws file) = write-numbers (jobOf es ws) (length file)
-listed (Measure es ws s) = measure-numbers (jobOf es ws) s
-listed (Probe es ws B s) = probe-numbers (jobOf es ws) B s
-listed (Heuristic es ws s) = heuristic-numbers (jobOf es ws) s
-listed (Plan m es ws s t) = plan-numbers (jobOf es ws) m s t
-listed (WritePlan es ws s plan) = write-plan-numbers (jobOf es ws) s (length plan)
-listed (PlanJob file m plan) = host-numbers file m (length plan)
-
-ranged : (call : Call) → T (eachBetween 1 11 (numbers call))
-unfolding eachBetween
-ranged (TestJob es ws) = tt
-ranged (ReadJob file es ws) = tt
-ranged (WriteJob es ws file) = tt
-ranged (Measure es ws s) = tt
-ranged (Probe es ws B s) = tt
-ranged (Heuristic es ws s) = tt
-ranged (Plan m es ws s t) = tt
-ranged (WritePlan es ws s plan) = tt
-ranged (PlanJob file m plan) = tt
-
 -- The numbers of tests one after the other.
 abbrev numbersOf : List Test → List ℕ
 numbersOf ts = map (λ t. t .number) ts
@@ -125,6 +102,30 @@ ordered (WritePlan es ws s plan) = refl
 ordered (PlanJob file m plan) =
     ap (λ (ns : List ℕ). 1 ∷ ns)
     (numbers-after (fileTests file) (lengthTest (planNeeded (jobIn file)) (length plan) ∷ []) ∙ ap (λ (ns : List ℕ). ns ++ 9 ∷ []) (file-ordered file))
+
+-- It is one of the row, which are from 1 to 11.
+listed : (call : Call) → List·Memᴰ (number call) (0 ∷ numbers call)
+listed (TestJob es ws) = job-numbers (jobOf es ws)
+listed (ReadJob file es ws) = read-numbers file (length es) (length ws)
+listed (WriteJob es ws file) = write-numbers (jobOf es ws) (length file)
+listed (Measure es ws s) = measure-numbers (jobOf es ws) s
+listed (Probe es ws B s) = probe-numbers (jobOf es ws) B s
+listed (Heuristic es ws s) = heuristic-numbers (jobOf es ws) s
+listed (Plan m es ws s t) = plan-numbers (jobOf es ws) m s t
+listed (WritePlan es ws s plan) = write-plan-numbers (jobOf es ws) s (length plan)
+listed (PlanJob file m plan) = host-numbers file m (length plan)
+
+ranged : (call : Call) → T (eachBetween 1 11 (numbers call))
+unfolding eachBetween
+ranged (TestJob es ws) = tt
+ranged (ReadJob file es ws) = tt
+ranged (WriteJob es ws file) = tt
+ranged (Measure es ws s) = tt
+ranged (Probe es ws B s) = tt
+ranged (Heuristic es ws s) = tt
+ranged (Plan m es ws s t) = tt
+ranged (WritePlan es ws s plan) = tt
+ranged (PlanJob file m plan) = tt
 
 -- No test has the number 0.
 numbered : (call : Call) → Numbered (tests call)

@@ -95,7 +95,7 @@ order (WriteJob es ws file) = numbers (WriteJob es ws file)
 order (Measure es ws s) = numbers (Measure es ws s)
 order (Probe es ws B s) = numbers (Probe es ws B s)
 order (Heuristic es ws s) = numbers (Heuristic es ws s)
-order (Plan m es ws s t) = 1 ∷ 5 ∷ 6 ∷ 7 ∷ 8 ∷ 9 ∷ 9 ∷ []
+order (Plan m es ws s t) = numbers (Plan m es ws s t) ++ 9 ∷ []
 order (WritePlan es ws s plan) = 5 ∷ 6 ∷ 7 ∷ 8 ∷ 9 ∷ 9 ∷ 11 ∷ []
 order (PlanJob file m plan) = 1 ∷ (fileOrder file ++ 9 ∷ [])
 
