@@ -16,9 +16,9 @@ use Rattle.chain.specs.declared.Outcome.{Outcome}
 use Rattle.chain.specs.declared.Outcome.the-variants.{Fits, Fails}
 use Rattle.chain.specs.Probe.{walk, fits, nextBid, probe}
 use Rattle.chain.specs.Heuristic.{heuristic}
-use Rattle.chain.specs.Refusal.{speedsTest, weightsTest, processorsTest, tasksTest, lengthTest, boundTest, partitionTest, jobTests, measureInputs, callTests, refusal}
+use Rattle.chain.specs.Refusal.{speedsTest, weightsTest, processorsTest, tasksTest, lengthTest, boundTest, partitionTest, FirstFailing, jobTests, measureInputs, callTests, refusal}
 use Rattle.chain.proofs.Tests.{T-true, T-false}
-use Rattle.chain.proofs.Refusals.{FirstFailing, gives, given-number}
+use Rattle.chain.proofs.Refusals.{gives, given-number}
 use Rattle.chain.proofs.Parts.{Proper, valid-proper, valid-plannable}
 use Rattle.chain.proofs.Walk as walks
 use Rattle.chain.proofs.NextBid as bids

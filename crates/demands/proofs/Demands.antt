@@ -18,7 +18,7 @@ use Rattle.chain.specs.Refusal.{Test, eachBetween, methodTest, speedsTest, weig
 use Rattle.chain.proofs.Demand.{plan-of-best}
 use Rattle.chain.proofs.Parts.{valid-plannable}
 use Rattle.chain.proofs.Refusals.{Numbered, numbered-nil, numbered-cons, numbered-append, job-numbered, call-numbered, accepted-passes, passes-accepted, gives}
-use Rattle.fields.proofs.Laws.{Bytes}
+use Rattle.fields.specs.Field.{Bytes}
 use Rattle.refusals.specs.declared.Written.{Written}
 use Rattle.refusals.specs.Inputs.{planNeeded, probeInputs, heuristicInputs, planInputs, writeInputs, writePlanInputs}
 use Rattle.refusals.specs.Answers.{Said, saidBy}

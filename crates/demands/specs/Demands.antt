@@ -13,9 +13,8 @@ use Rattle.chain.specs.declared.Outcome.the-variants.{Fits}
 use Rattle.chain.specs.Job.{Job, jobOf, processors, Partition, Within, bottleneck, ideal}
 use Rattle.chain.specs.Heuristic.{margin}
 use Rattle.chain.specs.Plan.{Best, MethodEnds, allowance, imbalance}
-use Rattle.chain.specs.Refusal.{Test, eachBetween, firstRefusal}
-use Rattle.chain.proofs.Refusals.{FirstFailing}
-use Rattle.fields.proofs.Laws.{Bytes}
+use Rattle.chain.specs.Refusal.{Test, eachBetween, firstRefusal, FirstFailing}
+use Rattle.fields.specs.Field.{Bytes}
 use Rattle.refusals.specs.declared.Chosen.the-variants.{Known}
 use Rattle.refusals.specs.declared.Written.{Written}
 use Rattle.refusals.specs.Methods.{chosenOf}

@@ -9,9 +9,9 @@ use lib.Dec.{eqb}
 use lib.ListN.{length, drop}
 use borrow.Author.Tests.{le-leb}
 use Rattle.chain.specs.Job.{Job, tasks, processors, Valid}
-use Rattle.chain.specs.Refusal.{lengthTest, processorsTest, tasksTest, firstRefusal, jobTests, callTests, refusal}
-use Rattle.chain.proofs.Refusals.{Numbered, numbered-nil, numbered-cons, numbered-append, first-refusal-append, FirstFailing, gives, job-accepted}
-use Rattle.fields.proofs.Laws.{Bytes}
+use Rattle.chain.specs.Refusal.{lengthTest, processorsTest, tasksTest, firstRefusal, FirstFailing, jobTests, callTests, refusal}
+use Rattle.chain.proofs.Refusals.{Numbered, numbered-nil, numbered-cons, numbered-append, first-refusal-append, gives, job-accepted}
+use Rattle.fields.specs.Field.{Bytes}
 use Rattle.refusals.specs.Inputs.{bytesNeeded, writeInputs}
 use Rattle.refusals.specs.Answers.{saidBy, writtenSaid, lentAfter}
 use Rattle.refusals.specs.declared.Written.{Written}

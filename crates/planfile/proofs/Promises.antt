@@ -8,9 +8,9 @@ use native.Mathlib.Omega.{arith}
 use lib.ListN.{length, drop, List·getD-append}
 use Rattle.chain.specs.Lists.{sumTo}
 use Rattle.chain.specs.Job.{Job, Valid, processors, totalWeight, Partition}
-use Rattle.chain.specs.Refusal.{speedsTest, weightsTest, processorsTest, tasksTest, lengthTest, partitionTest, jobTests, callTests, refusal}
+use Rattle.chain.specs.Refusal.{speedsTest, weightsTest, processorsTest, tasksTest, lengthTest, partitionTest, FirstFailing, jobTests, callTests, refusal}
 use Rattle.chain.proofs.Parts.{loads-add-up}
-use Rattle.chain.proofs.Refusals.{FirstFailing, gives, given-number}
+use Rattle.chain.proofs.Refusals.{gives, given-number}
 use Rattle.chain.proofs.Sums.{sum-same-below}
 use Rattle.fields.specs.Field.{fieldSize, fieldAt}
 use Rattle.fields.proofs.Laws.{field-same}

@@ -8,11 +8,11 @@ use native.Mathlib.Omega.{arith}
 use lib.ListN.{length, drop}
 use Rattle.chain.specs.Lists.{sumTo}
 use Rattle.chain.specs.Job.{Job, Valid, processors, totalWeight}
-use Rattle.chain.specs.Refusal.{methodTest, speedsTest, weightsTest, processorsTest, tasksTest, lengthTest, jobTests, callTests, refusal}
+use Rattle.chain.specs.Refusal.{methodTest, speedsTest, weightsTest, processorsTest, tasksTest, lengthTest, FirstFailing, jobTests, callTests, refusal}
 use Rattle.chain.specs.Plan.{planOf}
 use Rattle.chain.proofs.Demand.{plan-of-best}
 use Rattle.chain.proofs.Parts.{valid-plannable}
-use Rattle.chain.proofs.Refusals.{Numbered, numbered-nil, numbered-cons, numbered-append, FirstFailing, gives, given-number, numbers-append, numbers-more, append-accepted}
+use Rattle.chain.proofs.Refusals.{Numbered, numbered-nil, numbered-cons, numbered-append, gives, given-number, numbers-append, numbers-more, append-accepted}
 use Rattle.fields.specs.Field.{fieldAt}
 use Rattle.jobs.specs.Parse.{jobIn, fileTests, fileRefusal}
 use Rattle.jobs.proofs.Calls.{file-numbered}
