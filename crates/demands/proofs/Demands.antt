@@ -45,13 +45,15 @@ use Rattle.planner.specs.Answers.{planRefusal, planAnswer, planWrites}
 use Rattle.planner.specs.HostCall.{hostFileTests, hostTests, hostAnswer}
 use Rattle.planner.proofs.Promises.{plan-said, plan-number, plan-accepted, plan-keeps, given, accepted-best, accepted-plan, accepted-count, accepted-separators}
 use Rattle.planner.proofs.Numbers.{plan-numbers, host-numbers, host-plan, host-keeps, host-valid}
+use Rattle.listing.specs.Answers.{listTests, listRefusal}
+use Rattle.listing.proofs.Promises.{list-said, list-numbers, list-keeps}
 use Rattle.planner.proofs.Reading.{Taken, read-taken, taken-job}
-use Rattle.demands.specs.Call.{Call, TestJob, ReadJob, WriteJob, Measure, Probe, Heuristic, Plan, WritePlan, PlanJob, said, values, tests, numbers, recordsOrder, fileOrder, order, lent, Leaves}
+use Rattle.demands.specs.Call.{Call, TestJob, ReadJob, WriteJob, Measure, Probe, Heuristic, Plan, WritePlan, ListJob, PlanJob, said, values, tests, numbers, recordsOrder, fileOrder, order, lent, Leaves}
 use Rattle.demands.specs.Demands.{number, Accepts, DemandOne, front, SomeWithin, Trial, QuickPlan, WrittenBack, DemandTwo, PlanLeft, HostLeft, DemandThree}
 
 -- Demand 1. What each call says;
 says : (call : Call) → said call ≡ saidBy (firstRefusal (tests call)) (values call)
-unfolding readRefusal refusal planRefusal hostAnswer
+unfolding readRefusal refusal planRefusal hostAnswer listRefusal
 says (TestJob es ws) = said-nothing (firstRefusal (jobTests (jobOf es ws)))
 says (ReadJob file es ws) = read-said file (length es) (length ws)
 says (WriteJob es ws file) = write-said (jobOf es ws) (length file)
@@ -60,6 +62,7 @@ says (Probe es ws B s) = probe-said (jobOf es ws) B s
 says (Heuristic es ws s) = heuristic-said (jobOf es ws) s
 says (Plan m es ws s t) = plan-said (jobOf es ws) m s t
 says (WritePlan es ws s plan) = write-plan-said (jobOf es ws) s (length plan)
+says (ListJob file out) = list-said file out
 says (PlanJob file m plan) = said-nothing (firstRefusal (hostTests file m (length plan)))
 
 -- its number is then that of the tests.
@@ -88,7 +91,7 @@ file-ordered file =
     ∙ ap (λ (ns : List ℕ). ns ++ 7 ∷ 8 ∷ []) (records-ordered file (recordCount file)))
 
 ordered : (call : Call) → numbersOf (tests call) ≡ order call
-unfolding readTests hostTests hostFileTests callTests jobTests methodTest speedsTest weightsTest processorsTest tasksTest lengthTest boundTest partitionTest
+unfolding readTests hostTests hostFileTests listTests callTests jobTests methodTest speedsTest weightsTest processorsTest tasksTest lengthTest boundTest partitionTest
 ordered (TestJob es ws) = refl
 ordered (ReadJob file es ws) =
     numbers-after (fileTests file) (lengthTest (length (weightsOf file)) (length ws) ∷ lengthTest (length (speedsOf file)) (length es) ∷ [])
@@ -99,6 +102,7 @@ ordered (Probe es ws B s) = refl
 ordered (Heuristic es ws s) = refl
 ordered (Plan m es ws s t) = refl
 ordered (WritePlan es ws s plan) = refl
+ordered (ListJob file out) = refl
 ordered (PlanJob file m plan) =
     ap (λ (ns : List ℕ). 1 ∷ ns)
     (numbers-after (fileTests file) (lengthTest (planNeeded (jobIn file)) (length plan) ∷ []) ∙ ap (λ (ns : List ℕ). ns ++ 9 ∷ []) (file-ordered file))
@@ -113,6 +117,7 @@ listed (Probe es ws B s) = probe-numbers (jobOf es ws) B s
 listed (Heuristic es ws s) = heuristic-numbers (jobOf es ws) s
 listed (Plan m es ws s t) = plan-numbers (jobOf es ws) m s t
 listed (WritePlan es ws s plan) = write-plan-numbers (jobOf es ws) s (length plan)
+listed (ListJob file out) = list-numbers file out
 listed (PlanJob file m plan) = host-numbers file m (length plan)
 
 ranged : (call : Call) → T (eachBetween 1 11 (numbers call))
@@ -125,11 +130,12 @@ ranged (Probe es ws B s) = tt
 ranged (Heuristic es ws s) = tt
 ranged (Plan m es ws s t) = tt
 ranged (WritePlan es ws s plan) = tt
+ranged (ListJob file out) = tt
 ranged (PlanJob file m plan) = tt
 
 -- No test has the number 0.
 numbered : (call : Call) → Numbered (tests call)
-unfolding hostTests hostFileTests methodTest lengthTest
+unfolding hostTests hostFileTests listTests methodTest lengthTest
 numbered (TestJob es ws) = job-numbered (jobOf es ws)
 numbered (ReadJob file es ws) = read-numbered file (length es) (length ws)
 numbered (WriteJob es ws file) = call-numbered (jobOf es ws) (writeInputs (jobOf es ws) (length file))
@@ -138,11 +144,12 @@ numbered (Probe es ws B s) = call-numbered (jobOf es ws) (probeInputs (jobOf es 
 numbered (Heuristic es ws s) = call-numbered (jobOf es ws) (heuristicInputs (jobOf es ws) (length s))
 numbered (Plan m es ws s t) = call-numbered (jobOf es ws) (planInputs (jobOf es ws) m (length s) (length t))
 numbered (WritePlan es ws s plan) = call-numbered (jobOf es ws) (writePlanInputs (jobOf es ws) s (length plan))
+numbered (ListJob file out) = numbered-cons (omega arith) numbered-nil
 numbered (PlanJob file m plan) =
     numbered-cons (omega arith) (numbered-append (file-numbered file) (numbered-cons (omega arith) numbered-nil))
 
 kept : (call : Call) → firstRefusal (tests call) ≢ 0 → (left : List (List ℕ)) → Leaves call left → left ≡ lent call
-unfolding readRefusal refusal planRefusal hostAnswer readSpeeds readWeights writeBytes writePlanBytes
+unfolding readRefusal refusal planRefusal hostAnswer listRefusal readSpeeds readWeights writeBytes writePlanBytes
 kept (TestJob es ws) h left e = e
 kept (ReadJob file es ws) h left e = e ∙ ap₂ (λ (x y : List ℕ). x ∷ y ∷ []) (lent-refused h (speedsOf file) es) (lent-refused h (weightsOf file) ws)
 kept (WriteJob es ws file) h left e = e ∙ ap (λ (x : List ℕ). x ∷ []) (lent-refused h (jobBytes (jobOf es ws)) file)
@@ -153,6 +160,7 @@ kept (Plan m es ws s t) h left (t′, a, e) =
     e ∙ ap₂ (λ (x y : List ℕ). x ∷ y ∷ []) (plan-keeps (jobOf es ws) m s t h) (a .refused h)
 kept (WritePlan es ws s plan) h left e =
     e ∙ ap (λ (x : List ℕ). x ∷ []) (lent-refused h (planBytes (jobOf es ws) (front (jobOf es ws) s)) plan)
+kept (ListJob file out) h left e = e ∙ ap (λ (x : List ℕ). x ∷ []) (list-keeps file out h)
 kept (PlanJob file m plan) h left e = e ∙ ap (λ (x : List ℕ). x ∷ []) (host-keeps file plan m h)
 
 pub demand-one : (call : Call) → DemandOne call

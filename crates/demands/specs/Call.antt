@@ -18,6 +18,8 @@ use Rattle.calls.specs.Answers.{measuredSaid, outcomeValues, probedSaid, measur
 use Rattle.planfile.specs.Answers.{writePlanAnswer, writePlanBytes}
 use Rattle.planner.specs.Answers.{plannedSaid, chosenValues, planRefusal, planAnswer, planWrites, ScratchAfter}
 use Rattle.planner.specs.HostCall.{hostTests, hostAnswer, hostWrites}
+use Rattle.listing.specs.Listing.{listing}
+use Rattle.listing.specs.Answers.{listTests, listAnswer, listWrites}
 
 -- A call with all that it is given. Scope 10.1: "with whichever file, list, method or bound".
 pub data Call : Type 0 where
@@ -29,6 +31,7 @@ pub data Call : Type 0 where
   Heuristic : (speeds weights separators : List ℕ) → Call
   Plan : (method : ℕ) (speeds weights separators scratch : List ℕ) → Call
   WritePlan : (speeds weights separators plan : List ℕ) → Call
+  ListJob : (file out : List ℕ) → Call
   PlanJob : (file : List ℕ) (method : ℕ) (plan : List ℕ) → Call
 
 -- What its answer says, number and values.
@@ -41,6 +44,7 @@ said (Probe es ws B s) = probedSaid (probeAnswer (jobOf es ws) B s)
 said (Heuristic es ws s) = measuredSaid (heuristicAnswer (jobOf es ws) s)
 said (Plan m es ws s t) = plannedSaid (planAnswer (jobOf es ws) m s t)
 said (WritePlan es ws s plan) = writtenSaid (writePlanAnswer (jobOf es ws) s (length plan))
+said (ListJob file out) = writtenSaid (listAnswer file (length out))
 said (PlanJob file m plan) = alone (hostAnswer file m (length plan))
 
 -- The values that it says where nothing refuses it.
@@ -53,6 +57,7 @@ values (Probe es ws B s) = outcomeValues (probing.probe (jobOf es ws) B)
 values (Heuristic es ws s) = boundValues (bottleneck (jobOf es ws) (guessing.heuristic (jobOf es ws)))
 values (Plan m es ws s t) = chosenValues (jobOf es ws) (chosenOf m)
 values (WritePlan es ws s plan) = planNeeded (jobOf es ws) ∷ []
+values (ListJob file out) = length (listing file) ∷ []
 values (PlanJob file m plan) = []
 
 -- The tests that it makes. Scope 8.2: "each call making those of the inputs that it takes".
@@ -65,6 +70,7 @@ tests (Probe es ws B s) = callTests (jobOf es ws) (probeInputs (jobOf es ws) B (
 tests (Heuristic es ws s) = callTests (jobOf es ws) (heuristicInputs (jobOf es ws) (length s))
 tests (Plan m es ws s t) = callTests (jobOf es ws) (planInputs (jobOf es ws) m (length s) (length t))
 tests (WritePlan es ws s plan) = callTests (jobOf es ws) (writePlanInputs (jobOf es ws) s (length plan))
+tests (ListJob file out) = listTests (length out)
 tests (PlanJob file m plan) = hostTests file m (length plan)
 
 -- The numbers that it can be refused with.
@@ -77,6 +83,7 @@ numbers (Probe es ws B s) = 5 ∷ 6 ∷ 7 ∷ 8 ∷ 9 ∷ 10 ∷ []
 numbers (Heuristic es ws s) = 5 ∷ 6 ∷ 7 ∷ 8 ∷ 9 ∷ []
 numbers (Plan m es ws s t) = 1 ∷ 5 ∷ 6 ∷ 7 ∷ 8 ∷ 9 ∷ []
 numbers (WritePlan es ws s plan) = 5 ∷ 6 ∷ 7 ∷ 8 ∷ 9 ∷ 11 ∷ []
+numbers (ListJob file out) = 9 ∷ []
 numbers (PlanJob file m plan) = 1 ∷ 2 ∷ 3 ∷ 4 ∷ 5 ∷ 6 ∷ 7 ∷ 8 ∷ 9 ∷ []
 
 -- Scope 8.3: "the tests 3 to 6 go record by record from the front, within a record in the order of the numbers". Of n records:
@@ -97,6 +104,7 @@ order (Probe es ws B s) = numbers (Probe es ws B s)
 order (Heuristic es ws s) = numbers (Heuristic es ws s)
 order (Plan m es ws s t) = numbers (Plan m es ws s t) ++ 9 ∷ []
 order (WritePlan es ws s plan) = 5 ∷ 6 ∷ 7 ∷ 8 ∷ 9 ∷ 9 ∷ 11 ∷ []
+order (ListJob file out) = numbers (ListJob file out)
 order (PlanJob file m plan) = 1 ∷ (fileOrder file ++ 9 ∷ [])
 
 -- The lists and buffers that are lent to it for writing. What it only reads it cannot write: a `&[..]` of its signature.
@@ -109,6 +117,7 @@ lent (Probe es ws B s) = s ∷ []
 lent (Heuristic es ws s) = s ∷ []
 lent (Plan m es ws s t) = s ∷ t ∷ []
 lent (WritePlan es ws s plan) = plan ∷ []
+lent (ListJob file out) = out ∷ []
 lent (PlanJob file m plan) = plan ∷ []
 
 -- It leaves these in their place. Of the work numbers of a plan this says what its contract does, and no more.
@@ -123,4 +132,5 @@ Leaves (Plan m es ws s t) left =
     (t′ : List ℕ) × ScratchAfter (planRefusal (jobOf es ws) m (length s) (length t)) (jobOf es ws) t t′
     × (left ≡ planWrites (jobOf es ws) m s t ∷ t′ ∷ [])
 Leaves (WritePlan es ws s plan) left = left ≡ writePlanBytes (jobOf es ws) s plan ∷ []
+Leaves (ListJob file out) left = left ≡ listWrites file out ∷ []
 Leaves (PlanJob file m plan) left = left ≡ hostWrites file m plan ∷ []

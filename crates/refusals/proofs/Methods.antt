@@ -1,7 +1,7 @@
 -- The methods by their numbers: what the choice says of the number, and of its test.
 -- Assumes nothing.
 use Prim.Native.Nat.{ℕ, _≤_}
-use mathlib.Core.Path.{_≡_, sym}
+use mathlib.Core.Path.{_≡_, refl, sym}
 use mathlib.Core.Bool.{Bool, cond}
 use mathlib.Core.List.{[], _∷_}
 use mathlib.Core.Logic.{_≢_}
@@ -14,7 +14,7 @@ use Rattle.chain.specs.declared.Method.the-variants.{Table, Bidding, Bisection}
 use Rattle.chain.specs.Refusal.{methodTest, firstRefusal}
 use Rattle.refusals.specs.declared.Chosen.{Chosen}
 use Rattle.refusals.specs.declared.Chosen.the-variants.{Known, Unknown}
-use Rattle.refusals.specs.Methods.{chosenOf}
+use Rattle.refusals.specs.Methods.{chosenOf, numberOf}
 use Rattle.refusals.proofs.Tests.{method-low, method-high, method-in}
 
 module _ (n : ℕ) where
@@ -70,5 +70,12 @@ module _ (n : ℕ) where
             | yes x ↦ known (chosen-table x)
             | no x ↦ elim (ℕ-discrete n 2) [ yes y ↦ known (chosen-bidding y) | no y ↦ known (chosen-bisection (omega arith)) ]
           ]
+
+-- A method is the one that its number stands for.
+pub number-chosen : (k : Method) → chosenOf (numberOf k) ≡ Known k
+unfolding chosenOf numberOf
+number-chosen Table = refl
+number-chosen Bidding = refl
+number-chosen Bisection = refl
 
 pub ruleset choice-laws = (chosen-table, chosen-bidding, chosen-bisection, chosen-none)

@@ -9,7 +9,7 @@ ghost use Rattle.chain.specs.Limits.{maxProcessors, maxTasks};
 ghost use Rattle.chain.specs.Job.{Job, jobOf, processors};
 ghost use Rattle.chain.specs.Refusal.{test, between, eachBetween, lengthTest, boundTest, isPartition, partitionTest};
 ghost use Rattle.chain.specs.Refusal.{firstRefusal, jobTests, measureInputs, refusal};
-ghost use Rattle.refusals.specs.Methods.{chosenOf};
+ghost use Rattle.refusals.specs.Methods.{chosenOf, numberOf};
 ghost use Rattle.refusals.specs.Inputs.{probeInputs, heuristicInputs, planLists, writeInputs, writePlanInputs};
 use bound::Bound;
 use chain::Method;
@@ -135,6 +135,17 @@ pub fn choose(number: u32) -> Chosen
         2 => Chosen::Known(Method::Bidding),
         3 => Chosen::Known(Method::Bisection),
         _ => Chosen::Unknown,
+    }
+}
+
+// Inner. The number of a method.
+pub fn method_number(method: Method) -> u32
+    ensures { λ r. ⌜ r ≡ numberOf method ⌝ }
+{
+    match method {
+        Method::Table => 1,
+        Method::Bidding => 2,
+        Method::Bisection => 3,
     }
 }
 

@@ -1,10 +1,10 @@
--- `put_number` meets its contract: a number of 64 bits has few digits.
+-- `put_number` meets its contract: the digits are those of the definition, and few.
 -- Assumes nothing.
-use native.Mathlib.Omega.{arith}
-use Rattle.strips.proofs.Laws.{digits-few}
 use borrow.Author.Needs.{needs}
-use Rattle.strips.proofs.put_number.Statement.{statement}
-use Rattle.strips.proofs.put_number.Tie as tie
+use Rattle.listing.proofs.put_number.Statement.{statement}
+use Rattle.listing.proofs.put_number.Tie as tie
+use native.Mathlib.Omega.{arith}
+use Rattle.listing.proofs.Laws.{number-text, put-as, digits-few}
 
 decimal-requires : tie.Need-decimal-requires
 decimal-requires c κs = search needs
@@ -27,8 +27,10 @@ same-length c = search needs
 returns : tie.Need-returns
 returns c =
     let s = c .before .before .before .before .before .before .before .before in
-    let d = c .before .before .before .before .before .decimal in
-    omega (arith, digits-few (s .args .n) (d .result) (d .ensures .1 .0) (s .fits .n .fits))
+    let d = c .before .before .before .before .before .decimal in (
+      put-as (number-text (d .ensures .1 .0) (d .ensures .1 .1)) (c .before .before .put-text .ensures .0),
+      omega (arith, digits-few (s .args .n) (d .result) (d .ensures .1 .0) (s .fits .n .fits)),
+    )
 
 pub put-number-spec : {M : Type 1} → statement M
 put-number-spec =

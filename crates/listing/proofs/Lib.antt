@@ -1,0 +1,4 @@
+pub mod Laws
+pub mod Listings
+pub mod Promises
+pub mod Examples

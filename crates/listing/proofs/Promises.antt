@@ -1,0 +1,114 @@
+-- What a caller may read off a listing, and off the answer of the call that puts it.
+-- Assumes nothing.
+use Prim.Native.Nat.{ℕ, suc, _+_, _*_, _≤_}
+use mathlib.Core.Path.{_≡_, refl, sym, ap, subst, _∙_}
+use mathlib.Core.List.{List, [], _∷_, _++_, List·Memᴰ}
+use mathlib.Core.Logic.{_≢_, _↔_}
+use native.Mathlib.Omega.{arith}
+use native.Mathlib.Nat.{le-refl}
+use lib.ListN.{length, take, drop, length-append}
+use lib.Seq.{take-take}
+use Rattle.chain.specs.declared.Method.{Method}
+use Rattle.chain.specs.Job.{processors, tasks}
+use Rattle.chain.specs.Refusal.{lengthTest, FirstFailing, separatorsNeeded}
+use Rattle.chain.proofs.Refusals.{job-accepted, gives, given-number}
+use Rattle.refusals.specs.Inputs.{scratchNeeded}
+use Rattle.refusals.specs.Methods.{numberOf}
+use Rattle.refusals.specs.declared.Chosen.{Chosen}
+use Rattle.refusals.specs.declared.Written.{Written}
+use Rattle.refusals.specs.Answers.{saidBy, writtenSaid, lentAfter}
+use Rattle.refusals.proofs.Answering.{number-of, written-said, written-all}
+use Rattle.refusals.proofs.Lent.{lent-refused, lent-front}
+use Rattle.refusals.proofs.Methods.{known-passes, number-chosen}
+use Rattle.refusals.proofs.Tests.{length-enough, heuristic-list, plan-scratch, plan-known}
+use Rattle.parts.proofs.Front.{taken}
+use Rattle.jobs.specs.Parse.{jobIn, fileRefusal}
+use Rattle.jobs.proofs.RoundTrip.{accepted-valid}
+use Rattle.planner.specs.declared.Figures.{Figures}
+use Rattle.planner.specs.declared.Planned.the-variants.{Accepted}
+use Rattle.planner.specs.Answers.{planRefusal, planFigures, plannedOf, chosenAnswer, planAnswer, planWrites}
+use Rattle.planner.proofs.Promises.{accepted-separators}
+use Rattle.listing.specs.Listing.{planLine, methodLine, listingOf, intake, listing}
+use Rattle.listing.specs.Answers.{listTests, listRefusal, listAnswer, listWrites}
+
+-- A job that was read is planned by every method, with lists that are long enough:
+module _ (file : List ℕ) (read : fileRefusal file ≡ 0) (method : Method) (s t : List ℕ) (seps : separatorsNeeded (jobIn file) ≤ length s)
+    (work : scratchNeeded (jobIn file) ≤ length t) where
+  -- planning refuses nothing,
+  pub read-planned : planRefusal (jobIn file) (numberOf method) (length s) (length t) ≡ 0
+  unfolding planRefusal
+  read-planned =
+      let job = jobIn file in
+      let valid = job-accepted .1 (accepted-valid file read) in
+      let list = heuristic-list job (length s) (sym valid) refl (length-enough (processors job + 1) (length s) (omega arith)) in
+      sym (plan-known job (numberOf method) (length s) (length t) (known-passes (numberOf method) (number-chosen method))
+      (plan-scratch job (length s) (length t) list refl (length-enough (5 * (tasks job + 1)) (length t) (omega arith))))
+
+  -- the call answers with the figures of the method's line,
+  pub read-accepted : planAnswer (jobIn file) (numberOf method) s t ≡ Accepted (planFigures method (jobIn file))
+  unfolding planAnswer chosenAnswer plannedOf
+  read-accepted =
+      ap (λ (c : Chosen). chosenAnswer (jobIn file) c (planRefusal (jobIn file) (numberOf method) (length s) (length t))) (number-chosen method)
+      ∙ ap (λ (n : ℕ). plannedOf n (planFigures method (jobIn file))) read-planned
+
+  -- and leaves its separators.
+  pub read-line : methodLine method (jobIn file)
+      ≡ planLine (numberOf method) (planFigures method (jobIn file)) (take (suc (processors (jobIn file))) (planWrites (jobIn file) (numberOf method) s t))
+  unfolding methodLine
+  read-line =
+      ap (planLine (numberOf method) (planFigures method (jobIn file))) (sym (accepted-separators (jobIn file) (numberOf method) s t read-accepted))
+
+-- Scope 9.6: "judges a longer file by those bytes": what comes behind them is without effect.
+pub listing-taken : (file : List ℕ) → listing (take intake file) ≡ listing file
+unfolding listing
+listing-taken file = ap (λ (l : List ℕ). listingOf (fileRefusal l) l) (take-take intake intake file (le-refl intake))
+
+-- The call: 0 or 9; that of the first test that fails; a refusal leaves the buffer as it was.
+module _ (file out : List ℕ) where
+  pub list-said : writtenSaid (listAnswer file (length out)) ≡ saidBy (listRefusal (length out)) (length (listing file) ∷ [])
+  unfolding listAnswer
+  list-said = written-said (listRefusal (length out)) (length (listing file))
+
+  pub list-number : (writtenSaid (listAnswer file (length out))) .number ≡ listRefusal (length out)
+  list-number = number-of (length (listing file) ∷ []) list-said
+
+  pub list-numbers : List·Memᴰ ((writtenSaid (listAnswer file (length out))) .number) (0 ∷ 9 ∷ [])
+  unfolding listRefusal listTests lengthTest
+  list-numbers = given-number (9 ∷ []) (listTests (length out)) list-number tt
+
+  pub list-gives : {n : ℕ} → n ≢ 0 → ((writtenSaid (listAnswer file (length out))) .number ≡ n) ↔ FirstFailing (listTests (length out)) n
+  unfolding listRefusal
+  list-gives h = gives (listTests (length out)) list-number h
+
+  pub list-keeps : listRefusal (length out) ≢ 0 → listWrites file out ≡ out
+  unfolding listWrites
+  list-keeps h = lent-refused h (listing file) out
+
+  -- Where it is accepted, it answers how many bytes the listing has, and those in front of the buffer are the listing.
+  pub record Listed (n : ℕ) : Type 0 where
+    pub count : n ≡ length (listing file)
+    pub bytes : take n (listWrites file out) ≡ listing file
+    pub within : n ≤ length (listWrites file out)
+
+  pub list-accepted : {n : ℕ} → listAnswer file (length out) ≡ Written.Bytes n → Listed n
+  unfolding listAnswer listWrites
+  list-accepted {n} e =
+      record {
+        count = is-n;
+        bytes = taken (listing file) (drop n out) (sym is-n) put;
+        within = omega (arith, is-n, ap length put, length-append (listing file) (drop n out));
+      }
+    where
+      none : listRefusal (length out) ≡ 0
+      none = sym list-number ∙ ap (λ (r : Written). (writtenSaid r) .number) e
+
+      is-n : n ≡ length (listing file)
+      is-n = cc (written-all (length (listing file)) none ∙ e)
+
+      put : lentAfter (listRefusal (length out)) (listing file) out ≡ listing file ++ drop n out
+      put = lent-front (listing file) out none (sym is-n)
+
+  -- The same, of what a call answered and left.
+  pub list-counts : {r : Written} {later : List ℕ} {n : ℕ} → r ≡ listAnswer file (length out) → r ≡ Written.Bytes n → later ≡ listWrites file out
+      → n ≤ length later
+  list-counts a e f = omega (arith, (list-accepted (sym a ∙ e)) .within, ap length f)

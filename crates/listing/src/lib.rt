@@ -1,0 +1,236 @@
+// The listing of a job file, as text in a lent buffer: its counts and the plan of each method, or the number that it is refused
+// with. What stands in it is a definition, `listing`, and `list` puts exactly these bytes.
+ghost use Prim.Native.Nat.{_+_, _*_, _≤_, _<_};
+ghost use mathlib.Core.Path.{_≡_};
+ghost use mathlib.Core.List.{_++_};
+ghost use lib.ListN.{length};
+ghost use Rattle.chain.specs.Job.{Job, jobOf, Valid, processors};
+ghost use Rattle.jobs.specs.Parse.{fileRefusal};
+ghost use Rattle.listing.specs.Listing as says;
+ghost use Rattle.listing.specs.Listing.{decimal, field, fields, countsLine, figuresText, planLine, methodLine, jobListing, refusalLine};
+ghost use Rattle.listing.specs.Listing.{listingOf};
+ghost use Rattle.listing.specs.Room.{numberRoom, fieldRoom, figuresRoom, planRoom, countsRoom, listingRoom};
+ghost use Rattle.listing.specs.Room.{Put};
+ghost use Rattle.listing.specs.Answers.{listAnswer, listWrites};
+use chain::Method;
+use jobs::JobRead;
+use jobs::read_job;
+use parts::total;
+use parts::wide;
+use planner::Figures;
+use planner::SCRATCH;
+use planner::SEPARATORS;
+use planner::plan_in;
+use refusals::MAX_PROCESSORS;
+use refusals::MAX_TASKS;
+use refusals::RECORD;
+use refusals::Written;
+use refusals::method_number;
+use refusals::test_length;
+
+// One record more than the longest job: a longer file is judged by that much.
+pub const INTAKE: usize = RECORD * (MAX_PROCESSORS + MAX_TASKS + 1);
+
+// Room for each: a number of 64 bits, one with its space, the line of a plan, the first line, the listing.
+const NUMBER_ROOM: usize = 20;
+
+const FIELD_ROOM: usize = 1 + NUMBER_ROOM;
+
+const PLAN_ROOM: usize = 6 * FIELD_ROOM + FIELD_ROOM * SEPARATORS;
+
+const COUNTS_ROOM: usize = 21 + 3 * FIELD_ROOM;
+
+pub const LISTING_ROOM: usize = COUNTS_ROOM + 3 * PLAN_ROOM;
+
+// Inner. Puts the text at index `at`, and answers the index behind it.
+fn put_text(text: &[u8], at: usize, out: &mut [u8]) -> usize
+    requires { ⌜ at + length (now text) ≤ length (now out) ⌝ }
+    ensures { λ r. ⌜ Put (now (text .entry)) at (now (out .entry)) (now (out .exit)) r ⌝ }
+    ensures { λ r. ⌜ r ≡ at + length (now (text .entry)) ⌝ }
+{
+    let mut i = 0;
+    while i < text.len() {
+        out[at + i] = text[i];
+        i += 1;
+    }
+    at + i
+}
+
+// Inner. Puts the number in decimal.
+fn put_number(n: u64, at: usize, out: &mut [u8]) -> usize
+    requires { ⌜ at + numberRoom ≤ length (now out) ⌝ }
+    ensures { λ r. ⌜ Put (decimal n) at (now (out .entry)) (now (out .exit)) r ⌝ }
+    ensures { λ r. ⌜ r ≤ at + numberRoom ⌝ }
+{
+    let mut text = [0u8; NUMBER_ROOM];
+    let count = io::decimal(n, &mut text);
+    put_text(&text[..count], at, out)
+}
+
+// Inner. Puts a space and the number.
+fn put_field(n: u64, at: usize, out: &mut [u8]) -> usize
+    requires { ⌜ at + fieldRoom ≤ length (now out) ⌝ }
+    ensures { λ r. ⌜ Put (field n) at (now (out .entry)) (now (out .exit)) r ⌝ }
+    ensures { λ r. ⌜ r ≤ at + fieldRoom ⌝ }
+{
+    let next = put_text(b" ", at, out);
+    put_number(n, next, out)
+}
+
+// Inner. Puts a space and the number, for each number of the list.
+fn put_fields(numbers: &[u32], at: usize, out: &mut [u8]) -> usize
+    requires { ⌜ at + fieldRoom * length (now numbers) ≤ length (now out) ⌝ }
+    ensures { λ r. ⌜ Put (fields (now (numbers .entry))) at (now (out .entry)) (now (out .exit)) r ⌝ }
+    ensures { λ r. ⌜ r ≤ at + fieldRoom * length (now (numbers .entry)) ⌝ }
+{
+    let mut next = at;
+    let mut i = 0;
+    while i < numbers.len() {
+        next = put_field(wide(numbers[i]), next, out);
+        i += 1;
+    }
+    next
+}
+
+// Inner. Puts a word and the number that it is of.
+fn put_labelled(word: &[u8], n: u64, at: usize, out: &mut [u8]) -> usize
+    requires { ⌜ at + length (now word) + fieldRoom ≤ length (now out) ⌝ }
+    ensures { λ r. ⌜ Put (now (word .entry) ++ field n) at (now (out .entry)) (now (out .exit)) r ⌝ }
+    ensures { λ r. ⌜ r ≤ at + length (now (word .entry)) + fieldRoom ⌝ }
+{
+    let next = put_text(word, at, out);
+    put_field(n, next, out)
+}
+
+// Inner. Puts the line of a refusal.
+fn put_refusal_line(number: u32, out: &mut [u8]) -> usize
+    requires { ⌜ listingRoom ≤ length (now out) ⌝ }
+    ensures { λ r. ⌜ Put (refusalLine number) 0 (now (out .entry)) (now (out .exit)) r ⌝ }
+    ensures { λ r. ⌜ r ≤ listingRoom ⌝ }
+{
+    let next = put_labelled(b"refused", wide(number), 0, out);
+    put_text(b"\n", next, out)
+}
+
+// Inner. Puts the numbers of a plan's line before its separators.
+fn put_figures(method: u32, figures: Figures, at: usize, out: &mut [u8]) -> usize
+    requires { ⌜ at + figuresRoom ≤ length (now out) ⌝ }
+    ensures { λ r. ⌜ Put (figuresText method figures) at (now (out .entry)) (now (out .exit)) r ⌝ }
+    ensures { λ r. ⌜ r < at + figuresRoom ⌝ }
+{
+    let bottleneck = figures.bottleneck;
+    let mut next = put_number(wide(method), at, out);
+    next = put_field(wide(figures.count), next, out);
+    next = put_field(wide(figures.allowance), next, out);
+    next = put_field(bottleneck.load, next, out);
+    next = put_field(bottleneck.speed, next, out);
+    put_field(figures.imbalance, next, out)
+}
+
+// Inner. Puts the line of a plan.
+fn put_plan_line(
+    method: u32,
+    figures: Figures,
+    separators: &[u32],
+    at: usize,
+    out: &mut [u8],
+) -> usize
+    requires { ⌜ at + planRoom (length (now separators)) ≤ length (now out) ⌝ }
+    ensures { λ r. ⌜ Put (planLine method figures (now (separators .entry))) at (now (out .entry)) (now (out .exit)) r ⌝ }
+    ensures { λ r. ⌜ r ≤ at + planRoom (length (now (separators .entry))) ⌝ }
+{
+    let mut next = put_figures(method, figures, at, out);
+    next = put_fields(separators, next, out);
+    put_text(b"\n", next, out)
+}
+
+// Inner. Plans by the method and puts its line. A job within the limits is planned: nothing is refused here.
+fn list_method(method: Method, speeds: &[u32], weights: &[u32], at: usize, out: &mut [u8]) -> usize
+    ghost { Job }
+    requires { λ job. ⌜ jobOf (now speeds) (now weights) ≡ job ⌝ }
+    requires { λ job. ⌜ Valid job ⌝ }
+    requires { λ job. ⌜ at + planRoom (processors job + 1) ≤ length (now out) ⌝ }
+    ensures { λ job r. ⌜ Put (methodLine method job) at (now (out .entry)) (now (out .exit)) r ⌝ }
+    ensures { λ job r. ⌜ r ≤ at + planRoom (processors job + 1) ⌝ }
+{
+    let mut separators = [0u32; SEPARATORS];
+    let mut scratch = [0u32; SCRATCH];
+    let figures = plan_in(method, speeds, weights, &mut separators, &mut scratch);
+    let used = speeds.len() + 1;
+    put_plan_line(method_number(method), figures, &separators[..used], at, out)
+}
+
+// Inner. Puts the first line: the job's counts and its total weight.
+fn put_counts_line(speeds: &[u32], weights: &[u32], out: &mut [u8]) -> usize
+    ghost { Job }
+    requires { λ job. ⌜ jobOf (now speeds) (now weights) ≡ job ⌝ }
+    requires { λ job. ⌜ Valid job ⌝ }
+    requires { λ job. ⌜ countsRoom ≤ length (now out) ⌝ }
+    ensures { λ job r. ⌜ Put (countsLine job) 0 (now (out .entry)) (now (out .exit)) r ⌝ }
+    ensures { λ job r. ⌜ r ≤ countsRoom ⌝ }
+{
+    let weight = total(weights);
+    let mut next = put_labelled(b"tiles", weights.len() as u64, 0, out);
+    next = put_labelled(b" machines", speeds.len() as u64, next, out);
+    next = put_labelled(b" total", weight, next, out);
+    put_text(b"\n", next, out)
+}
+
+// Inner. Puts the listing of a job within the limits.
+fn list_job(speeds: &[u32], weights: &[u32], out: &mut [u8]) -> usize
+    ghost { Job }
+    requires { λ job. ⌜ jobOf (now speeds) (now weights) ≡ job ⌝ }
+    requires { λ job. ⌜ Valid job ⌝ }
+    requires { λ job. ⌜ listingRoom ≤ length (now out) ⌝ }
+    ensures { λ job r. ⌜ Put (jobListing job) 0 (now (out .entry)) (now (out .exit)) r ⌝ }
+    ensures { λ job r. ⌜ r ≤ listingRoom ⌝ }
+{
+    let mut next = put_counts_line(speeds, weights, out);
+    next = list_method(Method::Table, speeds, weights, next, out);
+    next = list_method(Method::Bidding, speeds, weights, next, out);
+    list_method(Method::Bisection, speeds, weights, next, out)
+}
+
+// Inner. Puts the listing of a job file, or the line of its refusal.
+fn list_file(file: &[u8], out: &mut [u8]) -> usize
+    requires { ⌜ listingRoom ≤ length (now out) ⌝ }
+    ensures { λ r.
+        let bytes = now (file .entry) in
+        ⌜ Put (listingOf (fileRefusal bytes) bytes) 0 (now (out .entry)) (now (out .exit)) r ⌝ }
+    ensures { λ r. ⌜ r ≤ listingRoom ⌝ }
+{
+    let mut speeds = [0u32; MAX_PROCESSORS];
+    let mut weights = [0u32; MAX_TASKS];
+    let read = read_job(file, &mut speeds, &mut weights);
+    match read {
+        JobRead::Read { processors, tasks } => {
+            list_job(&speeds[..processors], &weights[..tasks], out)
+        }
+        JobRead::Refused(number) => put_refusal_line(number, out),
+    }
+}
+
+// Inner. The same of the bytes that are taken in.
+fn list_taken(file: &[u8], out: &mut [u8]) -> usize
+    requires { ⌜ listingRoom ≤ length (now out) ⌝ }
+    ensures { λ r. ⌜ Put (says.listing (now (file .entry))) 0 (now (out .entry)) (now (out .exit)) r ⌝ }
+    ensures { λ r. ⌜ r ≤ listingRoom ⌝ }
+{
+    if file.len() > INTAKE {
+        return list_file(&file[..INTAKE], out);
+    }
+    list_file(file, out)
+}
+
+// Puts the listing of a job file to the front of the buffer: the count of its bytes, or the refusal: 9 for a buffer that is too
+// short for the longest listing. Later bytes stay.
+pub fn list(file: &[u8], out: &mut [u8]) -> Written
+    ensures answer { λ r. ⌜ r ≡ listAnswer (now (file .entry)) (length (now (out .entry))) ⌝ }
+    ensures bytes { λ _. ⌜ now (out .exit) ≡ listWrites (now (file .entry)) (now (out .entry)) ⌝ }
+{
+    let number = test_length(LISTING_ROOM, out.len());
+    if number != 0 {
+        return Written::Refused(number);
+    }
+    Written::Bytes(list_taken(file, out))
+}

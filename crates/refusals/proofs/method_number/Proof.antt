@@ -1,0 +1,31 @@
+-- `method_number` meets its contract, method by method.
+-- Assumes nothing.
+use mathlib.Core.Path.{sym, ap}
+use Rattle.refusals.specs.Methods.{numberOf}
+use borrow.Author.Needs.{needs}
+use Rattle.refusals.proofs.method_number.Statement.{statement}
+use Rattle.refusals.proofs.method_number.Tie as tie
+
+enum-told : tie.Need-enum-told
+enum-told c = search needs
+
+enum-told-2 : tie.Need-enum-told-2
+enum-told-2 c = search needs
+
+enum-told-3 : tie.Need-enum-told-3
+enum-told-3 c = search needs
+
+returns : tie.Need-returns
+unfolding numberOf
+returns c = sym (ap numberOf (c .enum-told .given .1))
+
+returns-2 : tie.Need-returns-2
+unfolding numberOf
+returns-2 c = sym (ap numberOf (c .enum-told2 .given .1))
+
+returns-3 : tie.Need-returns-3
+unfolding numberOf
+returns-3 c = sym (ap numberOf (c .enum-told3 .given .1))
+
+pub method-number-spec : {M : Type 1} → statement M
+method-number-spec = tie.close (tie.spec enum-told enum-told-2 enum-told-3 returns returns-2 returns-3)
