@@ -16,39 +16,32 @@ use Rattle.chain.specs.declared.Outcome.{Outcome}
 use Rattle.chain.specs.declared.Outcome.the-variants.{Fits, Fails}
 use Rattle.chain.specs.Probe.{walk, fits, nextBid, probe}
 use Rattle.chain.specs.Heuristic.{heuristic}
-use Rattle.chain.specs.Refusal.{speedsTest, weightsTest, processorsTest, tasksTest, lengthTest, boundTest, partitionTest, jobTests, measureInputs, callTests, refusal}
+use Rattle.chain.specs.Refusal.{speedsTest, weightsTest, processorsTest, tasksTest, lengthTest, boundTest, partitionTest, FirstFailing, jobTests, measureInputs, callTests, refusal}
 use Rattle.chain.proofs.Tests.{T-true, T-false}
-use Rattle.chain.proofs.Refusals.{FirstFailing, gives, given-number}
+use Rattle.chain.proofs.Refusals.{gives, given-number}
 use Rattle.chain.proofs.Parts.{Proper, valid-proper, valid-plannable}
 use Rattle.chain.proofs.Walk as walks
 use Rattle.chain.proofs.NextBid as bids
 use Rattle.chain.proofs.Heuristic.{heuristic-partition, heuristic-bound}
 use Rattle.refusals.specs.Inputs.{probeInputs, heuristicInputs}
-use Rattle.refusals.specs.Answers.{lentAfter}
+use Rattle.refusals.specs.Answers.{saidBy, boundValues, lentAfter}
 use Rattle.refusals.proofs.Accepted.{accepted}
+use Rattle.refusals.proofs.Answering.{said-choice, number-of}
 use Rattle.refusals.proofs.Lent.{lent-refused, lent-front}
 use Rattle.calls.specs.declared.Measured.the-variants.{Bottleneck, Refused}
 use Rattle.calls.specs.declared.Probed.the-variants.{Answered, Refused as ProbeRefused}
-use Rattle.calls.specs.Answers.{measuredNumber, probedNumber, measuredOf, measureAnswer, probedOf, probeAnswer, probeWrites, heuristicAnswer, heuristicWrites}
+use Rattle.calls.specs.Answers.{measuredSaid, outcomeValues, probedSaid, measuredOf, measureAnswer, probedOf, probeAnswer, probeWrites, heuristicAnswer, heuristicWrites}
 use Rattle.parts.proofs.Front.{taken, front-partition}
 use Rattle.probe.proofs.Answer.{outcome-fits, fits-outcome, fails-outcome}
 
--- An answer by its number.
-measured-number : (n : ℕ) (B : Bound) → measuredNumber (measuredOf n B) ≡ n
-unfolding measuredOf
-measured-number n B = go (eqb n 0) refl
-  where
-    go : (b : Bool) → eqb n 0 ≡ b → measuredNumber (cond b (Bottleneck B) (Refused n)) ≡ n
-    go true e = sym (eqb→eq n 0 (subst T (sym e) tt))
-    go false e = refl
+-- What an answer says, by its number.
+measured-said : (n : ℕ) (B : Bound) → measuredSaid (measuredOf n B) ≡ saidBy n (boundValues B)
+unfolding measuredOf saidBy
+measured-said n B = said-choice measuredSaid (eqb n 0) (Bottleneck B) (Refused n)
 
-probed-number : (n : ℕ) (r : Outcome) → probedNumber (probedOf n r) ≡ n
-unfolding probedOf
-probed-number n r = go (eqb n 0) refl
-  where
-    go : (b : Bool) → eqb n 0 ≡ b → probedNumber (cond b (Answered r) (ProbeRefused n)) ≡ n
-    go true e = sym (eqb→eq n 0 (subst T (sym e) tt))
-    go false e = refl
+probed-said : (n : ℕ) (r : Outcome) → probedSaid (probedOf n r) ≡ saidBy n (outcomeValues r)
+unfolding probedOf saidBy
+probed-said n r = said-choice probedSaid (eqb n 0) (Answered r) (ProbeRefused n)
 
 measured-bottleneck : {n : ℕ} {B C : Bound} → measuredOf n B ≡ Bottleneck C → (n ≡ 0) × (C ≡ B)
 unfolding measuredOf
@@ -60,19 +53,23 @@ measured-bottleneck {n} {B} {C} e = go (eqb n 0) refl e
 
 -- Measuring.
 module _ (job : Job) (s : List ℕ) where
-  -- The answer's number is the refusal's.
-  pub measure-number : measuredNumber (measureAnswer job s) ≡ refusal job (measureInputs job s)
+  -- The answer says the bottleneck, or the refusal's number.
+  pub measure-said : measuredSaid (measureAnswer job s)
+      ≡ saidBy (refusal job (measureInputs job s)) (boundValues (bottleneck job (take (suc (processors job)) s)))
   unfolding measureAnswer
-  measure-number = measured-number (refusal job (measureInputs job s)) (bottleneck job (take (suc (processors job)) s))
+  measure-said = measured-said (refusal job (measureInputs job s)) (bottleneck job (take (suc (processors job)) s))
+
+  pub measure-number : (measuredSaid (measureAnswer job s)) .number ≡ refusal job (measureInputs job s)
+  measure-number = number-of (boundValues (bottleneck job (take (suc (processors job)) s))) measure-said
 
   -- It is 0, or one of 5 to 9 and 11;
-  pub measure-numbers : List·Memᴰ (measuredNumber (measureAnswer job s)) (0 ∷ 5 ∷ 6 ∷ 7 ∷ 8 ∷ 9 ∷ 11 ∷ [])
+  pub measure-numbers : List·Memᴰ ((measuredSaid (measureAnswer job s)) .number) (0 ∷ 5 ∷ 6 ∷ 7 ∷ 8 ∷ 9 ∷ 11 ∷ [])
   unfolding refusal callTests jobTests speedsTest weightsTest processorsTest tasksTest lengthTest partitionTest
   measure-numbers = given-number (5 ∷ 6 ∷ 7 ∷ 8 ∷ 9 ∷ 11 ∷ []) (callTests job (measureInputs job s)) measure-number tt
 
   -- and that of the first test that fails.
   pub measure-gives : {n : ℕ} → n ≢ 0
-      → (measuredNumber (measureAnswer job s) ≡ n) ↔ FirstFailing (callTests job (measureInputs job s)) n
+      → ((measuredSaid (measureAnswer job s)) .number ≡ n) ↔ FirstFailing (callTests job (measureInputs job s)) n
   unfolding refusal
   measure-gives h = gives (callTests job (measureInputs job s)) measure-number h
 
@@ -84,17 +81,21 @@ module _ (job : Job) (s : List ℕ) where
 
 -- The heuristic.
 module _ (job : Job) (s : List ℕ) where
-  pub heuristic-number : measuredNumber (heuristicAnswer job s) ≡ refusal job (heuristicInputs job (length s))
+  pub heuristic-said : measuredSaid (heuristicAnswer job s)
+      ≡ saidBy (refusal job (heuristicInputs job (length s))) (boundValues (bottleneck job (heuristic job)))
   unfolding heuristicAnswer
-  heuristic-number = measured-number (refusal job (heuristicInputs job (length s))) (bottleneck job (heuristic job))
+  heuristic-said = measured-said (refusal job (heuristicInputs job (length s))) (bottleneck job (heuristic job))
+
+  pub heuristic-number : (measuredSaid (heuristicAnswer job s)) .number ≡ refusal job (heuristicInputs job (length s))
+  heuristic-number = number-of (boundValues (bottleneck job (heuristic job))) heuristic-said
 
   -- 0, or one of 5 to 9; that of the first test that fails.
-  pub heuristic-numbers : List·Memᴰ (measuredNumber (heuristicAnswer job s)) (0 ∷ 5 ∷ 6 ∷ 7 ∷ 8 ∷ 9 ∷ [])
+  pub heuristic-numbers : List·Memᴰ ((measuredSaid (heuristicAnswer job s)) .number) (0 ∷ 5 ∷ 6 ∷ 7 ∷ 8 ∷ 9 ∷ [])
   unfolding refusal callTests jobTests speedsTest weightsTest processorsTest tasksTest lengthTest
   heuristic-numbers = given-number (5 ∷ 6 ∷ 7 ∷ 8 ∷ 9 ∷ []) (callTests job (heuristicInputs job (length s))) heuristic-number tt
 
   pub heuristic-gives : {n : ℕ} → n ≢ 0
-      → (measuredNumber (heuristicAnswer job s) ≡ n) ↔ FirstFailing (callTests job (heuristicInputs job (length s))) n
+      → ((measuredSaid (heuristicAnswer job s)) .number ≡ n) ↔ FirstFailing (callTests job (heuristicInputs job (length s))) n
   unfolding refusal
   heuristic-gives h = gives (callTests job (heuristicInputs job (length s))) heuristic-number h
 
@@ -145,17 +146,20 @@ answered {n} {r} {o} e = go (eqb n 0) refl e
     go false f h = let z : _≡_ {A = ℕ} 0 1 = cc in absurd (let y : ⊥ = omega arith in y)
 
 module _ (job : Job) (B : Bound) (s : List ℕ) where
-  pub probe-number : probedNumber (probeAnswer job B s) ≡ refusal job (probeInputs job B (length s))
+  pub probe-said : probedSaid (probeAnswer job B s) ≡ saidBy (refusal job (probeInputs job B (length s))) (outcomeValues (probe job B))
   unfolding probeAnswer
-  probe-number = probed-number (refusal job (probeInputs job B (length s))) (probe job B)
+  probe-said = probed-said (refusal job (probeInputs job B (length s))) (probe job B)
+
+  pub probe-number : (probedSaid (probeAnswer job B s)) .number ≡ refusal job (probeInputs job B (length s))
+  probe-number = number-of (outcomeValues (probe job B)) probe-said
 
   -- 0, or one of 5 to 10; that of the first test that fails.
-  pub probe-numbers : List·Memᴰ (probedNumber (probeAnswer job B s)) (0 ∷ 5 ∷ 6 ∷ 7 ∷ 8 ∷ 9 ∷ 10 ∷ [])
+  pub probe-numbers : List·Memᴰ ((probedSaid (probeAnswer job B s)) .number) (0 ∷ 5 ∷ 6 ∷ 7 ∷ 8 ∷ 9 ∷ 10 ∷ [])
   unfolding refusal callTests jobTests speedsTest weightsTest processorsTest tasksTest lengthTest boundTest
   probe-numbers = given-number (5 ∷ 6 ∷ 7 ∷ 8 ∷ 9 ∷ 10 ∷ []) (callTests job (probeInputs job B (length s))) probe-number tt
 
   pub probe-gives : {n : ℕ} → n ≢ 0
-      → (probedNumber (probeAnswer job B s) ≡ n) ↔ FirstFailing (callTests job (probeInputs job B (length s))) n
+      → ((probedSaid (probeAnswer job B s)) .number ≡ n) ↔ FirstFailing (callTests job (probeInputs job B (length s))) n
   unfolding refusal
   probe-gives h = gives (callTests job (probeInputs job B (length s))) probe-number h
 

@@ -2,30 +2,36 @@
 -- on the whole input, refusals included. Scope, sections 2, 3, 4 and 8.
 use Prim.Native.Nat.{ℕ, suc}
 use mathlib.Core.Bool.{cond}
-use mathlib.Core.List.{List}
+use mathlib.Core.List.{List, []}
 use lib.ListN.{length, take}
 use lib.Dec.{eqb}
 use Rattle.bound.specs.declared.Bound.{Bound}
 use Rattle.chain.specs.declared.Outcome.{Outcome}
+use Rattle.chain.specs.declared.Outcome.the-variants.{Fits, Fails}
 use Rattle.chain.specs.Job.{Job, processors, bottleneck}
 use Rattle.chain.specs.Probe.{walk, fits, probe}
 use Rattle.chain.specs.Heuristic.{heuristic}
 use Rattle.chain.specs.Refusal.{measureInputs, refusal}
 use Rattle.refusals.specs.Inputs.{probeInputs, heuristicInputs}
-use Rattle.refusals.specs.Answers.{lentAfter}
+use Rattle.refusals.specs.Answers.{Said, accepting, alone, boundValues, lentAfter}
 use Rattle.calls.specs.declared.Measured.{Measured}
 use Rattle.calls.specs.declared.Measured.the-variants.{Bottleneck, Refused}
 use Rattle.calls.specs.declared.Probed.{Probed}
 use Rattle.calls.specs.declared.Probed.the-variants.{Answered, Refused as ProbeRefused}
 
--- The scope's number of an answer: 0 where the call is accepted.
-abbrev pub measuredNumber : Measured → ℕ
-measuredNumber (Bottleneck B) = 0
-measuredNumber (Refused n) = n
+-- Measuring and the heuristic say the bottleneck;
+abbrev pub measuredSaid : Measured → Said
+measuredSaid (Bottleneck B) = accepting (boundValues B)
+measuredSaid (Refused number) = alone number
 
-abbrev pub probedNumber : Probed → ℕ
-probedNumber (Answered outcome) = 0
-probedNumber (ProbeRefused n) = n
+-- a probe says the next bid where it fails, and no value where it fits.
+abbrev pub outcomeValues : Outcome → List ℕ
+outcomeValues Fits = []
+outcomeValues (Fails B) = boundValues B
+
+abbrev pub probedSaid : Probed → Said
+probedSaid (Answered outcome) = accepting (outcomeValues outcome)
+probedSaid (ProbeRefused number) = alone number
 
 -- The answer of measuring and of the heuristic by the number of the refusal: the bottleneck, or that number.
 unfoldable pub measuredOf : ℕ → Bound → Measured

@@ -13,7 +13,7 @@ use lib.ListN.{length, getD}
 use Rattle.chain.specs.Limits.{maxTasks, maxWeight, maxProcessors, maxSpeed}
 use Rattle.chain.specs.Lists.{all}
 use Rattle.chain.specs.Job.{Job, tasks, processors, speedOf, Valid, at, Partition}
-use Rattle.chain.specs.Refusal.{Test, between, eachBetween, methodTest, speedsTest, weightsTest, processorsTest, tasksTest, lengthTest, boundTest, isPartition, partitionTest, firstRefusal, jobTests, Inputs, callTests, refusal}
+use Rattle.chain.specs.Refusal.{Test, between, eachBetween, methodTest, speedsTest, weightsTest, processorsTest, tasksTest, lengthTest, boundTest, isPartition, partitionTest, firstRefusal, FirstFailing, jobTests, Inputs, callTests, refusal}
 use Rattle.chain.proofs.Tests.{T-of, and-left, and-right, and-both}
 use Rattle.chain.proofs.Indices.{all-at, all-of}
 
@@ -109,16 +109,6 @@ first-refusal-before (t ∷ ts) us h = go (t .passes) h (first-refusal-before ts
 pub refused-first : (ts : List Test) (t : Test) (us : List Test) → Numbered ts → firstRefusal ts ≡ 0 → t .passes ≡ false
     → firstRefusal (ts ++ t ∷ us) ≡ t .number
 refused-first ts t us n e f = first-refusal-append ts (t ∷ us) n e ∙ fail-head t us f
-
--- The test that is the first to fail in a list, with the number n.
-pub record FirstFailing (ts : List Test) (n : ℕ) : Type 0 where
-  pub before : List Test
-  pub failed : Test
-  pub after : List Test
-  pub whole : before ++ failed ∷ after ≡ ts
-  pub passed : (t : Test) → List·Memᴰ t before → T (t .passes)
-  pub fails : failed .passes ≡ false
-  pub gives : failed .number ≡ n
 
 -- A number is given where its test is the first to fail,
 pub failing-refused : {ts : List Test} {n : ℕ} → FirstFailing ts n → firstRefusal ts ≡ n

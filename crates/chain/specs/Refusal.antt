@@ -1,9 +1,10 @@
 -- The refusals that lists can cause, by number, and the order of their tests. Scope, section 8.
 use Prim.Native.Nat.{ℕ, suc, _+_}
-use mathlib.Core.Bool.{Bool, true, _&&_, cond}
-use mathlib.Core.List.{List, [], _∷_, _++_, map}
+use mathlib.Core.Path.{_≡_}
+use mathlib.Core.Bool.{Bool, true, false, _&&_, cond}
+use mathlib.Core.List.{List, [], _∷_, _++_, map, List·Memᴰ}
 use lib.ListN.{length, take}
-use lib.Dec.{leb, eqb}
+use lib.Dec.{T, leb, eqb}
 use Rattle.bound.specs.declared.Bound.{Bound}
 use Rattle.chain.specs.Limits.{maxTasks, maxWeight, maxProcessors, maxSpeed, maxBoundLoad, maxBoundSpeed}
 use Rattle.chain.specs.Lists.{all}
@@ -69,6 +70,16 @@ partitionTest job s = test 11 (isPartition job (take (suc (processors job)) s))
 unfoldable pub firstRefusal : List Test → ℕ
 firstRefusal [] = 0
 firstRefusal (t ∷ ts) = cond (t .passes) (firstRefusal ts) (t .number)
+
+-- The test that is the first to fail in a list, with the number n.
+pub record FirstFailing (ts : List Test) (n : ℕ) : Type 0 where
+  pub before : List Test
+  pub failed : Test
+  pub after : List Test
+  pub whole : before ++ failed ∷ after ≡ ts
+  pub passed : (t : Test) → List·Memᴰ t before → T (t .passes)
+  pub fails : failed .passes ≡ false
+  pub gives : failed .number ≡ n
 
 -- What every call with a job by lists tests. Scope 8.4: "In lists all speeds are tested before all weights."
 unfoldable pub jobTests : Job → List Test

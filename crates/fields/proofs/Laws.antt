@@ -6,11 +6,7 @@ use mathlib.Core.List.{List, _++_, append-assoc}
 use native.Mathlib.Omega.{arith}
 use lib.ListN.{length, getD, take, drop, length-drop, take-append-drop, List·getD-append}
 use lib.Seq.{length-take-le, getD-take, getD-drop, getD-append-add, drop-drop, ext-getD}
-use Rattle.fields.specs.Field.{fieldSize, fieldBytes, fieldAt}
-
--- A list of bytes.
-abbrev pub Bytes : List ℕ → Type 0
-Bytes bytes = (i : ℕ) → getD bytes i 0 < 256
+use Rattle.fields.specs.Field.{Bytes, fieldSize, fieldBytes, fieldAt}
 
 pub length-field : (v : ℕ) → length (fieldBytes v) ≡ fieldSize
 unfolding fieldBytes

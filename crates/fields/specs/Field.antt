@@ -1,7 +1,11 @@
 -- A field of 32 bits in a list of bytes. Scope 7.1: "Every field is little-endian."
-use Prim.Native.Nat.{ℕ, _+_, _*_, _/_, _%_}
+use Prim.Native.Nat.{ℕ, _+_, _*_, _/_, _%_, _<_}
 use mathlib.Core.List.{List, [], _∷_}
 use lib.ListN.{getD}
+
+-- A list of bytes.
+abbrev pub Bytes : List ℕ → Type 0
+Bytes bytes = (i : ℕ) → getD bytes i 0 < 256
 
 -- The bytes of a field: how many.
 abbrev pub fieldSize : ℕ

@@ -9,7 +9,8 @@ use lib.Dec.{eqb}
 use lib.ListN.{length, getD, take, drop, length-drop, List·getD-append}
 use lib.Seq.{take-add, getD-take, getD-drop, getD-append-add, length-take-le, ext-getD}
 use borrow.Author.Tests.{eq-eqb, eqb-true}
-use Rattle.fields.proofs.Laws.{Bytes, field-digits, field-held}
+use Rattle.fields.specs.Field.{Bytes}
+use Rattle.fields.proofs.Laws.{field-digits, field-held}
 use Rattle.jobs.specs.JobFile.{recordBytes, recordsBytes}
 use Rattle.jobs.specs.Parse.{byteAt, kindAt, valueAt, blank}
 use Rattle.jobs.proofs.Records.{length-record, length-records}

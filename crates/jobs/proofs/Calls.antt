@@ -2,25 +2,24 @@
 -- Assumes nothing.
 use Prim.Native.Nat.{ℕ, _+_, _≤_}
 use mathlib.Core.Path.{_≡_, refl, sym, ap, _∙_}
-use mathlib.Core.Bool.{Bool, true, false, cond}
 use mathlib.Core.List.{List, [], _∷_, _++_}
 use mathlib.Core.Logic.{_≢_, _↔_}
 use native.Mathlib.Omega.{arith}
 use lib.Dec.{eqb}
 use lib.ListN.{length, drop}
-use borrow.Author.Tests.{le-leb, eqb-true}
+use borrow.Author.Tests.{le-leb}
 use Rattle.chain.specs.Job.{Job, tasks, processors, Valid}
-use Rattle.chain.specs.Refusal.{lengthTest, processorsTest, tasksTest, firstRefusal, jobTests, callTests, refusal}
-use Rattle.chain.proofs.Refusals.{Numbered, numbered-nil, numbered-cons, numbered-append, first-refusal-append, FirstFailing, gives, job-accepted}
-use Rattle.fields.proofs.Laws.{Bytes}
+use Rattle.chain.specs.Refusal.{lengthTest, processorsTest, tasksTest, firstRefusal, FirstFailing, jobTests, callTests, refusal}
+use Rattle.chain.proofs.Refusals.{Numbered, numbered-nil, numbered-cons, numbered-append, first-refusal-append, gives, job-accepted}
+use Rattle.fields.specs.Field.{Bytes}
 use Rattle.refusals.specs.Inputs.{bytesNeeded, writeInputs}
-use Rattle.refusals.specs.Answers.{writtenNumber, writtenBytes, lentAfter}
+use Rattle.refusals.specs.Answers.{saidBy, writtenSaid, lentAfter}
 use Rattle.refusals.specs.declared.Written.{Written}
 use Rattle.refusals.proofs.Tests.{length-enough, write-bytes}
-use Rattle.refusals.proofs.Answering.{written-number, written-bytes}
+use Rattle.refusals.proofs.Answering.{said-choice, number-of, written-said}
 use Rattle.jobs.specs.JobFile.{jobBytes}
 use Rattle.jobs.specs.Parse.{recordCount, multipleTest, speedsOf, weightsOf, jobIn, fileTests, fileRefusal}
-use Rattle.jobs.specs.Answers.{readNumber, readProcessors, readTasks, answerOf, readTests, readRefusal, readAnswer, readSpeeds, readWeights, writeAnswer, writeBytes}
+use Rattle.jobs.specs.Answers.{readSaid, answerOf, readTests, readRefusal, readAnswer, readSpeeds, readWeights, writeAnswer, writeBytes}
 use Rattle.jobs.specs.declared.JobRead.{JobRead}
 use Rattle.refusals.proofs.Steps.{passes, passed-all}
 use Rattle.refusals.proofs.Lent.{lent-accepted}
@@ -40,44 +39,38 @@ unfolding readTests lengthTest
 read-numbered file lentSpeeds lentWeights =
     numbered-append (file-numbered file) (numbered-cons (omega arith) (numbered-cons (omega arith) numbered-nil))
 
--- The answers' numbers and values.
-pub read-number : (file : List ℕ) (lentSpeeds lentWeights : ℕ) → readNumber (readAnswer file lentSpeeds lentWeights) ≡ readRefusal file lentSpeeds lentWeights
-unfolding readNumber readAnswer answerOf
-read-number file lentSpeeds lentWeights = go (readRefusal file lentSpeeds lentWeights) (eqb (readRefusal file lentSpeeds lentWeights) 0) refl
-  where
-    go : (m : ℕ) (b : Bool) → eqb m 0 ≡ b → readNumber (cond b (JobRead.Read (length (speedsOf file)) (length (weightsOf file))) (JobRead.Refused m)) ≡ m
-    go m true e = sym (eqb-true m 0 e)
-    go m false e = refl
+-- What the answers say: P and N, or the refusal's number;
+pub read-said : (file : List ℕ) (lentSpeeds lentWeights : ℕ)
+    → readSaid (readAnswer file lentSpeeds lentWeights)
+    ≡ saidBy (readRefusal file lentSpeeds lentWeights) (length (speedsOf file) ∷ length (weightsOf file) ∷ [])
+unfolding readAnswer answerOf saidBy
+read-said file a b =
+    said-choice readSaid (eqb (readRefusal file a b) 0) (JobRead.Read (length (speedsOf file)) (length (weightsOf file)))
+    (JobRead.Refused (readRefusal file a b))
 
-pub read-processors : (file : List ℕ) (lentSpeeds lentWeights : ℕ) → readRefusal file lentSpeeds lentWeights ≡ 0
-    → readProcessors (readAnswer file lentSpeeds lentWeights) ≡ length (speedsOf file)
-unfolding readProcessors readAnswer
-read-processors file lentSpeeds lentWeights e = ap readProcessors (sym (answer-read file e refl refl))
+pub read-number : (file : List ℕ) (lentSpeeds lentWeights : ℕ)
+    → (readSaid (readAnswer file lentSpeeds lentWeights)) .number ≡ readRefusal file lentSpeeds lentWeights
+read-number file a b = number-of (length (speedsOf file) ∷ length (weightsOf file) ∷ []) (read-said file a b)
 
-pub read-tasks : (file : List ℕ) (lentSpeeds lentWeights : ℕ) → readRefusal file lentSpeeds lentWeights ≡ 0
-    → readTasks (readAnswer file lentSpeeds lentWeights) ≡ length (weightsOf file)
-unfolding readTasks readAnswer
-read-tasks file lentSpeeds lentWeights e = ap readTasks (sym (answer-read file e refl refl))
-
-pub write-number : (job : Job) (lent : ℕ) → writtenNumber (writeAnswer job lent) ≡ refusal job (writeInputs job lent)
+-- the count of bytes, or the refusal's number.
+pub write-said : (job : Job) (lent : ℕ) → writtenSaid (writeAnswer job lent) ≡ saidBy (refusal job (writeInputs job lent)) (bytesNeeded job ∷ [])
 unfolding writeAnswer
-write-number job lent = written-number (refusal job (writeInputs job lent)) (bytesNeeded job)
+write-said job lent = written-said (refusal job (writeInputs job lent)) (bytesNeeded job)
 
-pub write-count : (job : Job) (lent : ℕ) → refusal job (writeInputs job lent) ≡ 0 → writtenBytes (writeAnswer job lent) ≡ bytesNeeded job
-unfolding writeAnswer
-write-count job lent e = written-bytes (bytesNeeded job) e
+pub write-number : (job : Job) (lent : ℕ) → (writtenSaid (writeAnswer job lent)) .number ≡ refusal job (writeInputs job lent)
+write-number job lent = number-of (bytesNeeded job ∷ []) (write-said job lent)
 
 -- A number is given exactly when its test is the first to fail.
 pub job-gives : (job : Job) {n : ℕ} → n ≢ 0 → (firstRefusal (jobTests job) ≡ n) ↔ FirstFailing (jobTests job) n
 job-gives job h = gives (jobTests job) refl h
 
 pub read-gives : (file : List ℕ) (lentSpeeds lentWeights : ℕ) {n : ℕ} → n ≢ 0
-    → (readNumber (readAnswer file lentSpeeds lentWeights) ≡ n) ↔ FirstFailing (readTests file lentSpeeds lentWeights) n
+    → ((readSaid (readAnswer file lentSpeeds lentWeights)) .number ≡ n) ↔ FirstFailing (readTests file lentSpeeds lentWeights) n
 unfolding readRefusal
 read-gives file a b h = gives (readTests file a b) (read-number file a b) h
 
 pub write-gives : (job : Job) (lent : ℕ) {n : ℕ} → n ≢ 0
-    → (writtenNumber (writeAnswer job lent) ≡ n) ↔ FirstFailing (callTests job (writeInputs job lent)) n
+    → ((writtenSaid (writeAnswer job lent)) .number ≡ n) ↔ FirstFailing (callTests job (writeInputs job lent)) n
 unfolding refusal
 write-gives job lent h = gives (callTests job (writeInputs job lent)) (write-number job lent) h
 

@@ -8,9 +8,9 @@ use Rattle.chain.specs.Job.{Job}
 use Rattle.chain.specs.Refusal.{speedsTest, weightsTest, processorsTest, tasksTest, lengthTest, jobTests, callTests, refusal}
 use Rattle.chain.proofs.Refusals.{numbersIn, numbers-append, given-number}
 use Rattle.refusals.specs.Inputs.{writeInputs}
-use Rattle.refusals.specs.Answers.{writtenNumber}
+use Rattle.refusals.specs.Answers.{writtenSaid}
 use Rattle.jobs.specs.Parse.{recordCount, multipleTest, formTest, orderTest, speedTest, weightTest, recordTests, recordsTests, speedsOf, weightsOf, fileTests}
-use Rattle.jobs.specs.Answers.{readNumber, readTests, readRefusal, readAnswer, writeAnswer}
+use Rattle.jobs.specs.Answers.{readSaid, readTests, readRefusal, readAnswer, writeAnswer}
 use Rattle.jobs.proofs.Calls.{read-number, write-number}
 
 -- 2 to 9.
@@ -32,13 +32,13 @@ module _ (file : List ℕ) where
 
 -- Reading: 0, or one of 2 to 9.
 pub read-numbers : (file : List ℕ) (lentSpeeds lentWeights : ℕ)
-    → List·Memᴰ (readNumber (readAnswer file lentSpeeds lentWeights)) (0 ∷ 2 ∷ 3 ∷ 4 ∷ 5 ∷ 6 ∷ 7 ∷ 8 ∷ 9 ∷ [])
+    → List·Memᴰ ((readSaid (readAnswer file lentSpeeds lentWeights)) .number) (0 ∷ 2 ∷ 3 ∷ 4 ∷ 5 ∷ 6 ∷ 7 ∷ 8 ∷ 9 ∷ [])
 unfolding readRefusal readTests lengthTest
 read-numbers file a b =
     given-number fromTwo (readTests file a b) (read-number file a b)
     (numbers-append fromTwo (fileTests file) (lengthTest (length (weightsOf file)) b ∷ lengthTest (length (speedsOf file)) a ∷ []) (file-in file) tt)
 
 -- Writing: 0, or one of 5 to 9.
-pub write-numbers : (job : Job) (lent : ℕ) → List·Memᴰ (writtenNumber (writeAnswer job lent)) (0 ∷ 5 ∷ 6 ∷ 7 ∷ 8 ∷ 9 ∷ [])
+pub write-numbers : (job : Job) (lent : ℕ) → List·Memᴰ ((writtenSaid (writeAnswer job lent)) .number) (0 ∷ 5 ∷ 6 ∷ 7 ∷ 8 ∷ 9 ∷ [])
 unfolding refusal callTests jobTests speedsTest weightsTest processorsTest tasksTest lengthTest
 write-numbers job lent = given-number (5 ∷ 6 ∷ 7 ∷ 8 ∷ 9 ∷ []) (callTests job (writeInputs job lent)) (write-number job lent) tt

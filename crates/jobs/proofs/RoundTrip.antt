@@ -14,7 +14,7 @@ use Rattle.chain.specs.Limits.{maxWeight, maxSpeed, maxTasks, maxProcessors}
 use Rattle.chain.specs.Job.{Job, jobOf, speedOf, Valid}
 use Rattle.chain.specs.Refusal.{between, eachBetween, processorsTest, tasksTest, firstRefusal}
 use Rattle.chain.proofs.Refusals.{job-accepted}
-use Rattle.fields.proofs.Laws.{Bytes}
+use Rattle.fields.specs.Field.{Bytes}
 use Rattle.jobs.specs.JobFile.{processorKind, taskKind, recordBytes, recordsBytes, jobBytes, JobFile}
 use Rattle.jobs.specs.Parse.{recordCount, kindAt, valueAt, recordTests, recordsTests, valuesOf, speedsOf, weightsOf, jobIn, fileRefusal}
 use Rattle.refusals.proofs.Each.{between-in}

@@ -7,25 +7,16 @@ use lib.Dec.{eqb}
 use Rattle.chain.specs.Job.{Job}
 use Rattle.chain.specs.Refusal.{Test, lengthTest, firstRefusal, refusal}
 use Rattle.refusals.specs.Inputs.{bytesNeeded, writeInputs}
-use Rattle.refusals.specs.Answers.{writtenOf, lentAfter}
+use Rattle.refusals.specs.Answers.{Said, accepting, alone, writtenOf, lentAfter}
 use Rattle.refusals.specs.declared.Written.{Written}
 use Rattle.jobs.specs.JobFile.{jobBytes}
 use Rattle.jobs.specs.Parse.{speedsOf, weightsOf, fileTests}
 use Rattle.jobs.specs.declared.JobRead.{JobRead}
 
--- The scope's number of an answer, 0 where the call is accepted; and its values, 0 where it is refused. Scope 8.1: "A refusal gives
--- a number and nothing else".
-unfoldable pub readNumber : JobRead → ℕ
-readNumber (JobRead.Read processors tasks) = 0
-readNumber (JobRead.Refused number) = number
-
-unfoldable pub readProcessors : JobRead → ℕ
-readProcessors (JobRead.Read processors tasks) = processors
-readProcessors (JobRead.Refused number) = 0
-
-unfoldable pub readTasks : JobRead → ℕ
-readTasks (JobRead.Read processors tasks) = tasks
-readTasks (JobRead.Refused number) = 0
+-- Reading says P and N.
+abbrev pub readSaid : JobRead → Said
+readSaid (JobRead.Read processors tasks) = accepting (processors ∷ tasks ∷ [])
+readSaid (JobRead.Refused number) = alone number
 
 -- The answer of a call that reads the file, by the number that it is refused with: P and N, or that number.
 unfoldable pub answerOf : ℕ → List ℕ → JobRead

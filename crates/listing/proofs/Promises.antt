@@ -10,14 +10,14 @@ use lib.ListN.{length, take, drop, length-append}
 use lib.Seq.{take-take}
 use Rattle.chain.specs.declared.Method.{Method}
 use Rattle.chain.specs.Job.{processors, tasks}
-use Rattle.chain.specs.Refusal.{lengthTest, separatorsNeeded}
-use Rattle.chain.proofs.Refusals.{job-accepted, FirstFailing, gives, given-number}
+use Rattle.chain.specs.Refusal.{lengthTest, FirstFailing, separatorsNeeded}
+use Rattle.chain.proofs.Refusals.{job-accepted, gives, given-number}
 use Rattle.refusals.specs.Inputs.{scratchNeeded}
 use Rattle.refusals.specs.Methods.{numberOf}
 use Rattle.refusals.specs.declared.Chosen.{Chosen}
 use Rattle.refusals.specs.declared.Written.{Written}
-use Rattle.refusals.specs.Answers.{writtenNumber, writtenBytes, lentAfter}
-use Rattle.refusals.proofs.Answering.{written-number, written-bytes}
+use Rattle.refusals.specs.Answers.{saidBy, writtenSaid, lentAfter}
+use Rattle.refusals.proofs.Answering.{number-of, written-said, written-all}
 use Rattle.refusals.proofs.Lent.{lent-refused, lent-front}
 use Rattle.refusals.proofs.Methods.{known-passes, number-chosen}
 use Rattle.refusals.proofs.Tests.{length-enough, heuristic-list, plan-scratch, plan-known}
@@ -65,15 +65,18 @@ listing-taken file = ap (λ (l : List ℕ). listingOf (fileRefusal l) l) (take-t
 
 -- The call: 0 or 9; that of the first test that fails; a refusal leaves the buffer as it was.
 module _ (file out : List ℕ) where
-  pub list-number : writtenNumber (listAnswer file (length out)) ≡ listRefusal (length out)
+  pub list-said : writtenSaid (listAnswer file (length out)) ≡ saidBy (listRefusal (length out)) (length (listing file) ∷ [])
   unfolding listAnswer
-  list-number = written-number (listRefusal (length out)) (length (listing file))
+  list-said = written-said (listRefusal (length out)) (length (listing file))
 
-  pub list-numbers : List·Memᴰ (writtenNumber (listAnswer file (length out))) (0 ∷ 9 ∷ [])
+  pub list-number : (writtenSaid (listAnswer file (length out))) .number ≡ listRefusal (length out)
+  list-number = number-of (length (listing file) ∷ []) list-said
+
+  pub list-numbers : List·Memᴰ ((writtenSaid (listAnswer file (length out))) .number) (0 ∷ 9 ∷ [])
   unfolding listRefusal listTests lengthTest
   list-numbers = given-number (9 ∷ []) (listTests (length out)) list-number tt
 
-  pub list-gives : {n : ℕ} → n ≢ 0 → (writtenNumber (listAnswer file (length out)) ≡ n) ↔ FirstFailing (listTests (length out)) n
+  pub list-gives : {n : ℕ} → n ≢ 0 → ((writtenSaid (listAnswer file (length out))) .number ≡ n) ↔ FirstFailing (listTests (length out)) n
   unfolding listRefusal
   list-gives h = gives (listTests (length out)) list-number h
 
@@ -88,7 +91,7 @@ module _ (file out : List ℕ) where
     pub within : n ≤ length (listWrites file out)
 
   pub list-accepted : {n : ℕ} → listAnswer file (length out) ≡ Written.Bytes n → Listed n
-  unfolding listAnswer listWrites writtenNumber writtenBytes
+  unfolding listAnswer listWrites
   list-accepted {n} e =
       record {
         count = is-n;
@@ -97,10 +100,10 @@ module _ (file out : List ℕ) where
       }
     where
       none : listRefusal (length out) ≡ 0
-      none = sym list-number ∙ ap writtenNumber e
+      none = sym list-number ∙ ap (λ (r : Written). (writtenSaid r) .number) e
 
       is-n : n ≡ length (listing file)
-      is-n = sym (ap writtenBytes e) ∙ written-bytes (length (listing file)) none
+      is-n = cc (written-all (length (listing file)) none ∙ e)
 
       put : lentAfter (listRefusal (length out)) (listing file) out ≡ listing file ++ drop n out
       put = lent-front (listing file) out none (sym is-n)

@@ -8,16 +8,16 @@ use native.Mathlib.Omega.{arith}
 use lib.ListN.{length, drop, List·getD-append}
 use Rattle.chain.specs.Lists.{sumTo}
 use Rattle.chain.specs.Job.{Job, Valid, processors, totalWeight, Partition}
-use Rattle.chain.specs.Refusal.{speedsTest, weightsTest, processorsTest, tasksTest, lengthTest, partitionTest, jobTests, callTests, refusal}
+use Rattle.chain.specs.Refusal.{speedsTest, weightsTest, processorsTest, tasksTest, lengthTest, partitionTest, FirstFailing, jobTests, callTests, refusal}
 use Rattle.chain.proofs.Parts.{loads-add-up}
-use Rattle.chain.proofs.Refusals.{FirstFailing, gives, given-number}
+use Rattle.chain.proofs.Refusals.{gives, given-number}
 use Rattle.chain.proofs.Sums.{sum-same-below}
 use Rattle.fields.specs.Field.{fieldSize, fieldAt}
 use Rattle.fields.proofs.Laws.{field-same}
 use Rattle.refusals.specs.Inputs.{planNeeded, writePlanInputs}
-use Rattle.refusals.specs.Answers.{writtenNumber, lentAfter}
+use Rattle.refusals.specs.Answers.{saidBy, writtenSaid, lentAfter}
 use Rattle.refusals.proofs.Accepted.{accepted}
-use Rattle.refusals.proofs.Answering.{written-number}
+use Rattle.refusals.proofs.Answering.{number-of, written-said}
 use Rattle.refusals.proofs.Lent.{lent-front}
 use Rattle.planfile.specs.PlanFile.{planBytes}
 use Rattle.planfile.specs.Answers.{writePlanAnswer, writePlanBytes}
@@ -25,20 +25,23 @@ use Rattle.planfile.proofs.Records.{length-plan}
 use Rattle.planfile.proofs.Fields.{plan-reads}
 
 module _ (job : Job) (s : List ℕ) (lent : ℕ) where
-  -- The answer's number is the refusal's:
-  pub write-plan-number : writtenNumber (writePlanAnswer job s lent) ≡ refusal job (writePlanInputs job s lent)
+  -- The answer says the count of bytes, or the refusal's number:
+  pub write-plan-said : writtenSaid (writePlanAnswer job s lent) ≡ saidBy (refusal job (writePlanInputs job s lent)) (planNeeded job ∷ [])
   unfolding writePlanAnswer
-  write-plan-number = written-number (refusal job (writePlanInputs job s lent)) (planNeeded job)
+  write-plan-said = written-said (refusal job (writePlanInputs job s lent)) (planNeeded job)
+
+  pub write-plan-number : (writtenSaid (writePlanAnswer job s lent)) .number ≡ refusal job (writePlanInputs job s lent)
+  write-plan-number = number-of (planNeeded job ∷ []) write-plan-said
 
   -- 0, or one of 5 to 9 and 11;
-  pub write-plan-numbers : List·Memᴰ (writtenNumber (writePlanAnswer job s lent)) (0 ∷ 5 ∷ 6 ∷ 7 ∷ 8 ∷ 9 ∷ 11 ∷ [])
+  pub write-plan-numbers : List·Memᴰ ((writtenSaid (writePlanAnswer job s lent)) .number) (0 ∷ 5 ∷ 6 ∷ 7 ∷ 8 ∷ 9 ∷ 11 ∷ [])
   unfolding refusal callTests jobTests speedsTest weightsTest processorsTest tasksTest lengthTest partitionTest
   write-plan-numbers =
       given-number (5 ∷ 6 ∷ 7 ∷ 8 ∷ 9 ∷ 11 ∷ []) (callTests job (writePlanInputs job s lent)) write-plan-number tt
 
   -- that of the first test that fails.
   pub write-plan-gives : {n : ℕ} → n ≢ 0
-      → (writtenNumber (writePlanAnswer job s lent) ≡ n) ↔ FirstFailing (callTests job (writePlanInputs job s lent)) n
+      → ((writtenSaid (writePlanAnswer job s lent)) .number ≡ n) ↔ FirstFailing (callTests job (writePlanInputs job s lent)) n
   unfolding refusal
   write-plan-gives h = gives (callTests job (writePlanInputs job s lent)) write-plan-number h
 

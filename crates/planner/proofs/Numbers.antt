@@ -7,12 +7,12 @@ use mathlib.Core.Logic.{_≢_, _↔_}
 use native.Mathlib.Omega.{arith}
 use lib.ListN.{length, drop}
 use Rattle.chain.specs.Lists.{sumTo}
-use Rattle.chain.specs.Job.{Job, processors, totalWeight}
-use Rattle.chain.specs.Refusal.{methodTest, speedsTest, weightsTest, processorsTest, tasksTest, lengthTest, jobTests, callTests, refusal}
+use Rattle.chain.specs.Job.{Job, Valid, processors, totalWeight}
+use Rattle.chain.specs.Refusal.{methodTest, speedsTest, weightsTest, processorsTest, tasksTest, lengthTest, FirstFailing, jobTests, callTests, refusal}
 use Rattle.chain.specs.Plan.{planOf}
 use Rattle.chain.proofs.Demand.{plan-of-best}
 use Rattle.chain.proofs.Parts.{valid-plannable}
-use Rattle.chain.proofs.Refusals.{Numbered, numbered-nil, numbered-cons, numbered-append, FirstFailing, gives, given-number, numbers-append, numbers-more, append-accepted}
+use Rattle.chain.proofs.Refusals.{Numbered, numbered-nil, numbered-cons, numbered-append, gives, given-number, numbers-append, numbers-more, append-accepted}
 use Rattle.fields.specs.Field.{fieldAt}
 use Rattle.jobs.specs.Parse.{jobIn, fileTests, fileRefusal}
 use Rattle.jobs.proofs.Calls.{file-numbered}
@@ -23,18 +23,18 @@ use Rattle.planfile.proofs.Records.{length-plan}
 use Rattle.planfile.proofs.Promises.{lent-loads-add-up}
 use Rattle.refusals.specs.Inputs.{planNeeded, planInputs}
 use Rattle.refusals.proofs.Lent.{lent-refused, lent-front}
-use Rattle.planner.specs.Answers.{plannedNumber, planRefusal, planAnswer}
+use Rattle.planner.specs.Answers.{plannedSaid, planRefusal, planAnswer}
 use Rattle.planner.proofs.Promises.{plan-number}
 use Rattle.planner.specs.HostCall.{hostFileTests, hostTests, hostAnswer, bytesAfter, hostWrites}
 
 -- Planning: 0, or one of 1 and 5 to 9; that of the first test that fails.
 module _ (job : Job) (m : ℕ) (s t : List ℕ) where
-  pub plan-numbers : List·Memᴰ (plannedNumber (planAnswer job m s t)) (0 ∷ 1 ∷ 5 ∷ 6 ∷ 7 ∷ 8 ∷ 9 ∷ [])
+  pub plan-numbers : List·Memᴰ ((plannedSaid (planAnswer job m s t)) .number) (0 ∷ 1 ∷ 5 ∷ 6 ∷ 7 ∷ 8 ∷ 9 ∷ [])
   unfolding planRefusal refusal callTests jobTests methodTest speedsTest weightsTest processorsTest tasksTest lengthTest
   plan-numbers = given-number (1 ∷ 5 ∷ 6 ∷ 7 ∷ 8 ∷ 9 ∷ []) (callTests job (planInputs job m (length s) (length t))) (plan-number job m s t) tt
 
   pub plan-gives : {n : ℕ} → n ≢ 0
-      → (plannedNumber (planAnswer job m s t) ≡ n) ↔ FirstFailing (callTests job (planInputs job m (length s) (length t))) n
+      → ((plannedSaid (planAnswer job m s t)) .number ≡ n) ↔ FirstFailing (callTests job (planInputs job m (length s) (length t))) n
   unfolding planRefusal refusal
   plan-gives h = gives (callTests job (planInputs job m (length s) (length t))) (plan-number job m s t) h
 
@@ -66,12 +66,18 @@ pub host-keeps : (file plan : List ℕ) (m : ℕ) → hostAnswer file m (length 
 unfolding hostWrites bytesAfter
 host-keeps file plan m h = lent-refused h (planBytes (jobIn file) (planOf (jobIn file))) plan
 
+-- Where nothing refuses it, the file holds a valid job.
+pub host-valid : (file : List ℕ) (m lent : ℕ) → hostAnswer file m lent ≡ 0 → Valid (jobIn file)
+unfolding hostAnswer hostTests hostFileTests fileRefusal methodTest
+host-valid file m lent e =
+    let numbered : Numbered (methodTest m ∷ []) = numbered-cons (omega arith) numbered-nil in
+    let front = append-accepted (methodTest m ∷ fileTests file) (lengthTest (planNeeded (jobIn file)) lent ∷ []) (numbered-append numbered (file-numbered file)) e .0 in
+    accepted-valid file (append-accepted (methodTest m ∷ []) (fileTests file) numbered front .1)
+
 -- Scope 7.8: "The loads of a plan file add up to Wtot." As they are read from the buffer after the C call.
 pub host-loads-add-up : (file plan : List ℕ) (m : ℕ) → hostAnswer file m (length plan) ≡ 0
     → sumTo (λ p. fieldAt (hostWrites file m plan) (16 * p + 8)) (processors (jobIn file)) ≡ totalWeight (jobIn file)
-unfolding hostAnswer hostTests hostFileTests hostWrites bytesAfter fileRefusal methodTest
+unfolding hostWrites bytesAfter
 host-loads-add-up file plan m e =
-    let numbered : Numbered (methodTest m ∷ []) = numbered-cons (omega arith) numbered-nil in
-    let front = append-accepted (methodTest m ∷ fileTests file) (lengthTest (planNeeded (jobIn file)) (length plan) ∷ []) (numbered-append numbered (file-numbered file)) e .0 in
-    let v = accepted-valid file (append-accepted (methodTest m ∷ []) (fileTests file) numbered front .1) in
+    let v = host-valid file m (length plan) e in
     lent-loads-add-up plan v ((plan-of-best (valid-plannable v)) .partition) e

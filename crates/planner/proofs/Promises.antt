@@ -20,22 +20,20 @@ use Rattle.refusals.specs.Methods.{chosenOf}
 use Rattle.refusals.proofs.Accepted.{accepted}
 use Rattle.refusals.proofs.Methods.{unknown-fails}
 use Rattle.refusals.proofs.Tests.{plan-unknown}
+use Rattle.refusals.specs.Answers.{saidBy}
+use Rattle.refusals.proofs.Answering.{said-choice, said-nothing, number-of}
 use Rattle.refusals.proofs.Lent.{lent-refused, lent-front}
 use Rattle.parts.proofs.Front.{taken}
 use Rattle.planner.specs.declared.Figures.{Figures}
 use Rattle.planner.specs.declared.Planned.{Planned}
 use Rattle.planner.specs.declared.Planned.the-variants.{Accepted, Refused}
-use Rattle.planner.specs.Answers.{plannedNumber, planRefusal, planFigures, plannedOf, chosenAnswer, planAnswer, planWrites}
+use Rattle.planner.specs.Answers.{figureValues, plannedSaid, planRefusal, planFigures, plannedOf, chosenAnswer, chosenValues, planAnswer, planWrites}
 use Rattle.planner.proofs.Laws.{walk-is-plan, plan-length}
 
--- An answer by its number.
-planned-number : (n : ℕ) (f : Figures) → plannedNumber (plannedOf n f) ≡ n
-unfolding plannedOf
-planned-number n f = go (eqb n 0) refl
-  where
-    go : (b : Bool) → eqb n 0 ≡ b → plannedNumber (cond b (Accepted f) (Refused n)) ≡ n
-    go true e = sym (eqb→eq n 0 (subst T (sym e) tt))
-    go false e = refl
+-- What an answer says, by its number.
+planned-said : (n : ℕ) (f : Figures) → plannedSaid (plannedOf n f) ≡ saidBy n (figureValues f)
+unfolding plannedOf saidBy
+planned-said n f = said-choice plannedSaid (eqb n 0) (Accepted f) (Refused n)
 
 planned-figures : {n : ℕ} {f g : Figures} → plannedOf n g ≡ Accepted f → (n ≡ 0) × (f ≡ g)
 unfolding plannedOf
@@ -58,14 +56,18 @@ planWith job f =
     record { separators = planOf job; count = f .count; allowed = f .allowance; bound = f .bottleneck; excess = f .imbalance }
 
 module _ (job : Job) (m : ℕ) (s t : List ℕ) where
-  -- The answer's number is the refusal's.
-  pub plan-number : plannedNumber (planAnswer job m s t) ≡ planRefusal job m (length s) (length t)
+  -- The answer says the figures by the method, or the refusal's number.
+  pub plan-said : plannedSaid (planAnswer job m s t) ≡ saidBy (planRefusal job m (length s) (length t)) (chosenValues job (chosenOf m))
   unfolding planAnswer chosenAnswer
-  plan-number = go (chosenOf m)
+  plan-said = go (chosenOf m)
     where
-      go : (c : Chosen) → plannedNumber (chosenAnswer job c (planRefusal job m (length s) (length t))) ≡ planRefusal job m (length s) (length t)
-      go (Known method) = planned-number (planRefusal job m (length s) (length t)) (planFigures method job)
-      go Unknown = refl
+      go : (c : Chosen) → plannedSaid (chosenAnswer job c (planRefusal job m (length s) (length t)))
+          ≡ saidBy (planRefusal job m (length s) (length t)) (chosenValues job c)
+      go (Known method) = planned-said (planRefusal job m (length s) (length t)) (planFigures method job)
+      go Unknown = said-nothing (planRefusal job m (length s) (length t))
+
+  pub plan-number : (plannedSaid (planAnswer job m s t)) .number ≡ planRefusal job m (length s) (length t)
+  plan-number = number-of (chosenValues job (chosenOf m)) plan-said
 
   -- A refusal is given with a number, and only where a test fails;
   pub plan-refused : {n : ℕ} → planAnswer job m s t ≡ Refused n → (n ≡ planRefusal job m (length s) (length t)) × (n ≢ 0)
@@ -73,7 +75,7 @@ module _ (job : Job) (m : ℕ) (s t : List ℕ) where
   plan-refused {n} e = (is, λ z. go (chosenOf m) refl e (sym is ∙ z))
     where
       is : n ≡ planRefusal job m (length s) (length t)
-      is = sym (ap plannedNumber e) ∙ plan-number
+      is = sym (ap (λ (r : Planned). (plannedSaid r) .number) e) ∙ plan-number
 
       go : (c : Chosen) → chosenOf m ≡ c → chosenAnswer job c (planRefusal job m (length s) (length t)) ≡ Refused n
           → planRefusal job m (length s) (length t) ≡ 0 → ⊥

@@ -17,13 +17,14 @@ use Rattle.chain.specs.Refusal.{Test, methodTest, lengthTest, firstRefusal}
 use Rattle.chain.proofs.Refusals.{numbered-nil, numbered-cons, first-refusal-append, first-refusal-before, first-decide, others-decide}
 use Rattle.jobs.specs.Parse.{speedsOf, weightsOf, jobIn, fileTests, fileRefusal}
 use Rattle.refusals.specs.Answers.{lentAfter}
-use Rattle.jobs.specs.Answers.{readNumber, readProcessors, readTasks, answerOf, readTests, readRefusal, readAnswer, readSpeeds, readWeights}
+use Rattle.jobs.specs.Answers.{readSaid, answerOf, readTests, readRefusal, readAnswer, readSpeeds, readWeights}
 use Rattle.jobs.specs.declared.JobRead.{JobRead}
-use Rattle.jobs.proofs.Calls.{file-numbered, read-number, read-processors, read-tasks}
+use Rattle.jobs.proofs.Calls.{file-numbered, read-number}
 use Rattle.refusals.specs.declared.Chosen.the-variants.{Known, Unknown}
 use Rattle.refusals.specs.Methods.{chosenOf}
 use Rattle.refusals.proofs.Methods.{known-passes, unknown-fails}
 use Rattle.refusals.proofs.Lent.{lent-refused, lent-accepted, lent-kept}
+use Rattle.jobs.proofs.AllRecords.{answer-read}
 use Rattle.jobs.proofs.RoundTrip.{accepted-valid}
 use Rattle.planfile.specs.PlanFile.{planBytes}
 use Rattle.planfile.proofs.Records.{length-plan, plan-take}
@@ -107,7 +108,7 @@ module _ (file es ws : List ℕ) where
 
   pub read-taken : {es′ ws′ : List ℕ} {p n : ℕ} {r : JobRead} → r ≡ readAnswer file (length es) (length ws) → r ≡ JobRead.Read p n
       → es′ ≡ readSpeeds file es ws → ws′ ≡ readWeights file es ws → Taken file es′ ws′ p n
-  unfolding number readNumber readProcessors readTasks readSpeeds readWeights
+  unfolding number readAnswer readSpeeds readWeights
   read-taken {es′} {ws′} {p} {n} {r} a e f g =
       record {
         accepted = file-accepted none;
@@ -121,13 +122,16 @@ module _ (file es ws : List ℕ) where
       read = sym a ∙ e
 
       none : number ≡ 0
-      none = sym (read-number file (length es) (length ws)) ∙ ap readNumber read
+      none = sym (read-number file (length es) (length ws)) ∙ ap (λ (x : JobRead). (readSaid x) .number) read
+
+      counts : JobRead.Read p n ≡ JobRead.Read (length (speedsOf file)) (length (weightsOf file))
+      counts = sym (answer-read file none refl refl ∙ read)
 
       is-p : p ≡ length (speedsOf file)
-      is-p = sym (ap readProcessors read) ∙ read-processors file (length es) (length ws) none
+      is-p = cc counts
 
       is-n : n ≡ length (weightsOf file)
-      is-n = sym (ap readTasks read) ∙ read-tasks file (length es) (length ws) none
+      is-n = cc counts
 
       in-es : es′ ≡ speedsOf file ++ drop (length (speedsOf file)) es
       in-es = f ∙ ap (λ (k : ℕ). lentAfter k (speedsOf file) es) none ∙ lent-accepted (speedsOf file) es
@@ -138,11 +142,11 @@ module _ (file es ws : List ℕ) where
   -- With lists that are long enough for every job, a refusal of reading is the file's.
   pub read-rejected : {k : ℕ} {r : JobRead} → maxProcessors ≤ length es → maxTasks ≤ length ws → r ≡ readAnswer file (length es) (length ws)
       → r ≡ JobRead.Refused k → (k ≡ fileRefusal file) × (k ≡ 0 → ⊥)
-  unfolding number readNumber readAnswer answerOf
+  unfolding number readAnswer answerOf
   read-rejected {k} {r} x y a e = (go (fileRefusal file) refl, positive)
     where
       is-k : number ≡ k
-      is-k = sym (read-number file (length es) (length ws)) ∙ ap readNumber (sym a ∙ e)
+      is-k = sym (read-number file (length es) (length ws)) ∙ ap (λ (x : JobRead). (readSaid x) .number) (sym a ∙ e)
 
       positive : k ≡ 0 → ⊥
       positive z = let w : _≡_ {A = ℕ} 0 1 = cc (ap (λ (j : ℕ). answerOf j file) (is-k ∙ z)) in omega arith

@@ -2,7 +2,7 @@
 use Prim.Native.Nat.{ℕ}
 use mathlib.Core.Path.{_≡_}
 use mathlib.Core.Bool.{cond}
-use mathlib.Core.List.{List}
+use mathlib.Core.List.{List, [], _∷_, _++_}
 use mathlib.Core.Logic.{_≢_}
 use lib.Dec.{eqb}
 use lib.ListN.{length}
@@ -14,16 +14,19 @@ use Rattle.refusals.specs.declared.Chosen.{Chosen}
 use Rattle.refusals.specs.declared.Chosen.the-variants.{Known, Unknown}
 use Rattle.refusals.specs.Methods.{chosenOf}
 use Rattle.refusals.specs.Inputs.{scratchNeeded, planLists, planInputs}
-use Rattle.refusals.specs.Answers.{lentAfter}
+use Rattle.refusals.specs.Answers.{Said, accepting, alone, boundValues, lentAfter}
 use Rattle.parts.specs.Kept.{KeptFrom}
 use Rattle.planner.specs.declared.Figures.{Figures}
 use Rattle.planner.specs.declared.Planned.{Planned}
 use Rattle.planner.specs.declared.Planned.the-variants.{Accepted, Refused}
 
--- The scope's number of an answer.
-abbrev pub plannedNumber : Planned → ℕ
-plannedNumber (Accepted f) = 0
-plannedNumber (Refused n) = n
+-- Planning says the figures of the plan, its separators being left in the list: count, allowance, bottleneck, imbalance.
+abbrev pub figureValues : Figures → List ℕ
+figureValues f = f .count ∷ f .allowance ∷ (boundValues (f .bottleneck) ++ f .imbalance ∷ [])
+
+abbrev pub plannedSaid : Planned → Said
+plannedSaid (Accepted f) = accepting (figureValues f)
+plannedSaid (Refused number) = alone number
 
 -- The number that planning is refused with, 0 where it is accepted.
 unfoldable pub planRefusal : Job → ℕ → ℕ → ℕ → ℕ
@@ -54,6 +57,11 @@ methodWrites job s t = lentAfter (listsRefusal job (length s) (length t)) (planO
 unfoldable pub chosenAnswer : Job → Chosen → ℕ → Planned
 chosenAnswer job (Known method) number = plannedOf number (planFigures method job)
 chosenAnswer job Unknown number = Refused number
+
+-- What it says where nothing refuses it. (An unknown method is refused.)
+abbrev pub chosenValues : Job → Chosen → List ℕ
+chosenValues job (Known method) = figureValues (planFigures method job)
+chosenValues job Unknown = []
 
 -- The whole answer, by the number m of the method, and the separators then.
 unfoldable pub planAnswer : Job → ℕ → List ℕ → List ℕ → Planned

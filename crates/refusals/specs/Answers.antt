@@ -1,21 +1,38 @@
--- What a call that writes a file answers, and what any call leaves in a lent list, by the number that it is refused with. Scope,
--- section 8.
+-- What an answer says, what a call that writes a file answers, and what any call leaves in a lent list, by the number that it is
+-- refused with. Scope, section 8.
 use Prim.Native.Nat.{ℕ}
 use mathlib.Core.Bool.{cond}
-use mathlib.Core.List.{List, _++_}
+use mathlib.Core.List.{List, [], _∷_, _++_}
 use lib.ListN.{length, drop}
 use lib.Dec.{eqb}
+use Rattle.bound.specs.declared.Bound.{Bound}
 use Rattle.refusals.specs.declared.Written.{Written}
 
--- The scope's number of an answer, 0 where the call is accepted; and its value, 0 where it is refused. Scope 8.1: "A refusal gives
--- a number and nothing else".
-unfoldable pub writtenNumber : Written → ℕ
-writtenNumber (Written.Bytes count) = 0
-writtenNumber (Written.Refused number) = number
+-- What an answer says: the scope's number, 0 where the call is accepted, and the values.
+pub record Said : Type 0 where
+  pub number : ℕ
+  pub values : List ℕ
 
-unfoldable pub writtenBytes : Written → ℕ
-writtenBytes (Written.Bytes count) = count
-writtenBytes (Written.Refused number) = 0
+-- An accepted call says these values.
+abbrev pub accepting : List ℕ → Said
+accepting values = record { number = 0; values = values }
+
+-- A number alone. Scope 8.1: "A refusal gives a number and nothing else"
+abbrev pub alone : ℕ → Said
+alone number = record { number = number; values = [] }
+
+-- The same by the number of the refusal: these values, or that number.
+unfoldable pub saidBy : ℕ → List ℕ → Said
+saidBy number values = cond (eqb number 0) (accepting values) (alone number)
+
+-- A bound says its load and its speed. Scope 2.1: "A bound is a pair: a load over a speed."
+abbrev pub boundValues : Bound → List ℕ
+boundValues B = B .load ∷ B .speed ∷ []
+
+-- Writing a file says the count of its bytes.
+abbrev pub writtenSaid : Written → Said
+writtenSaid (Written.Bytes count) = accepting (count ∷ [])
+writtenSaid (Written.Refused number) = alone number
 
 -- The answer by the number of the refusal: the count of bytes, or that number.
 unfoldable pub writtenOf : ℕ → ℕ → Written

@@ -2,16 +2,17 @@
 // Each wrapper returns 0 or the refusal's number. What the function answers goes into the lent `answer`, one number an entry;
 // entries past its end are dropped, and a refusal leaves `answer` as it was.
 ghost use mathlib.Core.Path.{_≡_};
+ghost use mathlib.Core.List.{[], _∷_};
+ghost use lib.ListN.{set};
 ghost use Rattle.chain.specs.Job.{jobOf};
-ghost use Rattle.chain.specs.Refusal.{firstRefusal, jobTests};
-ghost use lib.ListN.{length, set};
-ghost use Rattle.refusals.specs.Answers.{writtenNumber};
-ghost use Rattle.jobs.specs.Answers.{readNumber, readAnswer, readSpeeds, readWeights, writeAnswer, writeBytes};
-ghost use Rattle.calls.specs.Answers.{measuredNumber, measureAnswer, heuristicAnswer, heuristicWrites};
-ghost use Rattle.calls.specs.Answers.{probedNumber, probeAnswer, probeWrites};
-ghost use Rattle.planfile.specs.Answers.{writePlanAnswer, writePlanBytes};
-ghost use Rattle.planner.specs.Answers.{plannedNumber, planRefusal, planAnswer, planWrites, ScratchAfter};
-ghost use Rattle.test_exports.specs.Answer.{boundPut, readPut, writtenPut, measuredPut, outcomePut, probedPut, plannedPut};
+ghost use Rattle.refusals.specs.Answers.{writtenSaid};
+ghost use Rattle.jobs.specs.Answers.{readSaid};
+ghost use Rattle.calls.specs.Answers.{measuredSaid, probedSaid, probeAnswer};
+ghost use Rattle.planner.specs.Answers.{plannedSaid};
+ghost use Rattle.demands.specs.Call.{TestJob, ReadJob, WriteJob, Measure, Probe, Heuristic, Plan, WritePlan};
+ghost use Rattle.demands.specs.Call.{said, Leaves};
+ghost use Rattle.demands.specs.Demands.{number};
+ghost use Rattle.test_exports.specs.Answer.{boundPut, saidPut, outcomePut, probedPut};
 use bound::Bound;
 use calls::Measured;
 use calls::Probed;
@@ -48,8 +49,8 @@ fn put_bound(answer: &mut [u64], i: usize, j: usize, bound: Bound)
 
 // Inner. What reading answers.
 fn put_read(answer: &mut [u64], read: JobRead) -> u32
-    ensures number { λ r. ⌜ r ≡ readNumber read ⌝ }
-    ensures answer { λ _. ⌜ now (answer .exit) ≡ readPut read (now (answer .entry)) ⌝ }
+    ensures number { λ r. ⌜ r ≡ (readSaid read) .number ⌝ }
+    ensures answer { λ _. ⌜ now (answer .exit) ≡ saidPut (readSaid read) (now (answer .entry)) ⌝ }
 {
     match read {
         JobRead::Refused(number) => number,
@@ -63,8 +64,8 @@ fn put_read(answer: &mut [u64], read: JobRead) -> u32
 
 // Inner. What writing a file answers.
 fn put_written(answer: &mut [u64], written: Written) -> u32
-    ensures number { λ r. ⌜ r ≡ writtenNumber written ⌝ }
-    ensures answer { λ _. ⌜ now (answer .exit) ≡ writtenPut written (now (answer .entry)) ⌝ }
+    ensures number { λ r. ⌜ r ≡ (writtenSaid written) .number ⌝ }
+    ensures answer { λ _. ⌜ now (answer .exit) ≡ saidPut (writtenSaid written) (now (answer .entry)) ⌝ }
 {
     match written {
         Written::Refused(number) => number,
@@ -92,7 +93,7 @@ fn put_outcome(answer: &mut [u64], outcome: Outcome)
 
 // Inner. What a probe answers.
 fn put_probed(answer: &mut [u64], probed: Probed) -> u32
-    ensures number { λ r. ⌜ r ≡ probedNumber probed ⌝ }
+    ensures number { λ r. ⌜ r ≡ (probedSaid probed) .number ⌝ }
     ensures answer { λ _. ⌜ now (answer .exit) ≡ probedPut probed (now (answer .entry)) ⌝ }
 {
     match probed {
@@ -106,8 +107,8 @@ fn put_probed(answer: &mut [u64], probed: Probed) -> u32
 
 // Inner. What planning answers.
 fn put_planned(answer: &mut [u64], planned: Planned) -> u32
-    ensures number { λ r. ⌜ r ≡ plannedNumber planned ⌝ }
-    ensures answer { λ _. ⌜ now (answer .exit) ≡ plannedPut planned (now (answer .entry)) ⌝ }
+    ensures number { λ r. ⌜ r ≡ (plannedSaid planned) .number ⌝ }
+    ensures answer { λ _. ⌜ now (answer .exit) ≡ saidPut (plannedSaid planned) (now (answer .entry)) ⌝ }
 {
     match planned {
         Planned::Refused(number) => number,
@@ -123,8 +124,8 @@ fn put_planned(answer: &mut [u64], planned: Planned) -> u32
 
 // Inner. What measuring and the heuristic answer.
 fn put_measured(answer: &mut [u64], measured: Measured) -> u32
-    ensures number { λ r. ⌜ r ≡ measuredNumber measured ⌝ }
-    ensures answer { λ _. ⌜ now (answer .exit) ≡ measuredPut measured (now (answer .entry)) ⌝ }
+    ensures number { λ r. ⌜ r ≡ (measuredSaid measured) .number ⌝ }
+    ensures answer { λ _. ⌜ now (answer .exit) ≡ saidPut (measuredSaid measured) (now (answer .entry)) ⌝ }
 {
     match measured {
         Measured::Refused(number) => number,
@@ -138,8 +139,8 @@ fn put_measured(answer: &mut [u64], measured: Measured) -> u32
 #[no_mangle]
 pub extern "C" fn exported_test_job(speeds: &[u32], weights: &[u32]) -> u32
     ensures { λ r.
-        let job = jobOf (now (speeds .entry)) (now (weights .entry)) in
-        ⌜ r ≡ firstRefusal (jobTests job) ⌝ }
+        let call = TestJob (now (speeds .entry)) (now (weights .entry)) in
+        ⌜ r ≡ number call ⌝ }
 {
     test_job(speeds, weights)
 }
@@ -153,13 +154,14 @@ pub extern "C" fn exported_read_job(
     answer: &mut [u64],
 ) -> u32
     ensures number { λ r.
-        let answered = readAnswer (now (file .entry)) (length (now (speeds .entry))) (length (now (weights .entry))) in
-        ⌜ r ≡ readNumber answered ⌝ }
-    ensures speeds { λ _. ⌜ now (speeds .exit) ≡ readSpeeds (now (file .entry)) (now (speeds .entry)) (now (weights .entry)) ⌝ }
-    ensures weights { λ _. ⌜ now (weights .exit) ≡ readWeights (now (file .entry)) (now (speeds .entry)) (now (weights .entry)) ⌝ }
+        let call = ReadJob (now (file .entry)) (now (speeds .entry)) (now (weights .entry)) in
+        ⌜ r ≡ number call ⌝ }
+    ensures left { λ _.
+        let call = ReadJob (now (file .entry)) (now (speeds .entry)) (now (weights .entry)) in
+        ⌜ Leaves call (now (speeds .exit) ∷ now (weights .exit) ∷ []) ⌝ }
     ensures answer { λ _.
-        let answered = readAnswer (now (file .entry)) (length (now (speeds .entry))) (length (now (weights .entry))) in
-        ⌜ now (answer .exit) ≡ readPut answered (now (answer .entry)) ⌝ }
+        let call = ReadJob (now (file .entry)) (now (speeds .entry)) (now (weights .entry)) in
+        ⌜ now (answer .exit) ≡ saidPut (said call) (now (answer .entry)) ⌝ }
 {
     let read = read_job(file, speeds, weights);
     put_read(answer, read)
@@ -174,14 +176,14 @@ pub extern "C" fn exported_write_job(
     answer: &mut [u64],
 ) -> u32
     ensures number { λ r.
-        let job = jobOf (now (speeds .entry)) (now (weights .entry)) in
-        ⌜ r ≡ writtenNumber (writeAnswer job (length (now (file .entry)))) ⌝ }
-    ensures bytes { λ _.
-        let job = jobOf (now (speeds .entry)) (now (weights .entry)) in
-        ⌜ now (file .exit) ≡ writeBytes job (now (file .entry)) ⌝ }
+        let call = WriteJob (now (speeds .entry)) (now (weights .entry)) (now (file .entry)) in
+        ⌜ r ≡ number call ⌝ }
+    ensures left { λ _.
+        let call = WriteJob (now (speeds .entry)) (now (weights .entry)) (now (file .entry)) in
+        ⌜ Leaves call (now (file .exit) ∷ []) ⌝ }
     ensures answer { λ _.
-        let job = jobOf (now (speeds .entry)) (now (weights .entry)) in
-        ⌜ now (answer .exit) ≡ writtenPut (writeAnswer job (length (now (file .entry)))) (now (answer .entry)) ⌝ }
+        let call = WriteJob (now (speeds .entry)) (now (weights .entry)) (now (file .entry)) in
+        ⌜ now (answer .exit) ≡ saidPut (said call) (now (answer .entry)) ⌝ }
 {
     let written = write_job(speeds, weights, file);
     put_written(answer, written)
@@ -196,11 +198,11 @@ pub extern "C" fn exported_measure(
     answer: &mut [u64],
 ) -> u32
     ensures number { λ r.
-        let job = jobOf (now (speeds .entry)) (now (weights .entry)) in
-        ⌜ r ≡ measuredNumber (measureAnswer job (now (separators .entry))) ⌝ }
+        let call = Measure (now (speeds .entry)) (now (weights .entry)) (now (separators .entry)) in
+        ⌜ r ≡ number call ⌝ }
     ensures answer { λ _.
-        let job = jobOf (now (speeds .entry)) (now (weights .entry)) in
-        ⌜ now (answer .exit) ≡ measuredPut (measureAnswer job (now (separators .entry))) (now (answer .entry)) ⌝ }
+        let call = Measure (now (speeds .entry)) (now (weights .entry)) (now (separators .entry)) in
+        ⌜ now (answer .exit) ≡ saidPut (said call) (now (answer .entry)) ⌝ }
 {
     let measured = measure(speeds, weights, separators);
     put_measured(answer, measured)
@@ -217,11 +219,11 @@ pub extern "C" fn exported_probe(
     answer: &mut [u64],
 ) -> u32
     ensures number { λ r.
-        let job = jobOf (now (speeds .entry)) (now (weights .entry)) in
-        ⌜ r ≡ probedNumber (probeAnswer job (record { load = load; speed = speed }) (now (separators .entry))) ⌝ }
-    ensures separators { λ _.
-        let job = jobOf (now (speeds .entry)) (now (weights .entry)) in
-        ⌜ now (separators .exit) ≡ probeWrites job (record { load = load; speed = speed }) (now (separators .entry)) ⌝ }
+        let call = Probe (now (speeds .entry)) (now (weights .entry)) (record { load = load; speed = speed }) (now (separators .entry)) in
+        ⌜ r ≡ number call ⌝ }
+    ensures left { λ _.
+        let call = Probe (now (speeds .entry)) (now (weights .entry)) (record { load = load; speed = speed }) (now (separators .entry)) in
+        ⌜ Leaves call (now (separators .exit) ∷ []) ⌝ }
     ensures answer { λ _.
         let job = jobOf (now (speeds .entry)) (now (weights .entry)) in
         let answered = probeAnswer job (record { load = load; speed = speed }) (now (separators .entry)) in
@@ -240,14 +242,14 @@ pub extern "C" fn exported_heuristic(
     answer: &mut [u64],
 ) -> u32
     ensures number { λ r.
-        let job = jobOf (now (speeds .entry)) (now (weights .entry)) in
-        ⌜ r ≡ measuredNumber (heuristicAnswer job (now (separators .entry))) ⌝ }
-    ensures separators { λ _.
-        let job = jobOf (now (speeds .entry)) (now (weights .entry)) in
-        ⌜ now (separators .exit) ≡ heuristicWrites job (now (separators .entry)) ⌝ }
+        let call = Heuristic (now (speeds .entry)) (now (weights .entry)) (now (separators .entry)) in
+        ⌜ r ≡ number call ⌝ }
+    ensures left { λ _.
+        let call = Heuristic (now (speeds .entry)) (now (weights .entry)) (now (separators .entry)) in
+        ⌜ Leaves call (now (separators .exit) ∷ []) ⌝ }
     ensures answer { λ _.
-        let job = jobOf (now (speeds .entry)) (now (weights .entry)) in
-        ⌜ now (answer .exit) ≡ measuredPut (heuristicAnswer job (now (separators .entry))) (now (answer .entry)) ⌝ }
+        let call = Heuristic (now (speeds .entry)) (now (weights .entry)) (now (separators .entry)) in
+        ⌜ now (answer .exit) ≡ saidPut (said call) (now (answer .entry)) ⌝ }
 {
     let measured = heuristic(speeds, weights, separators);
     put_measured(answer, measured)
@@ -264,19 +266,14 @@ pub extern "C" fn exported_plan(
     answer: &mut [u64],
 ) -> u32
     ensures number { λ r.
-        let job = jobOf (now (speeds .entry)) (now (weights .entry)) in
-        ⌜ r ≡ plannedNumber (planAnswer job method (now (separators .entry)) (now (scratch .entry))) ⌝ }
-    ensures separators { λ _.
-        let job = jobOf (now (speeds .entry)) (now (weights .entry)) in
-        ⌜ now (separators .exit) ≡ planWrites job method (now (separators .entry)) (now (scratch .entry)) ⌝ }
-    ensures scratch { λ _.
-        let job = jobOf (now (speeds .entry)) (now (weights .entry)) in
-        let number = planRefusal job method (length (now (separators .entry))) (length (now (scratch .entry))) in
-        ⌜ ScratchAfter number job (now (scratch .entry)) (now (scratch .exit)) ⌝ }
+        let call = Plan method (now (speeds .entry)) (now (weights .entry)) (now (separators .entry)) (now (scratch .entry)) in
+        ⌜ r ≡ number call ⌝ }
+    ensures left { λ _.
+        let call = Plan method (now (speeds .entry)) (now (weights .entry)) (now (separators .entry)) (now (scratch .entry)) in
+        ⌜ Leaves call (now (separators .exit) ∷ now (scratch .exit) ∷ []) ⌝ }
     ensures answer { λ _.
-        let job = jobOf (now (speeds .entry)) (now (weights .entry)) in
-        let answered = planAnswer job method (now (separators .entry)) (now (scratch .entry)) in
-        ⌜ now (answer .exit) ≡ plannedPut answered (now (answer .entry)) ⌝ }
+        let call = Plan method (now (speeds .entry)) (now (weights .entry)) (now (separators .entry)) (now (scratch .entry)) in
+        ⌜ now (answer .exit) ≡ saidPut (said call) (now (answer .entry)) ⌝ }
 {
     let planned = plan(method, speeds, weights, separators, scratch);
     put_planned(answer, planned)
@@ -292,15 +289,14 @@ pub extern "C" fn exported_write_plan(
     answer: &mut [u64],
 ) -> u32
     ensures number { λ r.
-        let job = jobOf (now (speeds .entry)) (now (weights .entry)) in
-        ⌜ r ≡ writtenNumber (writePlanAnswer job (now (separators .entry)) (length (now (plan .entry)))) ⌝ }
-    ensures bytes { λ _.
-        let job = jobOf (now (speeds .entry)) (now (weights .entry)) in
-        ⌜ now (plan .exit) ≡ writePlanBytes job (now (separators .entry)) (now (plan .entry)) ⌝ }
+        let call = WritePlan (now (speeds .entry)) (now (weights .entry)) (now (separators .entry)) (now (plan .entry)) in
+        ⌜ r ≡ number call ⌝ }
+    ensures left { λ _.
+        let call = WritePlan (now (speeds .entry)) (now (weights .entry)) (now (separators .entry)) (now (plan .entry)) in
+        ⌜ Leaves call (now (plan .exit) ∷ []) ⌝ }
     ensures answer { λ _.
-        let job = jobOf (now (speeds .entry)) (now (weights .entry)) in
-        let answered = writePlanAnswer job (now (separators .entry)) (length (now (plan .entry))) in
-        ⌜ now (answer .exit) ≡ writtenPut answered (now (answer .entry)) ⌝ }
+        let call = WritePlan (now (speeds .entry)) (now (weights .entry)) (now (separators .entry)) (now (plan .entry)) in
+        ⌜ now (answer .exit) ≡ saidPut (said call) (now (answer .entry)) ⌝ }
 {
     let written = write_plan(speeds, weights, separators, plan);
     put_written(answer, written)

@@ -2,8 +2,8 @@
 -- Assumes nothing.
 use mathlib.Core.Path.{ap, _∙_}
 use Rattle.calls.specs.declared.Measured.{Measured}
-use Rattle.calls.specs.Answers.{measuredNumber}
-use Rattle.test_exports.specs.Answer.{measuredPut}
+use Rattle.calls.specs.Answers.{measuredSaid}
+use Rattle.test_exports.specs.Answer.{saidPut}
 use borrow.Author.Needs.{needs}
 use Rattle.test_exports.proofs.exported_measure.Statement.{statement}
 use Rattle.test_exports.proofs.exported_measure.Tie as tie
@@ -22,7 +22,7 @@ returns c =
     let a = c .before .before .before .before .before .before .before .before .before .args in
     let r = c .before .before .before .before .measure .ensures in
     let p = c .before .before .put-measured .ensures in
-    (p .0 ∙ ap measuredNumber r, p .1 ∙ ap (λ (w : Measured). measuredPut w (a .answer .now)) r)
+    (p .0 ∙ ap (λ (w : Measured). (measuredSaid w) .number) r, p .1 ∙ ap (λ (w : Measured). saidPut (measuredSaid w) (a .answer .now)) r)
 
 pub exported-measure-spec : {M : Type 1} → statement M
 exported-measure-spec =

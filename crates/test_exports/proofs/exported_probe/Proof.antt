@@ -1,8 +1,10 @@
 -- `exported_probe` meets its contract: number, lists and figures are those of `probe`.
 -- Assumes nothing.
+use Prim.Native.Nat.{ℕ}
 use mathlib.Core.Path.{ap, _∙_}
+use mathlib.Core.List.{List, [], _∷_}
 use Rattle.calls.specs.declared.Probed.{Probed}
-use Rattle.calls.specs.Answers.{probedNumber}
+use Rattle.calls.specs.Answers.{probedSaid}
 use Rattle.test_exports.specs.Answer.{probedPut}
 use borrow.Author.Needs.{needs}
 use Rattle.test_exports.proofs.exported_probe.Statement.{statement}
@@ -25,7 +27,7 @@ returns c =
     let a = c .before .before .before .before .before .before .before .before .before .before .before .before .args in
     let r = c .before .before .before .before .before .before .probe .ensures in
     let p = c .before .before .put-probed .ensures in
-    (p .0 ∙ ap probedNumber (r .0), (r .1, p .1 ∙ ap (λ (w : Probed). probedPut w (a .answer .now)) (r .0)))
+    (p .0 ∙ ap (λ (w : Probed). (probedSaid w) .number) (r .0), (ap (λ (l : List ℕ). l ∷ []) (r .1), p .1 ∙ ap (λ (w : Probed). probedPut w (a .answer .now)) (r .0)))
 
 pub exported-probe-spec : {M : Type 1} → statement M
 exported-probe-spec =

@@ -1,9 +1,11 @@
 -- `exported_read_job` meets its contract: number, lists and figures are those of `read_job`.
 -- Assumes nothing.
-use mathlib.Core.Path.{ap, _∙_}
+use Prim.Native.Nat.{ℕ}
+use mathlib.Core.Path.{ap, ap₂, _∙_}
+use mathlib.Core.List.{List, [], _∷_}
 use Rattle.jobs.specs.declared.JobRead.{JobRead}
-use Rattle.jobs.specs.Answers.{readNumber}
-use Rattle.test_exports.specs.Answer.{readPut}
+use Rattle.jobs.specs.Answers.{readSaid}
+use Rattle.test_exports.specs.Answer.{saidPut}
 use borrow.Author.Needs.{needs}
 use Rattle.test_exports.proofs.exported_read_job.Statement.{statement}
 use Rattle.test_exports.proofs.exported_read_job.Tie as tie
@@ -28,7 +30,7 @@ returns c =
     let a = c .before .before .before .before .before .before .before .before .before .before .before .before .before .before .before .args in
     let r = c .before .before .before .before .before .before .before .before .read-job .ensures in
     let p = c .before .before .put-read .ensures in
-    (p .0 ∙ ap readNumber (r .0), (r .1 .0, (r .1 .1, p .1 ∙ ap (λ (w : JobRead). readPut w (a .answer .now)) (r .0))))
+    (p .0 ∙ ap (λ (w : JobRead). (readSaid w) .number) (r .0), (ap₂ (λ (l k : List ℕ). l ∷ k ∷ []) (r .1 .0) (r .1 .1), p .1 ∙ ap (λ (w : JobRead). saidPut (readSaid w) (a .answer .now)) (r .0)))
 
 pub exported-read-job-spec : {M : Type 1} → statement M
 exported-read-job-spec =

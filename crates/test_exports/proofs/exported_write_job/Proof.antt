@@ -1,9 +1,11 @@
 -- `exported_write_job` meets its contract: number, lists and figures are those of `write_job`.
 -- Assumes nothing.
+use Prim.Native.Nat.{ℕ}
 use mathlib.Core.Path.{ap, _∙_}
+use mathlib.Core.List.{List, [], _∷_}
 use Rattle.refusals.specs.declared.Written.{Written}
-use Rattle.refusals.specs.Answers.{writtenNumber}
-use Rattle.test_exports.specs.Answer.{writtenPut}
+use Rattle.refusals.specs.Answers.{writtenSaid}
+use Rattle.test_exports.specs.Answer.{saidPut}
 use borrow.Author.Needs.{needs}
 use Rattle.test_exports.proofs.exported_write_job.Statement.{statement}
 use Rattle.test_exports.proofs.exported_write_job.Tie as tie
@@ -25,7 +27,7 @@ returns c =
     let a = c .before .before .before .before .before .before .before .before .before .before .before .before .args in
     let r = c .before .before .before .before .before .before .write-job .ensures in
     let p = c .before .before .put-written .ensures in
-    (p .0 ∙ ap writtenNumber (r .0), (r .1, p .1 ∙ ap (λ (w : Written). writtenPut w (a .answer .now)) (r .0)))
+    (p .0 ∙ ap (λ (w : Written). (writtenSaid w) .number) (r .0), (ap (λ (l : List ℕ). l ∷ []) (r .1), p .1 ∙ ap (λ (w : Written). saidPut (writtenSaid w) (a .answer .now)) (r .0)))
 
 pub exported-write-job-spec : {M : Type 1} → statement M
 exported-write-job-spec =

@@ -2,8 +2,8 @@
 -- Assumes nothing.
 use mathlib.Core.Path.{sym, ap, _∙_}
 use Rattle.calls.specs.declared.Measured.{Measured}
-use Rattle.calls.specs.Answers.{measuredNumber}
-use Rattle.test_exports.specs.Answer.{measuredPut}
+use Rattle.calls.specs.Answers.{measuredSaid}
+use Rattle.test_exports.specs.Answer.{saidPut}
 use borrow.Author.Needs.{needs}
 use Rattle.test_exports.proofs.put_measured.Statement.{statement}
 use Rattle.test_exports.proofs.put_measured.Tie as tie
@@ -27,7 +27,7 @@ returns-2 : tie.Need-returns-2
 returns-2 c =
     let a = c .before .before .before .before .before .before .before .before .args in
     let g = c .before .before .before .before .before .measured2 .given .1 in
-    (sym (ap measuredNumber g), c .before .before .put-bound .ensures ∙ sym (ap (λ (w : Measured). measuredPut w (a .answer .now)) g))
+    (sym (ap (λ (w : Measured). (measuredSaid w) .number) g), c .before .before .put-bound .ensures ∙ sym (ap (λ (w : Measured). saidPut (measuredSaid w) (a .answer .now)) g))
 
 pub put-measured-spec : {M : Type 1} → statement M
 put-measured-spec =

@@ -5,8 +5,8 @@ use mathlib.Core.Path.{sym, ap, ap₂, _∙_}
 use mathlib.Core.List.{List}
 use lib.ListN.{set}
 use Rattle.planner.specs.declared.Planned.{Planned}
-use Rattle.planner.specs.Answers.{plannedNumber}
-use Rattle.test_exports.specs.Answer.{boundPut, plannedPut}
+use Rattle.planner.specs.Answers.{plannedSaid}
+use Rattle.test_exports.specs.Answer.{boundPut, saidPut}
 use borrow.Author.Needs.{needs}
 use Rattle.test_exports.proofs.put_planned.Statement.{statement}
 use Rattle.test_exports.proofs.put_planned.Tie as tie
@@ -49,8 +49,8 @@ returns-2 c =
     let first = c .before .before .before .before .before .before .before .before .before .before .before .before .before .before .before .put .ensures ∙ ap (set (a .answer .now) 0) (c .before .before .before .before .before .before .before .before .before .before .before .before .before .before .before .before .wide .ensures) in
     let second = c .before .before .before .before .before .before .before .before .before .before .put2 .ensures ∙ ap₂ (λ (xs : List ℕ) (n : ℕ). set xs 1 n) first (c .before .before .before .before .before .before .before .before .before .before .before .wide2 .ensures) in
     let third = c .before .before .before .before .before .before .put-bound .ensures ∙ ap (λ (xs : List ℕ). boundPut xs 2 3 (f .bottleneck)) second in (
-      sym (ap plannedNumber (k .1)),
-      c .before .before .put3 .ensures ∙ ap (λ (xs : List ℕ). set xs 4 (f .imbalance)) third ∙ sym (ap (λ (w : Planned). plannedPut w (a .answer .now)) (k .1)),
+      sym (ap (λ (w : Planned). (plannedSaid w) .number) (k .1)),
+      c .before .before .put3 .ensures ∙ ap (λ (xs : List ℕ). set xs 4 (f .imbalance)) third ∙ sym (ap (λ (w : Planned). saidPut (plannedSaid w) (a .answer .now)) (k .1)),
     )
 
 pub put-planned-spec : {M : Type 1} → statement M

@@ -2,7 +2,7 @@
 -- Assumes nothing.
 use mathlib.Core.Path.{sym, ap, _∙_}
 use Rattle.calls.specs.declared.Probed.{Probed}
-use Rattle.calls.specs.Answers.{probedNumber}
+use Rattle.calls.specs.Answers.{probedSaid}
 use Rattle.test_exports.specs.Answer.{probedPut}
 use borrow.Author.Needs.{needs}
 use Rattle.test_exports.proofs.put_probed.Statement.{statement}
@@ -27,7 +27,7 @@ returns-2 : tie.Need-returns-2
 returns-2 c =
     let a = (c .before .before .before .before .before .before .before .before .args) in
     let k = (c .before .before .before .before .before .probed2) .given in
-    (sym (ap probedNumber (k .1)), (c .before .before .put-outcome) .ensures ∙ sym (ap (λ (w : Probed). probedPut w (a .answer .now)) (k .1)))
+    (sym (ap (λ (w : Probed). (probedSaid w) .number) (k .1)), (c .before .before .put-outcome) .ensures ∙ sym (ap (λ (w : Probed). probedPut w (a .answer .now)) (k .1)))
 
 pub put-probed-spec : {M : Type 1} → statement M
 put-probed-spec =

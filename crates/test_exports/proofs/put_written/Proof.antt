@@ -2,8 +2,8 @@
 -- Assumes nothing.
 use mathlib.Core.Path.{sym, ap, _∙_}
 use Rattle.refusals.specs.declared.Written.{Written}
-use Rattle.refusals.specs.Answers.{writtenNumber}
-use Rattle.test_exports.specs.Answer.{writtenPut}
+use Rattle.refusals.specs.Answers.{writtenSaid}
+use Rattle.test_exports.specs.Answer.{saidPut}
 use borrow.Author.Needs.{needs}
 use Rattle.test_exports.proofs.put_written.Statement.{statement}
 use Rattle.test_exports.proofs.put_written.Tie as tie
@@ -18,21 +18,19 @@ put-requires : tie.Need-put-requires
 put-requires c κs = search needs
 
 returns : tie.Need-returns
-unfolding writtenNumber
 returns c =
     let a = c .before .before .before .before .args in
     let g = c .before .written .given .1 in
-    (sym (ap writtenNumber g), sym (ap (λ (w : Written). writtenPut w (a .answer .now)) g))
+    (sym (ap (λ (w : Written). (writtenSaid w) .number) g), sym (ap (λ (w : Written). saidPut (writtenSaid w) (a .answer .now)) g))
 
 same-length : tie.Need-same-length
 same-length c = search needs
 
 returns-2 : tie.Need-returns-2
-unfolding writtenNumber
 returns-2 c =
     let a = c .before .before .before .before .before .before .before .before .args in
     let g = c .before .before .before .before .before .written2 .given .1 in
-    (sym (ap writtenNumber g), c .before .before .put .ensures ∙ sym (ap (λ (w : Written). writtenPut w (a .answer .now)) g))
+    (sym (ap (λ (w : Written). (writtenSaid w) .number) g), c .before .before .put .ensures ∙ sym (ap (λ (w : Written). saidPut (writtenSaid w) (a .answer .now)) g))
 
 pub put-written-spec : {M : Type 1} → statement M
 put-written-spec =

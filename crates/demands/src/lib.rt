@@ -1,0 +1,1 @@
+// The three demands: their statements in specs/, their proofs in proofs/. There is no code.
