@@ -53,11 +53,12 @@ bidden-next {job} {bound} {count} new v b t e =
       lendable = subst Lendable (sym e) (small-lendable (next-bid-small v bound));
     })
 
-pub bidden-end : {job : Job} {bound : Bound} {count : ℕ} → Bidden job bound count → T (fits job bound) → BiddingEnds job (count + 1) bound
-bidden-end {job} {bound} {count} b t =
+pub bidden-end : {job : Job} {bound : Bound} {count trials : ℕ} → Bidden job bound count → T (fits job bound) → trials ≡ suc count
+    → BiddingEnds job trials bound
+bidden-end {job} {bound} {count} b t e =
     record {
       failures = count;
       first-fit = first-of (λ k. fits job (bidding job k)) count (subst (λ (B : Bound). T (fits job B)) (b .is) t) (b .failed);
-      counted = add-one count;
+      counted = e;
       yields = b .is;
     }

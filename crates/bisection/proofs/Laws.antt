@@ -121,9 +121,9 @@ module _ {job : Job} (v : Valid job) {low high : Bound} {k : ℕ} (w : Halved jo
       step = n ∙ ap₂ (λ (a b : Bound). nextEnds job (record { low = a; high = b })) (w .low-is) (w .high-is)
 
   -- Where the ends meet, bisection ends with the low one.
-  pub halved-end : le high low ≡ true → BisectionEnds job (k + 1) low
-  halved-end e =
-      after k (w .failed) (first-of (λ j. meet (ends job j)) k (subst T (sym (meets ∙ e)) tt) (w .apart)) (add-one k) (w .low-is)
+  pub halved-end : {trials : ℕ} → le high low ≡ true → trials ≡ suc k → BisectionEnds job trials low
+  halved-end e t =
+      after k (w .failed) (first-of (λ j. meet (ends job j)) k (subst T (sym (meets ∙ e)) tt) (w .apart)) t (w .low-is)
 
 -- The count of rounds, and one more, fits 32 bits.
 pub rounds-fit : {job : Job} {low high : Bound} (k : ℕ) → Valid job → Halved job low high k → k + 1 < 2 ^ 32

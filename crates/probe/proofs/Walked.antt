@@ -126,25 +126,26 @@ module _ {job : Job} (v : Valid job) {B : Bound} {xs ys : List ℕ} {p a : ℕ} 
         ∙ ap (λ (m : List ℕ). m ++ drop (suc (processors job)) xs)
         (ap (tabulate (at (walk job B))) (sym (walk-count v B)) ∙ tabulate-at (walk job B))
 
-    -- The last part decides,
-    rest-is : {C : Bound} → C ≡ offer job p a (tasks job) → C ≡ offer job (last job) (separator job B (last job)) (tasks job)
-    rest-is e =
-        e ∙ ap (λ (i : ℕ). offer job p i (tasks job)) (w .reached)
-        ∙ ap (λ (q : ℕ). offer job q (separator job B q) (tasks job)) at-last
+    -- The last part, from where the walk stands, decides,
+    module _ {start : ℕ} (x : start ≡ a) {C : Bound} (e : C ≡ offer job p start (tasks job)) where
+      rest-is : C ≡ offer job (last job) (separator job B (last job)) (tasks job)
+      rest-is =
+          e ∙ ap (λ (i : ℕ). offer job p i (tasks job)) (x ∙ w .reached)
+          ∙ ap (λ (q : ℕ). offer job q (separator job B q) (tasks job)) at-last
 
-    fits-is : {C : Bound} → C ≡ offer job p a (tasks job) → le C B ≡ fits job B
-    unfolding fits
-    fits-is e =
-        ap (λ (D : Bound). le D B) (rest-is e ∙ offer-part job (last job) (separator job B (last job)) (tasks job))
-        ∙ sym (within-is job (last job) (separator job B (last job)) (tasks job) B)
+      fits-is : le C B ≡ fits job B
+      unfolding fits
+      fits-is =
+          ap (λ (D : Bound). le D B) (rest-is ∙ offer-part job (last job) (separator job B (last job)) (tasks job))
+          ∙ sym (within-is job (last job) (separator job B (last job)) (tasks job) B)
 
-    pub answer-fits : {C : Bound} → C ≡ offer job p a (tasks job) → le C B ≡ true → Fits ≡ probe job B
-    answer-fits e t = sym (outcome-fits job B (sym (fits-is e) ∙ t))
+      pub answer-fits : le C B ≡ true → Fits ≡ probe job B
+      answer-fits t = sym (outcome-fits job B (sym fits-is ∙ t))
 
-    -- and is the last bid.
-    pub answer-fails : {C D : Bound} → C ≡ offer job p a (tasks job) → le C B ≡ false → D ≡ lesser best C → Fails D ≡ probe job B
-    answer-fails {C} {D} e t f =
-        ap Fails
-        (f ∙ ap (λ (E : Bound). lesser E C) (w .least ∙ ap (leastBefore job B) at-last) ∙ ap (lesser (leastBefore job B (last job))) (rest-is e)
-        ∙ least-end v B)
-        ∙ sym (outcome-fails job B (sym (fits-is e) ∙ t))
+      -- and is the last bid.
+      pub answer-fails : {D : Bound} → le C B ≡ false → D ≡ lesser best C → Fails D ≡ probe job B
+      answer-fails {D} t f =
+          ap Fails
+          (f ∙ ap (λ (E : Bound). lesser E C) (w .least ∙ ap (leastBefore job B) at-last) ∙ ap (lesser (leastBefore job B (last job))) rest-is
+          ∙ least-end v B)
+          ∙ sym (outcome-fails job B (sym fits-is ∙ t))

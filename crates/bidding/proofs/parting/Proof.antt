@@ -54,7 +54,8 @@ lesser-requires : tie.Need-lesser-requires Inv-loop μ-loop
 lesser-requires c κs =
     let s = c .before .before .before .before .before .before .before .before .before .before .before in
     let n = c .before .before .before .before .before .before .loop .inv (s .pre .1) .small in
-    narrow-products n (c .before .before .bid-of .ensures .1)
+    let b = c .before .before .bid-of .ensures .1 in
+    search (narrow-products, n, b)
 
 add-p : tie.Need-add-p Inv-loop μ-loop
 add-p c = omega arith

@@ -11,7 +11,7 @@ use Rattle.chain.specs.Heuristic.{heuristic}
 use Rattle.chain.specs.Plan.{difference}
 use Rattle.chain.proofs.Parts.{valid-proper}
 use Rattle.chain.proofs.Heuristic.{heuristic-partition}
-use Rattle.chain.proofs.Ranges.{small-lendable, probe-products}
+use Rattle.chain.proofs.Ranges.{small-lendable, small-products}
 use Rattle.parts.specs.Kept.{KeptFrom}
 use Rattle.parts.proofs.Front.{kept-start, kept-trans, kept-written, front-partition, front-bottleneck}
 use Rattle.bisection.proofs.Laws.{Halved, halved-start, halved-room, halved-next, halved-end, rounds-fit}
@@ -59,7 +59,7 @@ loop-holds c =
     )
 
 at-most-requires : tie.Need-at-most-requires Inv-loop μ-loop
-at-most-requires c κs = probe-products (c .loop .inv .0 .high-small) (small-lendable (c .loop .inv .0 .low-small))
+at-most-requires c κs = search (small-products, c .loop .inv .0 .high-small, c .loop .inv .0 .low-small)
 
 next-ends-requires : tie.Need-next-ends-requires Inv-loop μ-loop
 next-ends-requires c κs =
@@ -68,7 +68,7 @@ next-ends-requires c κs =
     (s .pre .0, (l .inv .2, (l .inv .0 .low-small, l .inv .0 .high-small)))
 
 add-rounds : tie.Need-add-rounds Inv-loop μ-loop
-add-rounds c = record { fits = rounds-fit (c .before .before .before .before .before .before .before .before .loop .rounds) (c .before .before .before .before .before .before .before .before .before .before .before .before .before .before .before .before .before .before .before .pre .0 .valid) (c .before .before .before .before .before .before .before .before .loop .inv .0) }
+add-rounds c = omega (arith, rounds-fit (c .before .before .before .before .before .before .before .before .loop .rounds) (c .before .before .before .before .before .before .before .before .before .before .before .before .before .before .before .before .before .before .before .pre .0 .valid) (c .before .before .before .before .before .before .before .before .loop .inv .0))
 
 loop-less : tie.Need-loop-less Inv-loop μ-loop
 loop-less c = omega (arith, halved-room (c .before .before .before .before .before .before .before .before .before .before .before .before .before .before .before .before .before .before .before .pre .0 .valid) (c .before .before .before .before .before .before .before .before .loop .inv .0) (sym (c .before .before .before .before .before .before .before .at-most .ensures) ∙ c .before .before .before .before .before .before .if1 .left))
@@ -82,7 +82,7 @@ loop-again c =
     )
 
 add-t20 : tie.Need-add-t20 Inv-loop μ-loop
-add-t20 c = record { fits = rounds-fit (c .before .before .loop .rounds) (c .before .before .before .before .before .before .before .before .before .before .before .before .before .pre .0 .valid) (c .before .before .loop .inv .0) }
+add-t20 c = omega (arith, rounds-fit (c .before .before .loop .rounds) (c .before .before .before .before .before .before .before .before .before .before .before .before .before .pre .0 .valid) (c .before .before .loop .inv .0))
 
 same-length : tie.Need-same-length Inv-loop μ-loop
 same-length c =
@@ -98,7 +98,7 @@ returns c =
     let s = c .before .before .before .before .before .before .before .before .before .before .before .before .before in
     let job : Job = job-at s in
     let l = c .before .before .loop in (
-      halved-end (s .pre .0 .valid) (l .inv .0) (sym (c .before .at-most .ensures) ∙ c .if1 .taken),
+      halved-end (s .pre .0 .valid) (l .inv .0) (sym (c .before .at-most .ensures) ∙ c .if1 .taken) (omega arith),
       (
         small-lendable (l .inv .0 .low-small),
         kept-trans

@@ -69,8 +69,9 @@ lesser-requires : tie.Need-lesser-requires
 lesser-requires c κs =
     let s = start c in
     let v = s .pre .0 .ready .valid in
-    small-products (small-same (here-is (c .before .before)) (table-small v (s .args .p) (s .args .at)))
-    (small-same (part-is c) (offer-small v (suc (s .args .p)) (s .args .at - 1) (s .args .i)))
+    let h = small-same (here-is (c .before .before)) (table-small v (s .args .p) (s .args .at)) in
+    let p = small-same (part-is c) (offer-small v (suc (s .args .p)) (s .args .at - 1) (s .args .i)) in
+    search (small-products, h, p)
 
 returns-2 : tie.Need-returns-2
 returns-2 c =

@@ -22,7 +22,7 @@ part-bound-requires : tie.Need-part-bound-requires
 part-bound-requires c κs =
     let s = c .before .before .before .before .before in
     let m = c .before .one-more .ensures in
-    (prefix-to (s .pre .0) (m .to), omega (arith, m .from, s .pre .1 .1))
+    (prefix-to (s .pre .0) (omega (arith, m .to)), omega (arith, m .from, s .pre .1 .1))
 
 returns : tie.Need-returns
 returns c =

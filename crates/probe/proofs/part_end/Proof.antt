@@ -21,7 +21,7 @@ most-load-requires c κs =
 part-load-requires : tie.Need-part-load-requires
 part-load-requires c κs =
     let s = c .before .before .before .before .before in
-    (prefix-to (s .pre .0) (omega arith), s .pre .1 .1 .1)
+    (prefix-to (s .pre .0) (omega arith), omega arith)
 
 wide-requires : tie.Need-wide-requires
 wide-requires c κs = search needs

@@ -114,7 +114,7 @@ returns : tie.Need-returns Inv-loop μ-loop
 returns c =
     let s = c .before .before .before .before .before .before .before .before .before .before .before .before in
     let w = c .before .before .before .before .before .before .loop .inv in (
-      answer-fits (s .pre .0 .valid) (s .pre .1 .1 .0) w (omega arith) (c .before .before .rest-of .ensures .0) (sym (c .before .at-most .ensures) ∙ c .if1 .taken),
+      answer-fits (s .pre .0 .valid) (s .pre .1 .1 .0) w (omega arith) (omega arith) (c .before .before .rest-of .ensures .0) (sym (c .before .at-most .ensures) ∙ c .if1 .taken),
       walked-end (s .pre .0 .valid) (s .pre .1 .1 .0) w (omega arith) (c .before .before .before .before .narrow2 .ensures) (c .before .before .before .narrow3 .ensures),
     )
 
@@ -130,7 +130,7 @@ returns-2 : tie.Need-returns-2 Inv-loop μ-loop
 returns-2 c =
     let s = c .before .before .before .before .before .before .before .before .before .before .before .before .before in
     let w = c .before .before .before .before .before .before .before .loop .inv in (
-      answer-fails (s .pre .0 .valid) (s .pre .1 .1 .0) w (omega arith) (c .before .before .before .rest-of .ensures .0) (sym (c .before .before .at-most .ensures) ∙ c .before .if1 .left) (c .lesser2 .ensures),
+      answer-fails (s .pre .0 .valid) (s .pre .1 .1 .0) w (omega arith) (omega arith) (c .before .before .before .rest-of .ensures .0) (sym (c .before .before .at-most .ensures) ∙ c .before .if1 .left) (c .lesser2 .ensures),
       walked-end (s .pre .0 .valid) (s .pre .1 .1 .0) w (omega arith) (c .before .before .before .before .before .narrow2 .ensures) (c .before .before .before .before .narrow3 .ensures),
     )
 

@@ -1,6 +1,7 @@
 -- `imbalance_of` meets its contract.
 -- Assumes nothing.
 use mathlib.Core.Path.{sym, _∙_}
+use native.Mathlib.Omega.{arith}
 use Rattle.bound.specs.Order.{over}
 use Rattle.bound.proofs.Order.{nought-load, not-nought}
 use Rattle.chain.specs.Job.{jobOf}
@@ -32,7 +33,7 @@ sub-result : tie.Need-sub-result
 sub-result c = no-less (c .before .before .before .before .before .before .before .pre .0) (c .before .before .before .before .before .before .before .pre .1 .1) (c .before .before .before .before .before .before .before .pre .1 .2) (c .before .before .before .before .before .before .before .pre .1 .0) (c .before .before .before .before .total .ensures)
 
 mul-result-2 : tie.Need-mul-result-2
-mul-result-2 c = record { fits = excess-fits (c .before .before .before .before .before .before .before .pre .0) (c .before .before .before .before .before .before .before .pre .1 .1) (c .before .before .before .before .before .before .before .pre .1 .2) (c .before .before .before .before .before .before .before .pre .1 .0) (c .before .before .before .before .total .ensures) }
+mul-result-2 c = omega (arith, excess-fits (c .before .before .before .before .before .before .before .pre .0) (c .before .before .before .before .before .before .before .pre .1 .1) (c .before .before .before .before .before .before .before .pre .1 .2) (c .before .before .before .before .before .before .before .pre .1 .0) (c .before .before .before .before .total .ensures))
 
 div-result : tie.Need-div-result
 div-result c = divisor-positive (c .before .before .before .before .before .before .before .pre .0) (c .before .before .before .before .before .before .before .pre .1 .1) (c .before .before .before .before .before .before .before .pre .1 .2) (c .before .before .before .before .before .before .before .pre .1 .0) (c .before .before .before .before .total .ensures) (not-nought (over (c .before .before .before .before .before .before .before .args .total) (c .before .before .before .before .total .result)) (sym (c .before .before .before .is-nought .ensures) ∙ c .before .before .if1 .left))
