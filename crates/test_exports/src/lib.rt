@@ -9,7 +9,7 @@ ghost use Rattle.refusals.specs.Answers.{writtenSaid};
 ghost use Rattle.jobs.specs.Answers.{readSaid};
 ghost use Rattle.calls.specs.Answers.{measuredSaid, probedSaid, probeAnswer};
 ghost use Rattle.planner.specs.Answers.{plannedSaid};
-ghost use Rattle.demands.specs.Call.{TestJob, ReadJob, WriteJob, Measure, Probe, Heuristic, Plan, WritePlan};
+ghost use Rattle.demands.specs.Call.{TestJob, ReadJob, WriteJob, Measure, Probe, Heuristic, Plan, WritePlan, ListJob};
 ghost use Rattle.demands.specs.Call.{said, Leaves};
 ghost use Rattle.demands.specs.Demands.{number};
 ghost use Rattle.test_exports.specs.Answer.{boundPut, saidPut, outcomePut, probedPut};
@@ -23,6 +23,7 @@ use chain::Outcome;
 use jobs::JobRead;
 use jobs::read_job;
 use jobs::write_job;
+use listing::list;
 use parts::wide;
 use planfile::write_plan;
 use planner::Planned;
@@ -186,6 +187,23 @@ pub extern "C" fn exported_write_job(
         ⌜ now (answer .exit) ≡ saidPut (said call) (now (answer .entry)) ⌝ }
 {
     let written = write_job(speeds, weights, file);
+    put_written(answer, written)
+}
+
+// The answer: the bytes of the listing.
+#[no_mangle]
+pub extern "C" fn exported_list(file: &[u8], text: &mut [u8], answer: &mut [u64]) -> u32
+    ensures number { λ r.
+        let call = ListJob (now (file .entry)) (now (text .entry)) in
+        ⌜ r ≡ number call ⌝ }
+    ensures left { λ _.
+        let call = ListJob (now (file .entry)) (now (text .entry)) in
+        ⌜ Leaves call (now (text .exit) ∷ []) ⌝ }
+    ensures answer { λ _.
+        let call = ListJob (now (file .entry)) (now (text .entry)) in
+        ⌜ now (answer .exit) ≡ saidPut (said call) (now (answer .entry)) ⌝ }
+{
+    let written = list(file, text);
     put_written(answer, written)
 }
 
