@@ -1,7 +1,7 @@
 #!/bin/sh
 # Every quote in a comment of crates/ stands in docs/SCOPE.md: behind 'Scope 3.4:' in that sentence, behind 'Refusal 7:' in that row of
 # the table, else anywhere on the page. ' .. ' in a quote leaves words out. The page's worked jobs have the figures of their listings in
-# examples/, which are those that the program writes (tests/strips.sh).
+# examples/, which are those that the program writes (tests/strips.sh) and that the prover computes (crates/listing/proofs/Examples.antt).
 set -eu
 cd "$(dirname "$0")/.."
 find crates -name '*.antt' -o -name '*.rt' | grep -v /declared/ | LC_ALL=C sort | xargs awk '
@@ -82,5 +82,13 @@ if [ "$(sed -n '/^9\. `strips` writes for A:/,/^## /s/^       //p' docs/SCOPE.md
     echo "docs/SCOPE.md, sentence 11.9: the listing is not that of examples/A.txt"
     failed=1
 fi
+# The listings that the prover computes from the definitions, with \n for a line feed, are those of the examples.
+for job in A B C D E; do
+    text=$(awk '{ printf "%s\\n", $0 }' "examples/$job.txt")
+    if ! grep -qF "\"$text\"" crates/listing/proofs/Examples.antt; then
+        echo "crates/listing/proofs/Examples.antt: no listing \"$text\", which is that of examples/$job.txt"
+        failed=1
+    fi
+done
 [ "$failed" = 0 ] || { echo "tests/scope.sh: FAILED"; exit 1; }
-echo "tests/scope.sh: the worked jobs have the figures of their listings"
+echo "tests/scope.sh: the worked jobs have the figures of their listings, in docs/SCOPE.md and in the computed examples"

@@ -22,6 +22,7 @@ use bisection::bisection_in;
 use bound::Bound;
 use chain::Method;
 use dynamic::table_in;
+pub use host::plan_job;
 use imbalance::imbalance_of;
 use parts::Found;
 use parts::measure_in;

@@ -9,7 +9,7 @@ ghost use Rattle.refusals.specs.Answers.{writtenSaid};
 ghost use Rattle.jobs.specs.Answers.{readSaid};
 ghost use Rattle.calls.specs.Answers.{measuredSaid, probedSaid, probeAnswer};
 ghost use Rattle.planner.specs.Answers.{plannedSaid};
-ghost use Rattle.demands.specs.Call.{TestJob, ReadJob, WriteJob, Measure, Probe, Heuristic, Plan, WritePlan, ListJob};
+ghost use Rattle.demands.specs.Call.{TestJob, ReadJob, WriteJob, Measure, Probe, Heuristic, Plan, WritePlan, ListJob, PlanJob};
 ghost use Rattle.demands.specs.Call.{said, Leaves};
 ghost use Rattle.demands.specs.Demands.{number};
 ghost use Rattle.test_exports.specs.Answer.{boundPut, saidPut, outcomePut, probedPut};
@@ -28,6 +28,7 @@ use parts::wide;
 use planfile::write_plan;
 use planner::Planned;
 use planner::plan;
+use planner::plan_job;
 use refusals::Written;
 use refusals::test_job;
 
@@ -318,4 +319,17 @@ pub extern "C" fn exported_write_plan(
 {
     let written = write_plan(speeds, weights, separators, plan);
     put_written(answer, written)
+}
+
+// The call for C, by its line among the calls: nothing more.
+#[no_mangle]
+pub extern "C" fn exported_plan_job(job: &[u8], method: u32, plan: &mut [u8]) -> u32
+    ensures number { λ r.
+        let call = PlanJob (now (job .entry)) method (now (plan .entry)) in
+        ⌜ r ≡ number call ⌝ }
+    ensures left { λ _.
+        let call = PlanJob (now (job .entry)) method (now (plan .entry)) in
+        ⌜ Leaves call (now (plan .exit) ∷ []) ⌝ }
+{
+    plan_job(job, method, plan)
 }
