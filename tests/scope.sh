@@ -86,7 +86,7 @@ fi
 for job in A B C D E; do
     text=$(awk '{ printf "%s\\n", $0 }' "examples/$job.txt")
     if ! grep -qF "\"$text\"" crates/listing/proofs/Examples.antt; then
-        echo "crates/listing/proofs/Examples.antt: no listing \"$text\", which is that of examples/$job.txt"
+        printf 'crates/listing/proofs/Examples.antt: no listing "%s", which is that of examples/%s.txt\n' "$text" "$job"
         failed=1
     fi
 done
