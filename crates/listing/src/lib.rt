@@ -222,8 +222,8 @@ fn list_taken(file: &[u8], out: &mut [u8]) -> usize
     list_file(file, out)
 }
 
-// Puts the listing of a job file to the front of the buffer: the count of its bytes, or the refusal: 9 for a buffer that is too
-// short for the longest listing. Later bytes stay.
+// Puts the listing of a job file to the front of the buffer: the count of its bytes, or the refusal: 9 for a buffer with less room
+// than LISTING_ROOM. Later bytes stay.
 pub fn list(file: &[u8], out: &mut [u8]) -> Written
     ensures answer { λ r. ⌜ r ≡ listAnswer (now (file .entry)) (length (now (out .entry))) ⌝ }
     ensures bytes { λ _. ⌜ now (out .exit) ≡ listWrites (now (file .entry)) (now (out .entry)) ⌝ }

@@ -109,7 +109,7 @@ fn host(method: u32, given: &[&[u8]], solved: Option<&Solved>) -> Result<Vec<Aft
     Ok(vec![After::default(), After { front: plan, free: 0 }])
 }
 
-/// The listing, in a buffer with room for the longest one.
+/// The listing, in a buffer with room for every one.
 fn listed(given: &[&[u8]]) -> Result<Vec<After>, u32> {
     if given[1].len() < listing::ROOM {
         return Err(9);
