@@ -1,14 +1,13 @@
 -- Texts put one behind another, and the digits of a number.
 -- Assumes nothing.
-use Prim.Native.Nat.{ℕ, zero, suc, _+_, _*_, _-_, _^_, _≤_, _<_}
+use Prim.Native.Nat.{ℕ, zero, suc, _+_, _-_, _^_, _≤_, _<_}
 use mathlib.Core.Path.{_≡_, refl, sym, ap, subst, _∙_}
-use mathlib.Core.Bool.{Bool, true, false}
 use mathlib.Core.List.{List, [], _∷_, _++_, append-nil, append-assoc}
-use mathlib.Core.Logic.{_⊎_, inl, inr}
+use mathlib.Core.Logic.{inl, inr}
 use native.Mathlib.Omega.{arith}
 use native.Mathlib.Decide.{decLe}
-use native.Mathlib.Nat.{le-trans, lt-of-lt-of-le, pow-le-pow-right, pow-succ'}
-use lib.Dec.{T, ltb, ltb→lt, lit<}
+use native.Mathlib.Nat.{pow-le-pow-right, pow-succ'}
+use lib.Dec.{ltb, lit<}
 use lib.ListN.{length, getD, set, take, drop, length-append}
 use lib.Seq.{sets, sets-eq, take-suc, take-all, length-take-le}
 use borrow.Author.Tests.{ltb-true, ltb-false}

@@ -1,7 +1,7 @@
 -- What a caller may read off a listing, and off the answer of the call that puts it.
 -- Assumes nothing.
 use Prim.Native.Nat.{ℕ, suc, _+_, _*_, _≤_}
-use mathlib.Core.Path.{_≡_, refl, sym, ap, subst, _∙_}
+use mathlib.Core.Path.{_≡_, refl, sym, ap, _∙_}
 use mathlib.Core.List.{List, [], _∷_, _++_, List·Memᴰ}
 use mathlib.Core.Logic.{_≢_, _↔_}
 use native.Mathlib.Omega.{arith}
@@ -24,7 +24,6 @@ use Rattle.refusals.proofs.Tests.{length-enough, heuristic-list, plan-scratch, 
 use Rattle.parts.proofs.Front.{taken}
 use Rattle.jobs.specs.Parse.{jobIn, fileRefusal}
 use Rattle.jobs.proofs.RoundTrip.{accepted-valid}
-use Rattle.planner.specs.declared.Figures.{Figures}
 use Rattle.planner.specs.declared.Planned.the-variants.{Accepted}
 use Rattle.planner.specs.Answers.{planRefusal, planFigures, plannedOf, chosenAnswer, planAnswer, planWrites}
 use Rattle.planner.proofs.Promises.{accepted-separators}

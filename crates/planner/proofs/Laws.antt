@@ -6,7 +6,6 @@ use mathlib.Core.Bool.{Bool, cond}
 use mathlib.Core.List.{List, _++_}
 use mathlib.Core.Logic.{_≢_}
 use native.Mathlib.Omega.{arith}
-use lib.Dec.{T}
 use lib.ListN.{length, take, drop, length-append, length-drop}
 use lib.Seq.{drop-append-add, drop-drop}
 use borrow.Author.Tests.{ne-eqb}
@@ -17,7 +16,7 @@ use Rattle.chain.specs.declared.Method.the-variants.{Table, Bidding, Bisection}
 use Rattle.chain.specs.Ranges.{Small, Lendable}
 use Rattle.chain.specs.Lists.{sum}
 use Rattle.chain.specs.Job.{Job, Valid, tasks, processors, bottleneck, ideal, totalWeight}
-use Rattle.chain.specs.Probe.{walk, fits}
+use Rattle.chain.specs.Probe.{walk}
 use Rattle.chain.specs.Bidding.{bidding}
 use Rattle.chain.specs.Plan.{MethodEnds, BiddingEnds, BisectionEnds, planOf, allowance, countBy, imbalance}
 use Rattle.chain.specs.Refusal.{refusal}
@@ -71,9 +70,6 @@ tabled-kept t = record { same = t .same; rest = t .rest }
 pub walk-is-plan : {job : Job} → Valid job → (m : Method) (n : ℕ) (B : Bound) → MethodEnds m job n B → walk job B ≡ planOf job
 unfolding planOf
 walk-is-plan {job} v m n B e = least-alike (method-least (valid-plannable v) m n B e) (least-bottleneck (valid-plannable v))
-
-pub method-fits : {job : Job} → Valid job → (m : Method) (n : ℕ) (B : Bound) → MethodEnds m job n B → T (fits job B)
-method-fits v m n B e = method-least (valid-plannable v) m n B e .fitting
 
 module _ {job : Job} (v : Valid job) {B : Bound} (is : B ≡ bottleneck job (planOf job)) where
   pub plan-small : Small B

@@ -6,6 +6,7 @@ ghost use lib.ListN.{length, drop};
 ghost use Rattle.chain.specs.Ranges.{Lendable};
 ghost use Rattle.chain.specs.Job.{Job, jobOf, processors, Valid};
 ghost use Rattle.chain.specs.Plan.{MethodEnds, planOf};
+ghost use Rattle.chain.specs.Probe.{walk};
 ghost use Rattle.refusals.specs.Inputs.{scratchNeeded};
 ghost use Rattle.parts.specs.Prefix.{Ready};
 ghost use Rattle.parts.specs.Kept.{KeptFrom};
@@ -80,7 +81,20 @@ fn run_method(
     }
 }
 
-// Inner. The closing walk at the bottleneck found, which writes the separators and is not counted, and the figures.
+// Inner. The closing walk at the bottleneck found: it writes the separators and is not counted.
+fn close_walk(speeds: &[u32], weights: &[u32], sums: &[u32], bound: Bound, separators: &mut [u32])
+    ghost { Job }
+    requires { λ job. ⌜ jobOf (now speeds) (now weights) ≡ job ⌝ }
+    requires { λ job. ⌜ Ready job (now sums) ⌝ }
+    requires { λ job. ⌜ processors job < length (now separators) ⌝ }
+    requires { λ job. ⌜ walk job bound ≡ planOf job ⌝ }
+    requires { λ job. ⌜ Lendable bound ⌝ }
+    ensures { λ job _. ⌜ now (separators .exit) ≡ planOf job ++ drop (suc (processors job)) (now (separators .entry)) ⌝ }
+{
+    probe_in(speeds, weights, sums, bound, separators);
+}
+
+// Inner. The closing walk, and the figures of the plan.
 fn close_plan(
     method: Method,
     speeds: &[u32],
@@ -100,7 +114,7 @@ fn close_plan(
 {
     let bound = found.bound;
     let count = found.count;
-    probe_in(speeds, weights, sums, bound, separators);
+    close_walk(speeds, weights, sums, bound, separators);
     let bottleneck = measure_in(speeds, weights, sums, separators);
     let total = wide(sums[weights.len()]);
     let allowance = allowance_of(method, speeds, weights);

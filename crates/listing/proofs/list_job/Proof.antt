@@ -1,7 +1,6 @@
 -- `list_job` meets its contract: the first line, then a line for each method.
 -- Assumes nothing.
 use native.Mathlib.Omega.{arith}
-use Rattle.chain.specs.Limits.{maxProcessors}
 use Rattle.listing.specs.Listing.{jobListing}
 use Rattle.listing.specs.Room.{listingRoom}
 use Rattle.listing.proofs.Laws.{put-then}

@@ -1,12 +1,11 @@
 -- `list_method` meets its contract: the plan of the definition, and its line.
 -- Assumes nothing.
 use Prim.Native.Nat.{_+_}
-use mathlib.Core.Path.{sym, _∙_}
+use mathlib.Core.Path.{sym}
 use native.Mathlib.Omega.{arith}
 use lib.ListN.{length}
 use lib.Seq.{length-take-le}
 use Rattle.chain.specs.Limits.{maxProcessors, maxTasks}
-use Rattle.chain.specs.Job.{Job, jobOf}
 use Rattle.listing.proofs.Listings.{method-put}
 use borrow.Author.Needs.{needs}
 use Rattle.listing.proofs.list_method.Statement.{statement}

@@ -1,18 +1,13 @@
 -- `close_plan` meets its contract: the walk at the bottleneck found is the plan.
 -- Assumes nothing.
-use Prim.Native.Nat.{ℕ, suc}
-use mathlib.Core.Path.{_≡_, ap, _∙_}
-use mathlib.Core.List.{List, _++_}
-use lib.ListN.{length, drop}
+use mathlib.Core.Path.{_≡_}
 use Rattle.bound.specs.declared.Bound.{Bound}
 use Rattle.chain.specs.Job.{Job, jobOf, bottleneck}
-use Rattle.chain.specs.Probe.{walk}
 use Rattle.chain.specs.Plan.{planOf}
-use Rattle.chain.proofs.Parts.{valid-proper, valid-plannable}
-use Rattle.chain.proofs.Demand.{method-unique}
-use Rattle.chain.proofs.Walk.{walk-partition}
+use Rattle.chain.proofs.Parts.{valid-plannable}
+use Rattle.chain.proofs.Demand.{method-unique, plan-of-best}
 use Rattle.parts.proofs.Front.{front-partition, front-bottleneck}
-use Rattle.planner.proofs.Laws.{walk-is-plan, method-fits, plan-small, plan-above, last-sum, figures-are}
+use Rattle.planner.proofs.Laws.{walk-is-plan, plan-small, plan-above, last-sum, figures-are}
 use borrow.Author.Needs.{needs}
 use Rattle.planner.proofs.close_plan.Statement.{statement}
 use Rattle.planner.proofs.close_plan.Tie as tie
@@ -21,17 +16,17 @@ use Rattle.planner.proofs.close_plan.Tie as tie
 abbrev job-at : tie.Start → Job
 job-at s = jobOf (s .args .speeds .now) (s .args .weights .now)
 
-probe-in-requires : tie.Need-probe-in-requires
-probe-in-requires c κs = search needs
+close-walk-requires : tie.Need-close-walk-requires
+close-walk-requires c κs =
+    let s = c .before .before .before .before .before .before in
+    let W : Bound = s .args .found .bound in
+    (s .pre .0, (s .pre .1 .0, (walk-is-plan (s .pre .0 .valid) (s .args .method) (s .args .found .count) W (s .pre .1 .1 .0), s .pre .1 .1 .1)))
 
 measure-in-requires : tie.Need-measure-in-requires
 measure-in-requires c κs =
     let s = c .before .before .before .before .before .before .before .before .before .before in
     let job : Job = job-at s in
-    let v = s .pre .0 .valid in
-    let W : Bound = s .args .found .bound in
-    let l : List ℕ = drop (suc (length (s .args .speeds .now))) (s .args .separators .now) in
-    (s .pre .0, front-partition (walk job W) l (walk-partition (valid-proper v) W (method-fits v (s .args .method) (s .args .found .count) W (s .pre .1 .1 .0))) (c .before .before .before .probe-in .ensures .1))
+    (s .pre .0, front-partition (planOf job) _ (plan-of-best (valid-plannable (s .pre .0 .valid)) .partition) (c .before .before .before .close-walk .ensures))
 
 mul-wide : tie.Need-mul-wide
 mul-wide c = search needs
@@ -50,11 +45,8 @@ imbalance-of-requires c κs =
     let s = c .before .before .before .before .before .before .before .before .before .before .before .before .before .before in
     let job : Job = job-at s in
     let v = s .pre .0 .valid in
-    let W : Bound = s .args .found .bound in
-    let l : List ℕ = drop (suc (length (s .args .speeds .now))) (s .args .separators .now) in
     let b : c .before .before .before .measure-in .result ≡ bottleneck job (planOf job) =
-    front-bottleneck (walk job W) l (walk-partition (valid-proper v) W (method-fits v (s .args .method) (s .args .found .count) W (s .pre .1 .1 .0))) (c .before .before .before .before .before .before .before .probe-in .ensures .1) (c .before .before .before .measure-in .ensures .1)
-    ∙ ap (bottleneck job) (walk-is-plan v (s .args .method) (s .args .found .count) W (s .pre .1 .1 .0)) in
+    front-bottleneck (planOf job) _ (plan-of-best (valid-plannable v) .partition) (c .before .before .before .before .before .before .before .close-walk .ensures) (c .before .before .before .measure-in .ensures .1) in
     (v, (last-sum (s .pre .0 .prefix) (c .before .wide .ensures), plan-small v b, plan-above v b))
 
 same-length : tie.Need-same-length
@@ -65,21 +57,16 @@ returns c =
     let s = c .before .before .before .before .before .before .before .before .before .before .before .before .before .before .before in
     let job : Job = job-at s in
     let v = s .pre .0 .valid in
-    let W : Bound = s .args .found .bound in
-    let l : List ℕ = drop (suc (length (s .args .speeds .now))) (s .args .separators .now) in
-    let e : walk job W ≡ planOf job = walk-is-plan v (s .args .method) (s .args .found .count) W (s .pre .1 .1 .0) in
+    let w = c .before .before .before .before .before .before .before .before .close-walk .ensures in
     let b : c .before .before .before .before .measure-in .result ≡ bottleneck job (planOf job) =
-    front-bottleneck (walk job W) l (walk-partition (valid-proper v) W (method-fits v (s .args .method) (s .args .found .count) W (s .pre .1 .1 .0))) (c .before .before .before .before .before .before .before .before .probe-in .ensures .1) (c .before .before .before .before .measure-in .ensures .1)
-    ∙ ap (bottleneck job) e in (
-      figures-are job (s .args .method) (method-unique (valid-plannable v) (s .args .method) (s .args .found .count) W (s .pre .1 .1 .0)) (c .before .allowance-of .ensures) b (c .imbalance-of .ensures),
-      c .before .before .before .before .before .before .before .before .probe-in .ensures .1 ∙ ap (λ (x : List ℕ). x ++ l) e,
-    )
+    front-bottleneck (planOf job) _ (plan-of-best (valid-plannable v) .partition) w (c .before .before .before .before .measure-in .ensures .1) in
+    (figures-are job (s .args .method) (method-unique (valid-plannable v) (s .args .method) (s .args .found .count) (s .args .found .bound) (s .pre .1 .1 .0)) (c .before .allowance-of .ensures) b (c .imbalance-of .ensures), w)
 
 pub close-plan-spec : {M : Type 1} → statement M
 close-plan-spec =
     tie.close
     (tie.spec
-    probe-in-requires
+    close-walk-requires
     measure-in-requires
     mul-wide
     shared-slice-read-wide

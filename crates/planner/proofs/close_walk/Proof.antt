@@ -1,0 +1,25 @@
+-- `close_walk` meets its contract: the walk at the bound is the plan.
+-- Assumes nothing.
+use Prim.Native.Nat.{ℕ, suc}
+use mathlib.Core.Path.{ap, _∙_}
+use mathlib.Core.List.{List, _++_}
+use lib.ListN.{length, drop}
+use Rattle.chain.specs.Limits.{maxBoundLoad, maxBoundSpeed}
+use borrow.Author.Needs.{needs}
+use Rattle.planner.proofs.close_walk.Statement.{statement}
+use Rattle.planner.proofs.close_walk.Tie as tie
+
+probe-in-requires : tie.Need-probe-in-requires
+unfolding maxBoundLoad maxBoundSpeed
+probe-in-requires c κs = search needs
+
+same-length : tie.Need-same-length
+same-length c = search needs
+
+returns : tie.Need-returns
+returns c =
+    let s = c .before .before .before .before .before .before .before .before in
+    c .before .before .probe-in .ensures .1 ∙ ap (λ (x : List ℕ). x ++ drop (suc (length (s .args .speeds .now))) (s .args .separators .now)) (s .pre .1 .1 .0)
+
+pub close-walk-spec : {M : Type 1} → statement M
+close-walk-spec = tie.close (tie.spec probe-in-requires same-length returns)
