@@ -77,7 +77,19 @@ above : (n : ℕ) → n < 10 ^ n
 above zero = lit< tt
 above (suc n) = let e = pow-succ' 10 n in let h = above n in omega (arith, e, h)
 
--- The fewest digits that hold a number are as many as its width.
+-- The width of a number is the fewest digits that hold it, and at least one;
+pub width-fewest : (n : ℕ) → Fewest 10 1 n (width n)
+unfolding width
+width-fewest n = go (smallestFrom (λ j. ltb n (10 ^ j)) 1 n) (smallest-is (λ j. ltb n (10 ^ j)) 1 n)
+  where
+    go : (r : ℕ) → Smallest (λ j. ltb n (10 ^ j)) 1 n r → Fewest 10 1 n r
+    go r s = (
+      s .from,
+      elim (s .found) [ inl x ↦ (let y = above r in omega (arith, x, y)) | inr x ↦ ltb-true n (10 ^ r) x ],
+      λ h. ltb-false n (10 ^ (r - 1)) (s .before (r - 1) (omega arith) (omega arith)),
+    )
+
+-- no other number of digits is.
 pub fewest-width : {n k : ℕ} → Fewest 10 1 n k → k ≡ width n
 unfolding width
 fewest-width {n} {k} f = sym (go (smallestFrom (λ j. ltb n (10 ^ j)) 1 n) (smallest-is (λ j. ltb n (10 ^ j)) 1 n))
