@@ -1,22 +1,22 @@
 -- What the functions of a listing put is the text of the definition.
 -- Assumes nothing.
 use Prim.Native.Nat.{ℕ, suc, _+_, _≤_}
-use mathlib.Core.Path.{_≡_, refl, sym, ap, ap₂, _∙_}
+use mathlib.Core.Path.{_≡_, sym, ap, ap₂, _∙_}
 use mathlib.Core.List.{List, _++_}
 use mathlib.Core.Logic.{_≢_}
 use native.Mathlib.Omega.{arith}
-use lib.Dec.{leb}
+use native.Mathlib.Decide.{decLe}
 use lib.ListN.{length, take}
 use lib.Seq.{take-all}
-use borrow.Author.Tests.{ne-eqb, leb-true}
-use mathlib.Core.Bool.{Bool, true, false, cond}
+use borrow.Author.Tests.{ne-eqb}
+use mathlib.Core.Bool.{Bool, cond}
 use Rattle.chain.specs.declared.Method.{Method}
 use Rattle.chain.specs.Job.{Job, Valid, processors}
 use Rattle.chain.specs.Plan.{planOf}
-use Rattle.chain.specs.Refusal.{lengthTest, firstRefusal}
 use Rattle.refusals.specs.Methods.{numberOf}
 use Rattle.refusals.specs.declared.Written.{Written}
 use Rattle.refusals.specs.Answers.{writtenOf}
+use Rattle.refusals.proofs.Tests.{length-short}
 use Rattle.refusals.proofs.Answering.{wrote-refused, wrote-all}
 use Rattle.jobs.specs.Parse.{jobIn, fileRefusal}
 use Rattle.parts.proofs.Front.{taken}
@@ -54,12 +54,12 @@ listed-whole file h = ap (λ (l : List ℕ). listingOf (fileRefusal l) l) (sym (
 
 -- A buffer that is not refused has room for the longest listing.
 pub list-room : (lent : ℕ) → 0 ≡ listRefusal lent → listingRoom ≤ lent
-unfolding listRefusal listTests firstRefusal lengthTest
-list-room lent e = go (leb listingRoom lent) refl e
-  where
-    go : (b : Bool) → leb listingRoom lent ≡ b → _≡_ {A = ℕ} 0 (cond b 0 9) → listingRoom ≤ lent
-    go true f z = leb-true listingRoom lent f
-    go false f z = absurd (omega (arith, z))
+unfolding listRefusal listTests
+list-room lent e =
+    elim (decLe listingRoom lent) [
+      | yes p ↦ p
+      | no p ↦ let z = length-short listingRoom lent (omega arith) in absurd (omega (arith, e, z))
+    ]
 
 -- What the call answers and leaves: of a buffer that is refused, and of the listing put into it.
 pub list-refused : (file out : List ℕ) {k : ℕ} → k ≡ listRefusal (length out) → k ≢ 0

@@ -108,6 +108,9 @@ module _ (file out : List ℕ) where
       put = lent-front (listing file) out none (sym is-n)
 
   -- The same, of what a call answered and left.
-  pub list-counts : {r : Written} {later : List ℕ} {n : ℕ} → r ≡ listAnswer file (length out) → r ≡ Written.Bytes n → later ≡ listWrites file out
-      → n ≤ length later
-  list-counts a e f = omega (arith, (list-accepted (sym a ∙ e)) .within, ap length f)
+  module _ {r : Written} {later : List ℕ} {n : ℕ} (a : r ≡ listAnswer file (length out)) (e : r ≡ Written.Bytes n) (f : later ≡ listWrites file out) where
+    pub list-counts : n ≤ length later
+    list-counts = omega (arith, (list-accepted (sym a ∙ e)) .within, ap length f)
+
+    pub list-text : take n later ≡ listing file
+    list-text = ap (take n) f ∙ (list-accepted (sym a ∙ e)) .bytes

@@ -1,6 +1,8 @@
 // The program: a job file comes on standard input, and its listing goes to standard output. What the listing is, is the library's
 // (`listing::list`); here is only what is read and written.
+ghost use mathlib.Core.Path.{_≡_};
 ghost use Rattle.io.specs.Counts.{Counts};
+ghost use Rattle.listing.specs.Listing.{listing};
 use listing::INTAKE;
 use listing::LISTING_ROOM;
 use listing::list;
@@ -40,6 +42,13 @@ fn take_in(file: &mut [u8]) -> Input
     }
 }
 
+// Hands the text to standard output: it has to be the listing of the file.
+fn send(file: &[u8], text: &[u8]) -> bool
+    requires { ⌜ now text ≡ listing (now file) ⌝ }
+{
+    io::write_all(1, text)
+}
+
 // Writes the listing of what came. The buffer has room for every listing, so that `list` refuses nothing.
 fn answer(file: &[u8]) {
     let mut out = [0u8; LISTING_ROOM];
@@ -47,7 +56,7 @@ fn answer(file: &[u8]) {
     let Written::Bytes(n) = listed else {
         return;
     };
-    if !io::write_all(1, &out[..n]) {
+    if !send(file, &out[..n]) {
         io::write_all(2, b"strips: the listing cannot be written\n");
     }
 }

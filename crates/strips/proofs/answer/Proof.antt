@@ -1,8 +1,8 @@
--- `answer` meets its contract: what was answered counts bytes of the buffer.
+-- `answer` meets its contract: what was answered counts bytes of the buffer, and these are the listing.
 -- Assumes nothing.
 use mathlib.Core.Path.{sym}
 use lib.Seq.{length-take-le}
-use Rattle.listing.proofs.Promises.{list-counts}
+use Rattle.listing.proofs.Promises.{list-counts, list-text}
 use borrow.Author.Needs.{needs}
 use Rattle.strips.proofs.answer.Statement.{statement}
 use Rattle.strips.proofs.answer.Tie as tie
@@ -27,19 +27,21 @@ array-share-prefix-out c =
     let l = c .before .before .before .before .list .ensures in
     list-counts (c .before .before .before .before .before .before .before .args .file .now) _ (l .0) (c .before .listed .given .1) (l .1)
 
-slice-aggregate-write-all : tie.Need-slice-aggregate-write-all
-slice-aggregate-write-all c =
+slice-aggregate-send : tie.Need-slice-aggregate-send
+slice-aggregate-send c =
     let l = c .before .before .before .before .before .list .ensures in
     sym (length-take-le _ _ (list-counts (c .before .before .before .before .before .before .before .before .args .file .now) _ (l .0) (c .before .before .listed .given .1) (l .1)))
 
+send-requires : tie.Need-send-requires
+send-requires c κs =
+    let l = c .before .before .before .before .before .list .ensures in
+    list-text (c .before .before .before .before .before .before .before .before .args .file .now) _ (l .0) (c .before .before .listed .given .1) (l .1)
+
+slice-aggregate-write-all : tie.Need-slice-aggregate-write-all
+slice-aggregate-write-all c = search needs
+
 write-all-requires : tie.Need-write-all-requires
 write-all-requires c κs = search needs
-
-slice-aggregate-write-all-2 : tie.Need-slice-aggregate-write-all-2
-slice-aggregate-write-all-2 c = search needs
-
-write-all-requires-2 : tie.Need-write-all-requires-2
-write-all-requires-2 c κs = search needs
 
 returns-2 : tie.Need-returns-2
 returns-2 c = search needs
@@ -57,9 +59,9 @@ answer-spec =
     enum-told
     returns
     array-share-prefix-out
+    slice-aggregate-send
+    send-requires
     slice-aggregate-write-all
     write-all-requires
-    slice-aggregate-write-all-2
-    write-all-requires-2
     returns-2
     returns-3)
