@@ -10,7 +10,7 @@ use native.Mathlib.Numerals.{add-one}
 use lib.Dec.{T}
 use lib.ListN.{length, getD, drop}
 use Rattle.bound.specs.declared.Bound.{Bound}
-use Rattle.bound.specs.Order.{infinite, _≼_, _≺_, le, lesser, Real}
+use Rattle.bound.specs.Order.{infinite, _≼_, _≺_, le, lesser, leastBelow, Real}
 use Rattle.bound.proofs.Order.{false-lt, lt-le, speed-real}
 use Rattle.chain.specs.Job.{Job, Valid, tasks, processors, last, offer}
 use Rattle.chain.specs.Probe.{separator, walk, fits, bid, nextBid}
@@ -35,7 +35,7 @@ pub record Parted (job : Job) (B C : Bound) (p a : ℕ) (least : Bound) : Type 0
   pub above : (q : ℕ) → q < p → C ≺ bid job B q
 
 pub parted-start : (job : Job) (B C : Bound) → Parted job B C 0 0 infinite
-unfolding separator leastBefore
+unfolding separator leastBelow
 parted-start job B C =
     record {
       to = omega arith;
@@ -113,7 +113,7 @@ module _ {job : Job} (v : Valid job) {C : Bound} {xs : List ℕ} (f : FailedWalk
     stays = separator-stays job real less p (w .to) (w .above)
 
     least-before : (q : ℕ) → q ≤ p → leastBefore job C q ≡ leastBefore job (f .bound) q
-    unfolding leastBefore
+    unfolding leastBelow
     least-before zero h = refl
     least-before (suc q) h = least-stays job real less p (w .to) (w .above) q h
 

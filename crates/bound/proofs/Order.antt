@@ -1,7 +1,7 @@
 -- The laws of the order of bounds. Every later inequality rests on these and on Algebra.
 -- Assumes nothing.
 use Prim.Native.Nat.{ℕ, zero, suc, _+_, _*_, _≤_, _<_}
-use mathlib.Core.Path.{_≡_, refl, sym, ap, subst}
+use mathlib.Core.Path.{_≡_, refl, sym, ap, ap₂, subst}
 use mathlib.Core.Bool.{Bool, true, false, not}
 use mathlib.Core.Logic.{_⊎_, inl, inr}
 use native.Mathlib.Omega.{arith}
@@ -10,7 +10,7 @@ use native.Mathlib.Nat.{mul-le-mul-right, le-of-mul-le-mul-right, one-le-mul}
 use lib.Dec.{T, leb, leb→le, le→leb, nleb→lt, T-not, not-T}
 use borrow.Author.Tests.{leb-true, leb-false}
 use Rattle.bound.specs.declared.Bound.{Bound}
-use Rattle.bound.specs.Order.{nought, infinite, le, _≼_, _≺_, _≈_, pick, greater, lesser, Real, Finite}
+use Rattle.bound.specs.Order.{nought, infinite, le, _≼_, _≺_, _≈_, pick, greater, lesser, leastTo, leastBelow, Real, Finite}
 
 -- What the order says of the products, and back.
 pub open-le : {B C : Bound} → B ≼ C → B .load * C .speed ≤ C .load * B .speed
@@ -224,3 +224,33 @@ below-infinite h = make-lt (omega arith)
 
 pub lesser-infinite : (B : Bound) → 1 ≤ B .speed → lesser infinite B ≡ B
 lesser-infinite B h = sym (lesser-second infinite B (le-false {B = infinite} {C = B} (below-infinite h)))
+
+-- The least of several: a property of each is the least's,
+pub least-cases : (Q : Bound → Type 0) (f : ℕ → Bound) (n : ℕ) → ((p : ℕ) → p ≤ n → Q (f p)) → Q (leastTo f n)
+unfolding leastTo
+least-cases Q f zero h = h 0 (omega arith)
+least-cases Q f (suc n) h = lesser-cases Q (leastTo f n) (f (suc n)) (least-cases Q f n (λ p l. h p (omega arith))) (h (suc n) (omega arith))
+
+-- it is at most each,
+pub least-le : (f : ℕ → Bound) → ((p : ℕ) → Real (f p)) → (n p : ℕ) → p ≤ n → leastTo f n ≼ f p
+unfolding leastTo
+least-le f r zero p h = subst (λ (i : ℕ). f 0 ≼ f i) (let e : 0 ≡ p = omega arith in e) (le-refl (f 0))
+least-le f r (suc n) p h =
+    elim (decLe p n) [
+      | yes l ↦ le-trans (least-cases Real f n (λ i k. r i)) (lesser-left (leastTo f n) (f (suc n))) (least-le f r n p l)
+      | no l ↦
+          subst (λ (i : ℕ). lesser (leastTo f n) (f (suc n)) ≼ f i) (let e : suc n ≡ p = omega arith in e)
+          (lesser-right (leastTo f n) (f (suc n)))
+    ]
+
+-- that of equal ones is the same,
+pub least-same : {f g : ℕ → Bound} (n : ℕ) → ((p : ℕ) → p ≤ n → f p ≡ g p) → leastTo f n ≡ leastTo g n
+unfolding leastTo
+least-same zero h = h 0 (omega arith)
+least-same (suc n) h = ap₂ lesser (least-same n (λ p l. h p (omega arith))) (h (suc n) (omega arith))
+
+-- and one with a speed is counted in by `lesser`, the first of them too.
+pub least-next : (f : ℕ → Bound) (n : ℕ) → 1 ≤ (f n) .speed → lesser (leastBelow f n) (f n) ≡ leastTo f n
+unfolding leastTo leastBelow
+least-next f zero h = lesser-infinite (f 0) h
+least-next f (suc n) h = refl

@@ -1,5 +1,5 @@
 -- Bounds and their order, and the algebra of fractions over unbounded numbers.
-use Prim.Native.Nat.{ℕ, _+_, _*_, _<_}
+use Prim.Native.Nat.{ℕ, zero, suc, _+_, _*_, _<_}
 use mathlib.Core.Bool.{Bool, true, false, not}
 use lib.Dec.{T, leb}
 use Rattle.bound.specs.declared.Bound.{Bound}
@@ -48,6 +48,16 @@ greater B C = pick (le C B) B C
 -- The lesser of two bounds, the first among equals.
 unfoldable pub lesser : Bound → Bound → Bound
 lesser B C = pick (le B C) B C
+
+-- The least of f 0 to f n, the first among equals.
+unfoldable pub leastTo : (ℕ → Bound) → ℕ → Bound
+leastTo f zero = f 0
+leastTo f (suc n) = lesser (leastTo f n) (f (suc n))
+
+-- The least of those below n, infinite of none.
+unfoldable pub leastBelow : (ℕ → Bound) → ℕ → Bound
+leastBelow f zero = infinite
+leastBelow f (suc n) = leastTo f n
 
 -- The sum of two bounds: a/b + c/d = (a × d + c × b) / (b × d).
 abbrev pub plus : Bound → Bound → Bound

@@ -14,8 +14,9 @@ use Rattle.chain.specs.Probe.{walk, fits}
 use Rattle.chain.specs.Dynamic.{tableValue}
 use Rattle.chain.specs.Bidding.{bidding}
 use Rattle.chain.specs.Bisection.{ends, meet}
+use Rattle.chain.specs.Nicol.{candidateOn}
 use Rattle.chain.specs.declared.Method.{Method}
-use Rattle.chain.specs.declared.Method.the-variants.{Table, Bidding, Bisection}
+use Rattle.chain.specs.declared.Method.the-variants.{Table, Bidding, Bisection, Nicol}
 use Rattle.chain.specs.Lists.{isFirst}
 use Rattle.chain.specs.Plan.{leastBottleneck, planOf, Best, BisectionEnds, at-once, after, MethodEnds, allowance, biddingFailures, bisectionRounds, countBy, foundBy, imbalance, Plan, PlanBy}
 use Rattle.chain.proofs.Tests.{T-of, T-not-of}
@@ -28,6 +29,8 @@ use Rattle.chain.proofs.Table.{table-real, table-cover, moves-allowed}
 use Rattle.chain.proofs.Ideal.{ideal-finite}
 use Rattle.chain.proofs.Bidding.{ideal-below, bidding-least, bidding-allowed, bidding-ends}
 use Rattle.chain.proofs.Bisection.{first-allowed, bisection-least, bisection-allowed, bisection-ends}
+use Rattle.chain.proofs.Nicol.{Comes, candidate-above, candidate-met}
+use Rattle.chain.proofs.Halving.{nicol-counts, nicol-least, nicol-allowed, nicol-is}
 use Rattle.chain.proofs.Enumeration.{least-is-least, least-attained}
 
 -- The count of a method is one number.
@@ -42,6 +45,7 @@ method-counts job Bisection n k B C x y = same x y
     same (at-once t c e) (after k u g d f) = absurd (T-not (fits job (ideal job)) u t)
     same (after k t g c e) (at-once u d f) = absurd (T-not (fits job (ideal job)) t u)
     same (after k t g c e) (after l u h d f) = c ∙ ap suc (first-unique (λ j. meet (ends job j)) k l g h) ∙ sym d
+method-counts job Nicol n k B C x y = nicol-counts x y
 
 module _ {job : Job} (can : Plannable job) where
   -- The least bottleneck of all partitions is the least bound that fits.
@@ -82,6 +86,13 @@ module _ {job : Job} (can : Plannable job) where
   pub ideal-least-bound : T (fits job (ideal job)) → Least job (ideal job)
   ideal-least-bound t = record { finite = ideal-finite (can .proper); fitting = t; least = λ C u. ideal-below (can .proper) C u }
 
+  -- The candidates of Nicol's search: each is no less than the least bottleneck, and one is equal to it.
+  pub candidates-above : (p : ℕ) → p ≤ last job → Comes job p → leastBottleneck job ≼ candidateOn job p
+  candidates-above p l c = candidate-above can least-bottleneck p l c
+
+  pub candidates-meet : Comes job (last job) → (p : ℕ) × (p ≤ last job) × (candidateOn job p ≈ leastBottleneck job)
+  candidates-meet c = candidate-met can least-bottleneck c
+
   -- Every method ends at the least bound that fits.
   pub method-least : (m : Method) (n : ℕ) (B : Bound) → MethodEnds m job n B → Least job B
   method-least Table n B x = subst (Least job) (sym (x .yields)) table-least-bound
@@ -92,6 +103,7 @@ module _ {job : Job} (can : Plannable job) where
       bisection-bound (at-once t c e) = subst (Least job) (sym e) (ideal-least-bound t)
       bisection-bound (after k t f c e) =
           subst (Least job) (sym e) (bisection-least can t k (first-holds (λ j. meet (ends job j)) k f))
+  method-least Nicol n B x = nicol-least can x
 
   -- So the bottleneck found is the least bottleneck of all partitions.
   pub method-finds : (m : Method) (n : ℕ) (B : Bound) → MethodEnds m job n B → B ≈ leastBottleneck job
@@ -109,6 +121,7 @@ module _ {job : Job} (can : Plannable job) where
       bisection-count : {n : ℕ} {B : Bound} → BisectionEnds job n B → n ≤ allowance Bisection job
       bisection-count (at-once t c e) = omega (arith, first-allowed job)
       bisection-count (after k t f c e) = omega (arith, bisection-allowed can t k f)
+  method-allowed Nicol n B x = nicol-allowed can x
 
   -- The first trial that fits and the first round after which the ends meet are found.
   pub failures-first : T (isFirst (λ k. fits job (bidding job k)) (biddingFailures job))
@@ -137,6 +150,7 @@ module _ {job : Job} (can : Plannable job) where
           → BisectionEnds job (cond t 1 (suc (bisectionRounds job))) (cond t (ideal job) ((ends job (bisectionRounds job)) .low))
       go true e = at-once (T-of e) refl refl
       go false e = let t : T (not (fits job (ideal job))) = T-not-of e in after (bisectionRounds job) t (rounds-first t) refl refl
+  method-is Nicol = nicol-is can
 
   pub method-ends : (m : Method) → (n : ℕ) × (B : Bound) × MethodEnds m job n B
   method-ends m = (countBy m job, foundBy m job, method-is m)

@@ -8,6 +8,7 @@ pub mod Demand
 pub mod Digits
 pub mod Enumeration
 pub mod Extremes
+pub mod Halving
 pub mod Heuristic
 pub mod Ideal
 pub mod Indices
@@ -16,6 +17,7 @@ pub mod NextBid
 pub mod Parts
 pub mod Ranges
 pub mod Refusals
+pub mod Nicol
 pub mod Sums
 pub mod Table
 pub mod Tests

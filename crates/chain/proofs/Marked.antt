@@ -1,20 +1,21 @@
--- The worked jobs of the scope, section 11, and three more, hold of the definitions: the checker computes the whole table.
+-- The worked jobs of the scope, section 11, and six more, hold of the definitions: the checker computes the whole table.
 -- Assumes nothing.
 use mathlib.Core.List.{_++_}
 use lib.Dec.{T}
-use Rattle.bound.specs.Order.{le, greater, lesser}
+use Rattle.bound.specs.Order.{le, greater, lesser, leastTo}
 use Rattle.chain.specs.Limits.{maxTasks, maxWeight, maxProcessors, maxSpeed, maxBoundLoad, maxBoundSpeed}
 use Rattle.chain.specs.Lists.{sum, greatestOf, leastOf, tabulate, sumTo, all, greatestFrom, smallestFrom, smallestLeast, digitsWithin, digits}
 use Rattle.chain.specs.Job.{speedOf, partOf, partWeight, partLoad, slowestOf, partBound, within, offer, boundAt, bottleneckTo, bottleneck, ideal}
-use Rattle.chain.specs.Probe.{reach, separator, walk, fits, bid, leastBidTo, nextBid, probe}
+use Rattle.chain.specs.Probe.{reach, separator, walk, fits, bid, nextBid, probe}
 use Rattle.chain.specs.Heuristic.{miss, nearest, heuristic}
 use Rattle.chain.specs.Dynamic.{startOf, candidate, crossingOf, lesserAt, tableValue, crossing, movesTo, moves}
 use Rattle.chain.specs.Bidding.{bidding}
 use Rattle.chain.specs.Bisection.{firstEnds, nextEnds, ends, meet}
-use Rattle.chain.specs.Plan.{spread, onward, partitions, leastBound, leastBottleneck, planOf, difference, allowance, biddingFailures, bisectionRounds, countBy, foundBy, imbalance}
+use Rattle.chain.specs.Nicol.{fitsAt, firstFit, startOn, candidateOn, leastCandidate, emptyFits, nextRange, rangeAfter, single, settled}
+use Rattle.chain.specs.Plan.{spread, onward, partitions, leastBound, leastBottleneck, planOf, difference, allowance, biddingFailures, bisectionRounds, nicolTrials, nicolStop, countBy, foundBy, imbalance}
 use Rattle.chain.specs.Refusal.{eachBetween, methodTest, speedsTest, weightsTest, processorsTest, tasksTest, lengthTest, boundTest, isPartition, partitionTest, firstRefusal, jobTests, callTests, refusal}
 use Rattle.chain.specs.Marked.{sameList, samePair, figuresAre, walksAre, isFailing, isFitting, holds, everyHolds, marked, worked}
 
 pub marked-jobs : T (everyHolds (marked ++ worked))
-unfolding le greater lesser maxTasks maxWeight maxProcessors maxSpeed maxBoundLoad maxBoundSpeed sum greatestOf leastOf tabulate sumTo all greatestFrom smallestFrom smallestLeast digitsWithin digits speedOf partOf partWeight partLoad slowestOf partBound within offer boundAt bottleneckTo bottleneck ideal reach separator walk fits bid leastBidTo nextBid probe miss nearest heuristic startOf candidate crossingOf lesserAt tableValue crossing movesTo moves bidding firstEnds nextEnds ends meet spread onward partitions leastBound leastBottleneck planOf difference allowance biddingFailures bisectionRounds countBy foundBy imbalance eachBetween methodTest speedsTest weightsTest processorsTest tasksTest lengthTest boundTest isPartition partitionTest firstRefusal jobTests callTests refusal sameList samePair figuresAre walksAre isFailing isFitting holds everyHolds marked worked
+unfolding le greater lesser leastTo maxTasks maxWeight maxProcessors maxSpeed maxBoundLoad maxBoundSpeed sum greatestOf leastOf tabulate sumTo all greatestFrom smallestFrom smallestLeast digitsWithin digits speedOf partOf partWeight partLoad slowestOf partBound within offer boundAt bottleneckTo bottleneck ideal reach separator walk fits bid nextBid probe miss nearest heuristic startOf candidate crossingOf lesserAt tableValue crossing movesTo moves bidding firstEnds nextEnds ends meet fitsAt firstFit startOn candidateOn leastCandidate emptyFits nextRange rangeAfter single settled spread onward partitions leastBound leastBottleneck planOf difference allowance biddingFailures bisectionRounds nicolTrials nicolStop countBy foundBy imbalance eachBetween methodTest speedsTest weightsTest processorsTest tasksTest lengthTest boundTest isPartition partitionTest firstRefusal jobTests callTests refusal sameList samePair figuresAre walksAre isFailing isFitting holds everyHolds marked worked
 marked-jobs = tt

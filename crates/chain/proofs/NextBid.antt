@@ -10,8 +10,8 @@ use native.Mathlib.Decide.{decLe}
 use lib.Dec.{T, ltb, T-not}
 use borrow.Author.Tests.{lt-ltb, le-ltb}
 use Rattle.bound.specs.declared.Bound.{Bound}
-use Rattle.bound.specs.Order.{_≼_, _≺_, pick, lesser, Real, Finite}
-use Rattle.bound.proofs.Order.{finite-below, le-refl, le-trans, le-or-lt, lt-le-trans, not-both, lesser-cases, lesser-left, lesser-right}
+use Rattle.bound.specs.Order.{_≼_, _≺_, pick, Real, Finite}
+use Rattle.bound.proofs.Order.{finite-below, le-or-lt, lt-le-trans, not-both, least-cases, least-le, least-same}
 use Rattle.chain.specs.Job.{Job, tasks, last, within, offer}
 use Rattle.chain.specs.Probe.{separator, fits, bid, leastBidTo, nextBid}
 use Rattle.chain.proofs.Parts.{Proper, Plannable}
@@ -46,15 +46,9 @@ module _ (job : Job) (B : Bound) where
       go true = h (separator job B p) (suc (separator job B (suc p)))
       go false = h (separator job B p) (tasks job)
 
-  bids-to : (Q : Bound → Type 0) (q : ℕ) → ((p : ℕ) → p ≤ q → Q (bid job B p)) → Q (leastBidTo job B q)
-  unfolding leastBidTo
-  bids-to Q zero h = h 0 (omega arith)
-  bids-to Q (suc q) h =
-      lesser-cases Q (leastBidTo job B q) (bid job B (suc q)) (bids-to Q q (λ p l. h p (omega arith))) (h (suc q) (omega arith))
-
   pub next-cases : (Q : Bound → Type 0) → ((p : ℕ) → p ≤ last job → Q (bid job B p)) → Q (nextBid job B)
   unfolding nextBid
-  next-cases Q h = bids-to Q (last job) h
+  next-cases Q h = least-cases Q (bid job B) (last job) h
 
   -- In a probe that fails every separator before the end is before the last task.
   pub fails-before-end : T (not (fits job B)) → (p : ℕ) → p ≤ last job → separator job B p < tasks job
@@ -108,9 +102,7 @@ module _ (job : Job) where
 
     -- and the least of them.
     pub least-stays : (q : ℕ) → q < p → leastBidTo job C q ≡ leastBidTo job B q
-    unfolding leastBidTo
-    least-stays zero k = bid-stays 0 k
-    least-stays (suc q) k = ap₂ lesser (least-stays q (omega arith)) (bid-stays (suc q) k)
+    least-stays q k = least-same q (λ i l. bid-stays i (omega arith))
 
 module _ {job : Job} (ok : Proper job) where
   pub bid-real : (B : Bound) (p : ℕ) → Real (bid job B p)
@@ -119,24 +111,10 @@ module _ {job : Job} (ok : Proper job) where
   pub next-real : (B : Bound) → Real (nextBid job B)
   next-real B = next-cases job B Real (λ p h. bid-real B p)
 
-  least-real : (B : Bound) (q : ℕ) → Real (leastBidTo job B q)
-  least-real B q = bids-to job B Real q (λ p h. bid-real B p)
-
-  least-le : (B : Bound) (q p : ℕ) → p ≤ q → leastBidTo job B q ≼ bid job B p
-  unfolding leastBidTo
-  least-le B zero p h = subst (λ (i : ℕ). bid job B 0 ≼ bid job B i) (let e : 0 ≡ p = omega arith in e) (le-refl (bid job B 0))
-  least-le B (suc q) p h =
-      elim (decLe p q) [
-        | yes l ↦ le-trans (least-real B q) (lesser-left (leastBidTo job B q) (bid job B (suc q))) (least-le B q p l)
-        | no l ↦
-            subst (λ (i : ℕ). lesser (leastBidTo job B q) (bid job B (suc q)) ≼ bid job B i) (let e : suc q ≡ p = omega arith in e)
-            (lesser-right (leastBidTo job B q) (bid job B (suc q)))
-      ]
-
   -- The next bid is at most every bid.
   pub next-le-bid : (B : Bound) (p : ℕ) → p ≤ last job → nextBid job B ≼ bid job B p
   unfolding nextBid
-  next-le-bid B p h = least-le B (last job) p h
+  next-le-bid B p h = least-le (bid job B) (bid-real B) (last job) p h
 
   -- The next bid is at most every bound that fits.
   pub next-least : (B C : Bound) → T (not (fits job B)) → T (fits job C) → nextBid job B ≼ C

@@ -7,6 +7,7 @@ pub mod Heuristic
 pub mod Dynamic
 pub mod Bidding
 pub mod Bisection
+pub mod Nicol
 pub mod Plan
 pub mod Refusal
 pub mod Marked

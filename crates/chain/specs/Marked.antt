@@ -6,7 +6,7 @@ use lib.Dec.{eqb}
 use Rattle.bound.specs.declared.Bound.{Bound}
 use Rattle.bound.specs.Order.{over}
 use Rattle.chain.specs.declared.Method.{Method}
-use Rattle.chain.specs.declared.Method.the-variants.{Table, Bidding, Bisection}
+use Rattle.chain.specs.declared.Method.the-variants.{Table, Bidding, Bisection, Nicol}
 use Rattle.chain.specs.declared.Outcome.{Outcome}
 use Rattle.chain.specs.declared.Outcome.the-variants.{Fits, Fails}
 use Rattle.chain.specs.Job.{Job, jobOf, bottleneck}
@@ -25,29 +25,31 @@ sameList (x ∷ xs) (y ∷ ys) = eqb x y && sameList xs ys
 unfoldable pub samePair : Bound → Bound → Bool
 samePair B C = eqb (B .load) (C .load) && eqb (B .speed) (C .speed)
 
--- The three methods' figures: a count and an allowance each, by table, bidding and bisection.
-pub record Three : Type 0 where
+-- The four methods' figures: a count or an allowance each, by table, bidding, bisection and Nicol's search.
+pub record Four : Type 0 where
   pub byTable : ℕ
   pub byBidding : ℕ
   pub byBisection : ℕ
+  pub byNicol : ℕ
 
-abbrev pub three : ℕ → ℕ → ℕ → Three
-three a b c = record { byTable = a; byBidding = b; byBisection = c }
+abbrev pub four : ℕ → ℕ → ℕ → ℕ → Four
+four a b c d = record { byTable = a; byBidding = b; byBisection = c; byNicol = d }
 
 -- The figures are f's, method by method.
-unfoldable pub figuresAre : (Method → ℕ) → Three → Bool
-figuresAre f n = eqb (f Table) (n .byTable) && eqb (f Bidding) (n .byBidding) && eqb (f Bisection) (n .byBisection)
+unfoldable pub figuresAre : (Method → ℕ) → Four → Bool
+figuresAre f n =
+    eqb (f Table) (n .byTable) && eqb (f Bidding) (n .byBidding) && eqb (f Bisection) (n .byBisection) && eqb (f Nicol) (n .byNicol)
 
 -- The walk at the bottleneck that a method finds gives these separators, for each method.
 unfoldable pub walksAre : Job → List ℕ → Bool
 walksAre job s =
     sameList (walk job (foundBy Table job)) s && sameList (walk job (foundBy Bidding job)) s
-    && sameList (walk job (foundBy Bisection job)) s
+    && sameList (walk job (foundBy Bisection job)) s && sameList (walk job (foundBy Nicol job)) s
 
 -- A row of the table.
 pub data Row : Type 0 where
   -- a job's plan: separators, bottleneck, imbalance, counts, allowances
-  planned : Job → List ℕ → Bound → ℕ → Three → Three → Row
+  planned : Job → List ℕ → Bound → ℕ → Four → Four → Row
   -- a trial that fits, with its separators; one that fails, with its next bid
   fitsWith : Job → Bound → List ℕ → Row
   failsWith : Job → Bound → Bound → Row
@@ -98,23 +100,27 @@ jobE = jobOf (1 ∷ 1 ∷ []) (6 ∷ [])
 -- The table, with the figures of the scope's section 11.
 unfoldable pub marked : List Row
 marked =
-    planned jobA (0 ∷ 1 ∷ 3 ∷ []) (over 11 3) 222 (three 2 2 2) (three 3 4 8)
+    planned jobA (0 ∷ 1 ∷ 3 ∷ []) (over 11 3) 222 (four 2 2 2 2) (four 3 4 8 2)
     ∷ failsWith jobA (over 3 1) (over 11 3)
     ∷ fitsWith jobA (over 11 3) (0 ∷ 1 ∷ 3 ∷ [])
     ∷ fitsWith jobA (over 23 6) (0 ∷ 1 ∷ 3 ∷ [])
     ∷ quick jobA (0 ∷ 2 ∷ 3 ∷ []) (over 4 1)
     ∷ measures jobA (0 ∷ 3 ∷ 3 ∷ []) (over 12 1)
     ∷ refused jobA (0 ∷ 2 ∷ 2 ∷ []) 11
-    ∷ planned jobB (0 ∷ 1 ∷ 5 ∷ []) (over 12 2) 125 (three 2 2 1) (three 5 6 6)
-    ∷ planned jobC (0 ∷ 0 ∷ 0 ∷ []) (over 0 7) 0 (three 0 1 1) (three 0 1 1)
-    ∷ planned jobD (0 ∷ 2 ∷ 2 ∷ []) (over 0 1) 0 (three 0 1 1) (three 2 3 1)
-    ∷ planned jobE (0 ∷ 1 ∷ 1 ∷ []) (over 6 1) 1000 (three 1 2 1) (three 1 2 4)
+    ∷ planned jobB (0 ∷ 1 ∷ 5 ∷ []) (over 12 2) 125 (four 2 2 1 2) (four 5 6 6 3)
+    ∷ planned jobC (0 ∷ 0 ∷ 0 ∷ []) (over 0 7) 0 (four 0 1 1 0) (four 0 1 1 0)
+    ∷ planned jobD (0 ∷ 2 ∷ 2 ∷ []) (over 0 1) 0 (four 0 1 1 2) (four 2 3 1 2)
+    ∷ planned jobE (0 ∷ 1 ∷ 1 ∷ []) (over 6 1) 1000 (four 1 2 1 1) (four 1 2 4 1)
     ∷ []
 
--- Beside the marked jobs: two bids that tie, 3/1 and 6/2; two indices equally near; a midpoint that fails.
+-- Beside the marked jobs: two bids that tie, 3/1 and 6/2; two indices equally near; a midpoint that fails; a first candidate of Nicol's
+-- search, 5/1, below the last, 6/1; weights of 0 on three processors, where that search ends at the first; a single processor.
 unfoldable pub worked : List Row
 worked =
     failsWith (jobOf (1 ∷ 2 ∷ []) (3 ∷ 3 ∷ [])) (over 0 1) (over 3 1)
     ∷ quick (jobOf (1 ∷ 3 ∷ []) (1 ∷ 1 ∷ [])) (0 ∷ 0 ∷ 2 ∷ []) (over 2 3)
-    ∷ planned (jobOf (2 ∷ 3 ∷ 3 ∷ []) (6 ∷ 3 ∷ 4 ∷ 1 ∷ [])) (0 ∷ 0 ∷ 1 ∷ 4 ∷ []) (over 8 3) 523 (three 3 3 3) (three 8 9 6)
+    ∷ planned (jobOf (2 ∷ 3 ∷ 3 ∷ []) (6 ∷ 3 ∷ 4 ∷ 1 ∷ [])) (0 ∷ 0 ∷ 1 ∷ 4 ∷ []) (over 8 3) 523 (four 3 3 3 5) (four 8 9 6 6)
+    ∷ planned (jobOf (1 ∷ 1 ∷ []) (5 ∷ 1 ∷ [])) (0 ∷ 1 ∷ 2 ∷ []) (over 5 1) 666 (four 1 2 1 2) (four 2 3 4 2)
+    ∷ planned (jobOf (1 ∷ 1 ∷ 1 ∷ []) (0 ∷ 0 ∷ [])) (0 ∷ 2 ∷ 2 ∷ 2 ∷ []) (over 0 1) 0 (four 0 1 1 2) (four 4 5 1 4)
+    ∷ planned (jobOf (3 ∷ []) (5 ∷ 2 ∷ [])) (0 ∷ 2 ∷ []) (over 7 3) 0 (four 0 1 1 0) (four 0 1 5 0)
     ∷ []

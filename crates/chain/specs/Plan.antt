@@ -1,19 +1,20 @@
 -- What a plan is, and what it is held against. Scope, sections 5, 6 and 10.
-use Prim.Native.Nat.{ℕ, zero, suc, _+_, _-_, _*_, _/_, _≤_}
+use Prim.Native.Nat.{ℕ, zero, suc, _+_, _-_, _*_, _/_, _≤_, _<_}
 use mathlib.Core.Path.{_≡_}
 use mathlib.Core.Bool.{not, cond}
 use mathlib.Core.List.{List, [], _∷_, _++_, map}
-use lib.Dec.{T, eqb}
+use lib.Dec.{T, eqb, ltb}
 use Rattle.bound.specs.declared.Bound.{Bound}
-use Rattle.bound.specs.Order.{nought, lesser, _≼_, _≈_}
+use Rattle.bound.specs.Order.{nought, pick, lesser, _≼_, _≈_}
 use Rattle.chain.specs.declared.Method.{Method}
-use Rattle.chain.specs.declared.Method.the-variants.{Table, Bidding, Bisection}
-use Rattle.chain.specs.Lists.{digits, isFirst, smallestFrom}
+use Rattle.chain.specs.declared.Method.the-variants.{Table, Bidding, Bisection, Nicol}
+use Rattle.chain.specs.Lists.{digits, sumTo, all, isFirst, smallestFrom}
 use Rattle.chain.specs.Job.{Job, tasks, last, totalWeight, totalSpeed, heaviest, fastest, slowest, at, Partition, bottleneck, ideal}
 use Rattle.chain.specs.Probe.{walk, fits}
 use Rattle.chain.specs.Dynamic.{tableValue, moves}
 use Rattle.chain.specs.Bidding.{bidding}
 use Rattle.chain.specs.Bisection.{ends, meet}
+use Rattle.chain.specs.Nicol.{emptyFits, leastCandidate, settled}
 
 -- The lists of separators from a on, each made longer in front by b, for every b from a to a + d.
 unfoldable pub spread : (ℕ → List (List ℕ)) → ℕ → ℕ → List (List ℕ)
@@ -69,11 +70,25 @@ pub data BisectionEnds (job : Job) (count : ℕ) (found : Bound) : Type 0 where
   after : (rounds : ℕ) → T (not (fits job (ideal job))) → T (isFirst (λ k. meet (ends job k)) rounds) → count ≡ suc rounds
       → found ≡ (ends job rounds) .low → BisectionEnds job count found
 
+-- Scope 5.22: "The count of Nicol's search is its trials": of the processors below n together, each until its range is one index.
+pub record TrialsTo (job : Job) (n count : ℕ) : Type 0 where
+  pub trials : ℕ → ℕ
+  pub each : (p : ℕ) → p < n → T (isFirst (settled job p) (trials p))
+  pub counted : count ≡ sumTo trials n
+
+-- Scope 5.20: "Where the empty share fits, the bottleneck is nought and the search ends." Scope 5.19: "the bottleneck is the least
+-- candidate".
+pub data NicolEnds (job : Job) (count : ℕ) (found : Bound) : Type 0 where
+  early : (p : ℕ) → p < last job → T (isFirst (emptyFits job) p) → TrialsTo job (suc p) count → found ≡ nought → NicolEnds job count found
+  whole : T (all (λ p. not (emptyFits job p)) (last job)) → TrialsTo job (last job) count → found ≡ leastCandidate job
+      → NicolEnds job count found
+
 -- The method ends with this count and this bottleneck found.
 abbrev pub MethodEnds : Method → Job → ℕ → Bound → Type 0
 MethodEnds Table job count found = TableEnds job count found
 MethodEnds Bidding job count found = BiddingEnds job count found
 MethodEnds Bisection job count found = BisectionEnds job count found
+MethodEnds Nicol job count found = NicolEnds job count found
 
 -- The heaviest weight in D. Over the slowest speed it is how far bisection's ends are apart at most when it begins.
 abbrev pub breadth : Job → ℕ
@@ -83,32 +98,46 @@ breadth job = heaviest job
 unfoldable pub difference : Job → ℕ
 difference job = breadth job * (fastest job * fastest job) / slowest job
 
--- Scope 6.2: "(P − 1) × N for the table, (P − 1) × N + 1 for bidding and 1 + the binary digits of D for bisection"
+-- Scope 6.2: "(P − 1) × N for the table, (P − 1) × N + 1 for bidding, 1 + the binary digits of D for bisection and (P − 1) × the binary
+-- digits of N for Nicol's search"
 unfoldable pub allowance : Method → Job → ℕ
 allowance Table job = last job * tasks job
 allowance Bidding job = last job * tasks job + 1
 allowance Bisection job = 1 + digits (difference job)
+allowance Nicol job = last job * digits (tasks job)
 
--- The failures of bidding before a trial fits, and the rounds of bisection before its ends meet, each looked for up to the allowance.
--- The theorem `method-is` says that they are found, so this end cuts nothing off.
+-- The failures of bidding before a trial fits, and the rounds of bisection before its ends meet, each looked for up to the allowance;
+-- the trials of Nicol's search on a processor, up to the digits of N. The theorem `method-is` says that they are found, so this end
+-- cuts nothing off.
 unfoldable pub biddingFailures : Job → ℕ
 biddingFailures job = smallestFrom (λ k. fits job (bidding job k)) 0 (allowance Bidding job)
 
 unfoldable pub bisectionRounds : Job → ℕ
 bisectionRounds job = smallestFrom (λ k. meet (ends job k)) 0 (allowance Bisection job)
 
+unfoldable pub nicolTrials : Job → ℕ → ℕ
+nicolTrials job p = smallestFrom (settled job p) 0 (digits (tasks job))
+
+-- The first processor whose empty part fits, the last one where there is none before it.
+unfoldable pub nicolStop : Job → ℕ
+nicolStop job = smallestFrom (emptyFits job) 0 (last job)
+
 -- The count of each method as a number. Scope 5.9: "The table's count is its moves". Scope 5.11: "Bidding's count is its trials, with
--- the one that fits." Scope 5.16: "Bisection's count is its trials, with the first."
+-- the one that fits." Scope 5.16: "Bisection's count is its trials, with the first." Scope 5.22: "The count of Nicol's search is its
+-- trials".
 unfoldable pub countBy : Method → Job → ℕ
 countBy Table job = moves job
 countBy Bidding job = suc (biddingFailures job)
 countBy Bisection job = cond (fits job (ideal job)) 1 (suc (bisectionRounds job))
+countBy Nicol job = let p = nicolStop job in sumTo (nicolTrials job) (cond (ltb p (last job)) (suc p) (last job))
 
--- The bottleneck that each method finds. Scope 5.12: "Bisection tries the ideal and is done where that fits."
+-- The bottleneck that each method finds. Scope 5.12: "Bisection tries the ideal and is done where that fits." Scope 5.20: "Where the
+-- empty share fits, the bottleneck is nought and the search ends."
 unfoldable pub foundBy : Method → Job → Bound
 foundBy Table job = tableValue job (last job) (tasks job)
 foundBy Bidding job = bidding job (biddingFailures job)
 foundBy Bisection job = cond (fits job (ideal job)) (ideal job) ((ends job (bisectionRounds job)) .low)
+foundBy Nicol job = pick (ltb (nicolStop job) (last job)) nought (leastCandidate job)
 
 -- Scope 6.4: "The imbalance is 1000 × (bottleneck − ideal) / ideal, rounded down; it is 0 where Wtot is 0."
 unfoldable pub imbalance : Job → Bound → ℕ

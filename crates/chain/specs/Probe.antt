@@ -4,7 +4,7 @@ use mathlib.Core.Bool.{Bool, true, false}
 use mathlib.Core.List.{List, [], _∷_, _++_}
 use lib.Dec.{ltb}
 use Rattle.bound.specs.declared.Bound.{Bound}
-use Rattle.bound.specs.Order.{pick, lesser}
+use Rattle.bound.specs.Order.{pick, leastTo}
 use Rattle.chain.specs.declared.Outcome.{Outcome}
 use Rattle.chain.specs.declared.Outcome.the-variants.{Fits, Fails}
 use Rattle.chain.specs.Lists.{tabulate, greatestFrom}
@@ -34,9 +34,8 @@ bid job B p =
     pick (ltb p (last job)) (offer job p a (suc (separator job B (suc p)))) (offer job p a (tasks job))
 
 -- Scope 3.6: "Of equal bids the one of the first machine in the row is taken." The least bid of the processors 0 to p.
-unfoldable pub leastBidTo : Job → Bound → ℕ → Bound
-leastBidTo job B zero = bid job B 0
-leastBidTo job B (suc p) = lesser (leastBidTo job B p) (bid job B (suc p))
+abbrev pub leastBidTo : Job → Bound → ℕ → Bound
+leastBidTo job B p = leastTo (bid job B) p
 
 -- Scope 3.4: "the least next bid"
 unfoldable pub nextBid : Job → Bound → Bound

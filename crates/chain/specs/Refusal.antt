@@ -27,9 +27,9 @@ unfoldable pub eachBetween : ℕ → ℕ → List ℕ → Bool
 eachBetween lo hi [] = true
 eachBetween lo hi (x ∷ xs) = between lo hi x && eachBetween lo hi xs
 
--- Refusal 1: "the method is not 1 to 3"
+-- Refusal 1: "the method is not 1 to 4"
 unfoldable pub methodTest : ℕ → Test
-methodTest m = test 1 (between 1 3 m)
+methodTest m = test 1 (between 1 4 m)
 
 -- Refusal 5: "a speed is out of range"
 unfoldable pub speedsTest : List ℕ → Test

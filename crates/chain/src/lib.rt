@@ -1,11 +1,12 @@
 // The problem: definitions in specs/, theorems about them in proofs/, and the types that the definitions share with the code.
 use bound::Bound;
 
-// The methods of planning, by table, by bidding and by bisection.
+// The methods of planning: the table, bidding, bisection and Nicol's search.
 pub enum Method {
     Table,
     Bidding,
     Bisection,
+    Nicol,
 }
 
 // The answer of a probe ("trial"): it fits, or it fails with the least next bid.

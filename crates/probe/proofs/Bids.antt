@@ -1,14 +1,14 @@
 -- The bids: a part gains nothing past the last task, and the least bid so far.
 -- Assumes nothing.
-use Prim.Native.Nat.{ℕ, zero, suc, _-_, _≤_, _<_}
-use mathlib.Core.Path.{_≡_, refl, sym, ap, subst, _∙_}
+use Prim.Native.Nat.{ℕ, suc, _-_, _≤_, _<_}
+use mathlib.Core.Path.{_≡_, sym, ap, subst, _∙_}
 use native.Mathlib.Omega.{arith}
 use native.Mathlib.Decide.{decLe}
 use Rattle.bound.specs.declared.Bound.{Bound}
-use Rattle.bound.specs.Order.{lesser}
-use Rattle.bound.proofs.Order.{lesser-infinite}
+use Rattle.bound.specs.Order.{lesser, leastBelow}
+use Rattle.bound.proofs.Order.{least-next}
 use Rattle.chain.specs.Job.{Job, Valid, tasks, last, partBound, offer}
-use Rattle.chain.specs.Probe.{separator, bid, leastBidTo, nextBid}
+use Rattle.chain.specs.Probe.{separator, bid, nextBid}
 use Rattle.chain.proofs.Parts.{part-past}
 use Rattle.chain.proofs.Within.{offer-part}
 use Rattle.chain.proofs.NextBid.{bid-before, bid-last}
@@ -34,18 +34,13 @@ pub part-narrow : {job : Job} {C : Bound} (p a b : ℕ) → Valid job → C ≡ 
 part-narrow p a b v e = subst Narrow (sym e) (small-narrow (part-small v p a b))
 
 module _ {job : Job} (v : Valid job) (B : Bound) where
-  least-next : (p : ℕ) → 1 ≤ (bid job B p) .speed → lesser (leastBefore job B p) (bid job B p) ≡ leastBidTo job B p
-  unfolding leastBefore leastBidTo
-  least-next zero h = lesser-infinite (bid job B 0) h
-  least-next (suc p) h = refl
-
   -- One processor more, before the last,
   pub least-turn : (p : ℕ) → p < last job
       → lesser (leastBefore job B p) (offer job p (separator job B p) (suc (separator job B (suc p)))) ≡ leastBefore job B (suc p)
-  unfolding leastBefore
+  unfolding leastBelow
   least-turn p h =
       ap (lesser (leastBefore job B p)) (sym (bid-before job B p h))
-      ∙ least-next p
+      ∙ least-next (bid job B) p
       (subst (λ (C : Bound). 1 ≤ C .speed) (sym (bid-before job B p h))
       (offer-small v p (separator job B p) (suc (separator job B (suc p))) .speed-positive))
 
@@ -54,6 +49,6 @@ module _ {job : Job} (v : Valid job) (B : Bound) where
   unfolding nextBid
   least-end =
       ap (lesser (leastBefore job B (last job))) (sym (bid-last job B))
-      ∙ least-next (last job)
+      ∙ least-next (bid job B) (last job)
       (subst (λ (C : Bound). 1 ≤ C .speed) (sym (bid-last job B))
       (offer-small v (last job) (separator job B (last job)) (tasks job) .speed-positive))

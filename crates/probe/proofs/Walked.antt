@@ -8,7 +8,7 @@ use native.Mathlib.Omega.{arith}
 use native.Mathlib.Numerals.{add-one}
 use lib.ListN.{length, set, drop}
 use Rattle.bound.specs.declared.Bound.{Bound}
-use Rattle.bound.specs.Order.{infinite, le, lesser}
+use Rattle.bound.specs.Order.{infinite, le, lesser, leastBelow}
 use Rattle.chain.specs.Lists.{tabulate}
 use Rattle.chain.specs.Job.{Job, Valid, tasks, processors, last, offer, at}
 use Rattle.chain.specs.Probe.{reach, separator, walk, fits, probe}
@@ -48,7 +48,7 @@ pub record Walked (job : Job) (B : Bound) (before now : List ℕ) (p a : ℕ) (b
 
 -- Every walk reaches its first point,
 pub reached-first : (job : Job) (B : Bound) (xs : List ℕ) → Reached job B xs (record { processor = 0; start = 0; least = infinite })
-unfolding separator leastBefore
+unfolding separator leastBelow
 reached-first job B xs =
     record {
       to = omega arith;

@@ -1,15 +1,15 @@
 -- A walk on its way: where it stands, and what it has seen; and what a failed one leaves.
-use Prim.Native.Nat.{ℕ, zero, suc, _≤_, _<_}
+use Prim.Native.Nat.{ℕ, suc, _≤_, _<_}
 use mathlib.Core.Path.{_≡_}
 use mathlib.Core.Bool.{not}
 use mathlib.Core.List.{List}
 use lib.Dec.{T}
 use lib.ListN.{getD}
 use Rattle.bound.specs.declared.Bound.{Bound}
-use Rattle.bound.specs.Order.{infinite}
+use Rattle.bound.specs.Order.{leastBelow}
 use Rattle.chain.specs.Ranges.{Narrow}
 use Rattle.chain.specs.Job.{Job, last}
-use Rattle.chain.specs.Probe.{separator, fits, leastBidTo, nextBid}
+use Rattle.chain.specs.Probe.{separator, fits, bid, nextBid}
 use Rattle.probe.specs.declared.Point.{Point}
 
 -- r is the index after i, and n after n.
@@ -19,9 +19,8 @@ pub record OneMore (i n r : ℕ) : Type 0 where
   pub next : i < n → r ≡ suc i
 
 -- The least bid of the processors below p, infinite of none.
-unfoldable pub leastBefore : Job → Bound → ℕ → Bound
-leastBefore job B zero = infinite
-leastBefore job B (suc p) = leastBidTo job B p
+abbrev pub leastBefore : Job → Bound → ℕ → Bound
+leastBefore job B p = leastBelow (bid job B) p
 
 -- The walk at the bound B has come to this point, and the separators before it stand in the list xs.
 pub record Reached (job : Job) (B : Bound) (xs : List ℕ) (point : Point) : Type 0 where
