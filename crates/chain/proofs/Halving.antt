@@ -2,17 +2,17 @@
 -- allowance.
 -- Assumes nothing.
 use Prim.Native.Nat.{ℕ, zero, suc, _+_, _-_, _*_, _/_, _^_, _≤_, _<_}
-use mathlib.Core.Path.{_≡_, refl, sym, ap, subst, _∙_}
+use mathlib.Core.Path.{_≡_, refl, sym, subst, _∙_}
 use mathlib.Core.Bool.{Bool, true, false, not, cond}
 use mathlib.Core.Logic.{inl, inr}
 use native.Mathlib.Omega.{arith}
 use native.Mathlib.Decide.{decLe}
-use native.Mathlib.Nat.{mul-le-mul-left, mul-le-mul-right, le-trans}
+use native.Mathlib.Nat.{mul-le-mul-left, mul-le-mul-right}
 use lib.Dec.{T, eqb, ltb, T-not, eqb→eq}
 use borrow.Author.Tests.{eq-eqb, lt-ltb, le-ltb}
 use Rattle.bound.specs.declared.Bound.{Bound}
 use Rattle.bound.specs.Order.{nought, pick}
-use Rattle.chain.specs.Lists.{sumTo, all, isFirst, smallestFrom, digits}
+use Rattle.chain.specs.Lists.{sumTo, all, isFirst, digits}
 use Rattle.chain.specs.Job.{Job, tasks, last}
 use Rattle.chain.specs.Nicol.{Range, fitsAt, firstFit, startOn, leastCandidate, emptyFits, Comes, nextRange, rangeAfter, single, settled}
 use Rattle.chain.specs.Plan.{TrialsTo, NicolEnds, early, whole, allowance, nicolTrials, nicolStop}

@@ -16,13 +16,13 @@ use Rattle.chain.specs.Lists.{isFirst}
 use Rattle.chain.specs.Job.{Job, tasks, last, partBound}
 use Rattle.chain.specs.Probe.{separator, fits}
 use Rattle.chain.specs.Nicol.{fitsAt, firstFit, startOn, candidateOn, leastCandidate, emptyFits, Comes}
-use Rattle.chain.proofs.Tests.{T-of, T-not-of, T-false}
+use Rattle.chain.proofs.Tests.{T-of, T-not-of}
 use Rattle.chain.proofs.Parts.{Proper, Plannable, part-empty, part-right, part-finite, part-real}
 use Rattle.chain.proofs.Within.{within-of, within-bound, within-empty, within-shrink}
 use Rattle.chain.proofs.Indices.{Smallest, smallest-is, first-holds, first-fails}
 use Rattle.chain.proofs.Cover.{Cover}
 use Rattle.chain.proofs.CoverLaws.{cover-raise}
-use Rattle.chain.proofs.Walk.{separator-to, separator-within, fits-last, cover-fits, fits-raise, fails-finite}
+use Rattle.chain.proofs.Walk.{separator-within, fits-last, cover-fits, fits-raise, fails-finite}
 use Rattle.chain.proofs.Best.{Least}
 
 module _ (job : Job) where

@@ -5,20 +5,18 @@ use mathlib.Core.Path.{_≡_, refl, sym, ap, ap₂, subst, _∙_}
 use mathlib.Core.Bool.{Bool, true, false, not}
 use mathlib.Core.Logic.{_≢_}
 use native.Mathlib.Omega.{arith}
-use native.Mathlib.Numerals.{add-one}
-use lib.Dec.{T, eqb, T-not, not-T}
+use lib.Dec.{T, eqb, not-T}
 use borrow.Author.Tests.{eq-eqb, ne-eqb}
 use Rattle.bound.specs.declared.Bound.{Bound}
 use Rattle.bound.specs.Order.{nought, infinite, lesser, leastBelow}
 use Rattle.bound.proofs.Order.{least-next}
 use Rattle.chain.specs.declared.Outcome.the-variants.{Fits, Fails}
-use Rattle.chain.specs.declared.Method.the-variants.{Nicol}
 use Rattle.chain.specs.Ranges.{Small, Lendable, Narrow}
 use Rattle.chain.specs.Lists.{sumTo, isFirst, digits}
-use Rattle.chain.specs.Job.{Job, Valid, tasks, processors, last, partBound}
+use Rattle.chain.specs.Job.{Job, Valid, tasks, last, partBound}
 use Rattle.chain.specs.Probe.{fits, probe}
 use Rattle.chain.specs.Nicol.{Range, fitsAt, firstFit, startOn, candidateOn, leastCandidate, emptyFits, Comes, nextRange, rangeAfter, single, settled}
-use Rattle.chain.specs.Plan.{TrialsTo, NicolEnds, early, whole, allowance, nicolTrials}
+use Rattle.chain.specs.Plan.{TrialsTo, NicolEnds, early, whole, nicolTrials}
 use Rattle.chain.proofs.Tests.{T-of, T-not-of, T-true, T-false}
 use Rattle.chain.proofs.Parts.{valid-proper, valid-plannable}
 use Rattle.chain.proofs.Indices.{all-of, first-of, first-unique, below-next}
@@ -95,18 +93,18 @@ module _ {job : Job} (v : Valid job) {p low high k : ℕ} (l : p < last job) (c 
     more : (j : ℕ) → j < suc k → T (not (settled job p j))
     more = below-next {Q = λ j. T (not (settled job p j))} (w .apart) (unsettled h)
 
-    pub halving-fits : true ≡ fitsAt job p a m → Halving job p low m (k + 1)
+    pub halving-fits : {k′ : ℕ} → true ≡ fitsAt job p a m → k′ ≡ suc k → Halving job p low m k′
     unfolding turn
-    halving-fits f =
-        subst (Halving job p low m) (sym (add-one k))
+    halving-fits f z =
+        subst (Halving job p low m) (sym z)
         (record { low-is = sym (ap (λ (R : Range). R .low) (next-is f)); high-is = sym (ap (λ (R : Range). R .high) (next-is f)); apart = more })
 
-    pub halving-fails : false ≡ fitsAt job p a m → Halving job p (m + 1) high (k + 1)
+    pub halving-fails : {low′ k′ : ℕ} → false ≡ fitsAt job p a m → low′ ≡ suc m → k′ ≡ suc k → Halving job p low′ high k′
     unfolding turn
-    halving-fails f =
-        subst (Halving job p (m + 1) high) (sym (add-one k))
+    halving-fails {low′} f y z =
+        subst (Halving job p low′ high) (sym z)
         (record {
-          low-is = add-one m ∙ sym (ap (λ (R : Range). R .low) (next-is f));
+          low-is = y ∙ sym (ap (λ (R : Range). R .low) (next-is f));
           high-is = sym (ap (λ (R : Range). R .high) (next-is f));
           apart = more;
         })
@@ -149,9 +147,10 @@ module _ {job : Job} (v : Valid job) {p a count : ℕ} {least : Bound} (w : Sear
   -- The last processor's candidate is the last.
   pub searching-end : {B C : Bound} → last job ≤ p → B ≡ partBound job p a (tasks job) → C ≡ lesser least B → NicolEnds job count C × Lendable C
   unfolding leastCandidate
-  searching-end {B} {C} h e f =
-      (whole (all-of (λ q. not (emptyFits job q)) (last job) (λ q k. w .comes .none q (omega (arith, k, h)))) trials found,
-      subst Lendable (sym found) (small-lendable (least-candidate-cases job Small (part-small v))))
+  searching-end {B} {C} h e f = (
+    whole (all-of (λ q. not (emptyFits job q)) (last job) (λ q k. w .comes .none q (omega (arith, k, h)))) trials found,
+    subst Lendable (sym found) (small-lendable (least-candidate-cases job Small (part-small v))),
+  )
     where
       here : p ≡ last job
       here = omega (arith, w .to)
@@ -214,22 +213,23 @@ module _ {job : Job} (v : Valid job) {p a count : ℕ} {least : Bound} (w : Sear
       )
 
       -- and else brings it to the next processor.
-      pub searching-next : {C D : Bound} → end ≢ a → C ≡ partBound job p a end → D ≡ lesser least C → Searching job (p + 1) (end - 1) (count + k) D
+      pub searching-next : {p′ a′ count′ : ℕ} {C D : Bound} → end ≢ a → C ≡ partBound job p a end → D ≡ lesser least C → p′ ≡ suc p → a′ ≡ end - 1 → count′ ≡ count + k
+          → Searching job p′ a′ count′ D
       unfolding startOn leastBelow
-      searching-next {C} {D} n f g =
-          subst (λ (q : ℕ). Searching job q (end - 1) (count + k) D) (sym (add-one p))
+      searching-next {p′} {a′} {count′} {C} {D} n f g x y z =
+          subst (λ (q : ℕ). Searching job q a′ count′ D) (sym x)
           (record {
             to = l;
-            start-is = ap (λ (i : ℕ). i - 1) end-is;
+            start-is = y ∙ ap (λ (i : ℕ). i - 1) end-is;
             comes =
                 record {
                   none = below-next {Q = λ q. T (not (emptyFits job q))} (w .comes .none)
-                      (not-T (emptyFits job p) (λ x. n (end-is ∙ empty-found (valid-proper v) p x ∙ sym (w .start-is))));
+                      (not-T (emptyFits job p) (λ u. n (end-is ∙ empty-found (valid-proper v) p u ∙ sym (w .start-is))));
                 };
-            counted = total;
+            counted = z ∙ total;
             least-is =
                 g ∙ ap (lesser least) is-candidate ∙ ap (λ (E : Bound). lesser E (candidateOn job p)) (w .least-is)
-                ∙ least-next (candidateOn job) p (subst (λ (E : Bound). 1 ≤ E .speed) is-candidate (subst (λ (E : Bound). 1 ≤ E .speed) (sym f) (part-small v p a end .speed-positive)));
+                ∙ least-next (candidateOn job) p (subst (λ (E : Bound). 1 ≤ E .speed) (sym f ∙ is-candidate) (part-small v p a end .speed-positive));
             small = subst Narrow (sym g) (lesser-narrow (w .small) (subst Narrow (sym f) (small-narrow (part-small v p a end))));
           })
         where

@@ -1,5 +1,5 @@
 // Nicol's search: scope 5.17 to 5.22. All functions here are inner: their callers have tested the job.
-ghost use Prim.Native.Nat.{suc, _≤_, _<_};
+ghost use Prim.Native.Nat.{suc, _+_, _/_, _≤_, _<_, _^_};
 ghost use mathlib.Core.Path.{_≡_};
 ghost use lib.Dec.{T};
 ghost use lib.ListN.{length};
@@ -20,6 +20,14 @@ use probe::probe_in;
 pub struct FirstFit {
     pub index: usize,
     pub trials: u32,
+}
+
+// Inner. The middle of a range, rounded down.
+fn middle_of(low: usize, high: usize) -> usize
+    requires { ⌜ low + high < 2 ^ 33 ⌝ }
+    ensures { λ r. ⌜ r ≡ (low + high) / 2 ⌝ }
+{
+    (low + high) / 2
 }
 
 // Inner. The bound of the part from a to j on processor p.
@@ -82,7 +90,7 @@ fn first_fit(
     let mut high = weights.len();
     let mut trials = 0u32;
     while low < high {
-        let middle = (low + high) / 2;
+        let middle = middle_of(low, high);
         trials += 1;
         if fits_at(speeds, weights, sums, p, a, middle, separators) {
             high = middle;

@@ -1,7 +1,6 @@
 -- `bound_to` meets its contract.
 -- Assumes nothing.
 use mathlib.Core.Path.{_≡_, refl, sym, subst}
-use Rattle.bound.specs.declared.Bound.{Bound}
 use Rattle.chain.specs.Ranges.{Small}
 use Rattle.chain.specs.Job.{Job, jobOf, partBound}
 use Rattle.chain.proofs.Ranges.{part-small}

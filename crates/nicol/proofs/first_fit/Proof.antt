@@ -1,10 +1,10 @@
 -- `first_fit` meets its contract: the loop keeps `Halving`.
 -- Assumes nothing.
-use Prim.Native.Nat.{suc, _-_, _^_, _<_}
+use Prim.Native.Nat.{suc, _-_}
 use mathlib.Core.Path.{sym, _∙_}
 use native.Mathlib.Omega.{arith}
 use lib.ListN.{length}
-use Rattle.chain.specs.Job.{Job, jobOf, tasks}
+use Rattle.chain.specs.Job.{jobOf}
 use Rattle.chain.proofs.Ranges.{index-fits}
 use Rattle.parts.specs.Kept.{KeptFrom}
 use Rattle.parts.proofs.Front.{kept-start, kept-trans}
@@ -24,8 +24,8 @@ loop-holds c =
     let s = c .before .before .before .before in
     (halving-start (s .pre .1 .1 .1) (omega arith), kept-start (suc (length (s .args .speeds .now))) (s .args .separators .now))
 
-add-middle : tie.Need-add-middle Inv-loop μ-loop
-add-middle c =
+middle-of-requires : tie.Need-middle-of-requires Inv-loop μ-loop
+middle-of-requires c κs =
     let s = c .before .before .before .before .before .before in
     let l = c .before .loop in
     let v = s .pre .0 .valid in
@@ -33,13 +33,13 @@ add-middle c =
 
 add-trials : tie.Need-add-trials Inv-loop μ-loop
 add-trials c =
-    let s = c .before .before .before .before .before .before in
-    omega (arith, halving-count (s .pre .0 .valid) (s .pre .1 .1 .0) (s .pre .1 .1 .2) (c .before .loop .inv .0) (omega arith))
+    let s = c .before .before .before .before .before .before .before in
+    omega (arith, halving-count (s .pre .0 .valid) (s .pre .1 .1 .0) (s .pre .1 .1 .2) (c .before .before .loop .inv .0) (omega arith))
 
 fits-at-requires : tie.Need-fits-at-requires Inv-loop μ-loop
 fits-at-requires c κs =
-    let s = c .before .before .before .before .before .before .before in
-    let l = c .before .before .loop in
+    let s = c .before .before .before .before .before .before .before .before in
+    let l = c .before .before .before .loop in
     let v = s .pre .0 .valid in
     let from = halving-from v (s .pre .1 .1 .0) (s .pre .1 .1 .2) (l .inv .0) in
     let to = halving-to v (s .pre .1 .1 .0) (s .pre .1 .1 .2) (l .inv .0) in (
@@ -55,17 +55,17 @@ loop-less c = omega arith
 
 loop-again : tie.Need-loop-again Inv-loop μ-loop
 loop-again c =
-    let s = c .before .before .before .before .before .before .before .before .before .before .before in
-    let l = c .before .before .before .before .before .before .loop in
+    let s = c .before .before .before .before .before .before .before .before .before .before .before .before in
+    let l = c .before .before .before .before .before .before .before .loop in
     let r = c .before .before .before .fits-at in (
-      halving-fits (s .pre .0 .valid) (s .pre .1 .1 .0) (s .pre .1 .1 .2) (l .inv .0) (s .pre .1 .1 .1) (omega arith) (omega arith) (sym (c .if1 .taken) ∙ r .ensures .0),
+      halving-fits (s .pre .0 .valid) (s .pre .1 .1 .0) (s .pre .1 .1 .2) (l .inv .0) (s .pre .1 .1 .1) (omega arith) (c .before .before .before .before .before .middle-of .ensures) (sym (c .if1 .taken) ∙ r .ensures .0) (omega arith),
       kept-trans (l .inv .1) (r .ensures .1),
     )
 
 add-low : tie.Need-add-low Inv-loop μ-loop
 add-low c =
-    let s = c .before .before .before .before .before .before .before .before .before .before .before in
-    let l = c .before .before .before .before .before .before .loop in
+    let s = c .before .before .before .before .before .before .before .before .before .before .before .before in
+    let l = c .before .before .before .before .before .before .before .loop in
     let v = s .pre .0 .valid in
     omega (arith, index-fits v (halving-to v (s .pre .1 .1 .0) (s .pre .1 .1 .2) (l .inv .0)))
 
@@ -74,10 +74,10 @@ loop-less-2 c = omega arith
 
 loop-again-2 : tie.Need-loop-again-2 Inv-loop μ-loop
 loop-again-2 c =
-    let s = c .before .before .before .before .before .before .before .before .before .before .before in
-    let l = c .before .before .before .before .before .before .loop in
+    let s = c .before .before .before .before .before .before .before .before .before .before .before .before in
+    let l = c .before .before .before .before .before .before .before .loop in
     let r = c .before .before .before .fits-at in (
-      halving-fails (s .pre .0 .valid) (s .pre .1 .1 .0) (s .pre .1 .1 .2) (l .inv .0) (s .pre .1 .1 .1) (omega arith) (omega arith) (sym (c .if1 .left) ∙ r .ensures .0),
+      halving-fails (s .pre .0 .valid) (s .pre .1 .1 .0) (s .pre .1 .1 .2) (l .inv .0) (s .pre .1 .1 .1) (omega arith) (c .before .before .before .before .before .middle-of .ensures) (sym (c .if1 .left) ∙ r .ensures .0) (omega arith) (omega arith),
       kept-trans (l .inv .1) (r .ensures .1),
     )
 
@@ -98,7 +98,7 @@ first-fit-spec =
     Inv-loop
     μ-loop
     loop-holds
-    add-middle
+    middle-of-requires
     add-trials
     fits-at-requires
     loop-less

@@ -64,7 +64,7 @@ bound-to-requires c κs =
 
 lesser-requires : tie.Need-lesser-requires Inv-loop μ-loop
 lesser-requires c κs =
-    narrow-products (c .before .before .before .before .before .before .before .before .loop .inv .0 .small) (small-narrow (c .bound-to .ensures .1))
+    search (narrow-products, c .before .before .before .before .before .before .before .before .loop .inv .0 .small, small-narrow (c .bound-to .ensures .1))
 
 sub-a : tie.Need-sub-a Inv-loop μ-loop
 sub-a c =
@@ -85,7 +85,7 @@ loop-again c =
     let l = c .before .before .before .before .before .before .before .before .before .loop in
     let r = c .before .before .before .before .before .before .first-fit in (
       searching-next (s .pre .0 .valid) (l .inv .0) (c .before .before .before .before .before .before .before .before .loop-test .taken) (r .ensures .0) (r .result .trials) (r .ensures .1 .0) (c .before .before .if1 .left)
-          (c .before .bound-to .ensures .0) (c .lesser .ensures),
+          (c .before .bound-to .ensures .0) (c .lesser .ensures) (omega arith) (omega arith) (omega arith),
       kept-trans (l .inv .1) (r .ensures .1 .1),
     )
 
@@ -96,7 +96,7 @@ bound-to-requires-2 c κs =
     (s .pre .0, (omega (arith, l .inv .0 .to, s .pre .0 .valid .some-processor), searching-inside (s .pre .0 .valid) (l .inv .0), omega arith))
 
 lesser-requires-2 : tie.Need-lesser-requires-2 Inv-loop μ-loop
-lesser-requires-2 c κs = narrow-products (c .before .before .loop .inv .0 .small) (small-narrow (c .bound-to2 .ensures .1))
+lesser-requires-2 c κs = search (narrow-products, c .before .before .loop .inv .0 .small, small-narrow (c .bound-to2 .ensures .1))
 
 same-length-2 : tie.Need-same-length-2 Inv-loop μ-loop
 same-length-2 c = c .before .before .before .loop .inv .1 .same
