@@ -1,4 +1,4 @@
--- The worked jobs of the scope, section 11, and six more, hold of the definitions: the checker computes the whole table.
+-- The worked jobs of the scope, section 11, and seven more, hold of the definitions: the checker computes the whole table.
 -- Assumes nothing.
 use mathlib.Core.List.{_++_}
 use lib.Dec.{T}

@@ -114,13 +114,15 @@ marked =
     ∷ []
 
 -- Beside the marked jobs: two bids that tie, 3/1 and 6/2; two indices equally near; a midpoint that fails; a first candidate of Nicol's
--- search, 5/1, below the last, 6/1; weights of 0 on three processors, where that search ends at the first; a single processor.
+-- search, 5/1, below the last, 6/1; equal weights on three processors, of which the search starts the second behind a task; weights of
+-- 0 on three processors, where it ends at the first; a single processor.
 unfoldable pub worked : List Row
 worked =
     failsWith (jobOf (1 ∷ 2 ∷ []) (3 ∷ 3 ∷ [])) (over 0 1) (over 3 1)
     ∷ quick (jobOf (1 ∷ 3 ∷ []) (1 ∷ 1 ∷ [])) (0 ∷ 0 ∷ 2 ∷ []) (over 2 3)
     ∷ planned (jobOf (2 ∷ 3 ∷ 3 ∷ []) (6 ∷ 3 ∷ 4 ∷ 1 ∷ [])) (0 ∷ 0 ∷ 1 ∷ 4 ∷ []) (over 8 3) 523 (four 3 3 3 5) (four 8 9 6 6)
     ∷ planned (jobOf (1 ∷ 1 ∷ []) (5 ∷ 1 ∷ [])) (0 ∷ 1 ∷ 2 ∷ []) (over 5 1) 666 (four 1 2 1 2) (four 2 3 4 2)
+    ∷ planned (jobOf (1 ∷ 1 ∷ 1 ∷ []) (2 ∷ 2 ∷ 2 ∷ 2 ∷ 2 ∷ 2 ∷ [])) (0 ∷ 2 ∷ 4 ∷ 6 ∷ []) (over 4 1) 0 (four 7 1 1 5) (four 12 13 3 6)
     ∷ planned (jobOf (1 ∷ 1 ∷ 1 ∷ []) (0 ∷ 0 ∷ [])) (0 ∷ 2 ∷ 2 ∷ 2 ∷ []) (over 0 1) 0 (four 0 1 1 2) (four 4 5 1 4)
     ∷ planned (jobOf (3 ∷ []) (5 ∷ 2 ∷ [])) (0 ∷ 2 ∷ []) (over 7 3) 0 (four 0 1 1 0) (four 0 1 5 0)
     ∷ []
