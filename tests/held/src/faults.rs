@@ -434,6 +434,7 @@ const FAULTS: &[(&str, &str, Run)] = &[
     ("count-nicol", "Nicol's search: the closing walk counted", |l| l.figure(l.is_plan(4), 0, |_, v| v + 1)),
     ("count-nicol-early", "Nicol's search: goes on where the empty share fits", |l| l.figure(l.is_plan(4), 0, |j, v| if methods::ideal(j).0 == 0 { times_digits(j, j.speeds.len() - 1, 0) } else { v })),
     ("count-nicol-high", "Nicol's search: N, known to fit, tried too", |l| l.figure(l.is_plan(4), 0, |j, v| v + j.speeds.len() as u64 - 1)),
+    ("count-nicol-many", "Nicol's search: a trial not counted, with more than 200 machines and 2,000 tiles", |l| l.figure(l.is_plan(4) && l.at[0].1 > 200 && l.at[1].1 > 2_000, 0, |_, v| v.saturating_sub(1))),
     ("count-nicol-bisection", "Nicol's search: bisection's count", |l| l.figure(l.is_plan(4), 0, |j, _| methods::halvings(j))),
     ("count-zero", "table: moves over tiles of weight 0 not counted", |l| l.figure(l.is_plan(1), 0, |j, v| v.saturating_sub(j.weights.iter().filter(|&&w| w == 0).count() as u64))),
     ("allowance-table", "table: one too many", |l| l.figure(l.is_plan(1), 1, |_, v| v + 1)),
