@@ -13,10 +13,11 @@
 extern "C" {
 #endif
 
-/* The methods. All three give the same plan; they differ in the work that they do. */
+/* The methods. All four give the same plan; they differ in the work that they do. */
 #define PELSHAQU_TABLE 1
 #define PELSHAQU_BIDDING 2
 #define PELSHAQU_BISECTION 3
+#define PELSHAQU_NICOL 4
 
 /* The most machines of a job, and the bytes of its plan. */
 #define PELSHAQU_MAX_MACHINES 256
@@ -29,13 +30,13 @@ extern "C" {
  * job, job_len    a job file: 8-byte records without a header, little-endian. Byte 0 is the kind (1 machine, 2 tile), bytes 1
  *                 to 3 are zero, bytes 4 to 7 are the speed (1 to 10,000) or the weight (0 to 1,000,000). Machines come first:
  *                 1 to 256 machines, then 0 to 2,048 tiles.
- * method          1 table, 2 bidding, 3 bisection.
+ * method          1 table, 2 bidding, 3 bisection, 4 Nicol's search.
  * plan, plan_len  the buffer for the plan: a 16-byte record a machine, four 32-bit little-endian fields: the separator before
  *                 the machine's tiles, the separator after them, their weight, the machine's speed. Machine p takes the tiles
  *                 from the first field plus 1 to the second field. The first 16 bytes a machine are filled, later bytes stay.
  *
  * Returns 0, or the number of the refusal; a refusal changes nothing. They are tested in this order:
- *    1  the method is not 1 to 3
+ *    1  the method is not 1 to 4
  *    2  the file's length is not a multiple of 8
  *    3  a kind other than 1 or 2, or bytes 1 to 3 of a record not zero   } record by record from the front,
  *    4  a machine after a tile                                           } in rising order within a record

@@ -16,7 +16,7 @@ pub struct Contest {
     pub jobs: usize,
 }
 
-pub const CONTESTS: [Contest; 6] = [
+pub const CONTESTS: [Contest; 7] = [
     Contest {
         name: "table",
         sides: [("planner_table", sides::planner_table), ("plain_table", sides::plain_table)],
@@ -43,6 +43,12 @@ pub const CONTESTS: [Contest; 6] = [
         ],
         answers: 5,
         jobs: 64,
+    },
+    Contest {
+        name: "Nicol",
+        sides: [("planner_nicol", sides::planner_nicol), ("plain_nicol", sides::plain_nicol)],
+        answers: 5,
+        jobs: 12,
     },
     Contest {
         name: "quick plan",

@@ -59,6 +59,7 @@ pub enum Method {
     Bidding,
     BiddingResumed,
     Bisection,
+    Nicol,
 }
 
 /// No early end, so that several are tested at once.
@@ -295,6 +296,35 @@ fn bisection(speeds: &[u32], sums: &[u32], separators: &mut [u32]) -> Found {
     Found { bound: low, count }
 }
 
+/// Nicol's search: for each machine but the last the smallest end of its part at whose bound the whole job fits, by halving.
+/// That bound is a candidate, and so is what is left for the last machine; the machine keeps its part without the last tile.
+fn nicol(speeds: &[u32], sums: &[u32], separators: &mut [u32]) -> Found {
+    let n = sums.len() - 1;
+    let last = speeds.len() - 1;
+    let mut best = Bound::ENDLESS;
+    let mut count = 0;
+    let mut start = 0;
+    for &speed in &speeds[..last] {
+        let mut low = start;
+        let mut high = n;
+        while low < high {
+            let middle = (low + high) / 2;
+            match trial(speeds, sums, part_bound(sums, start, middle, speed), separators) {
+                None => high = middle,
+                Some(_) => low = middle + 1,
+            }
+            count += 1;
+        }
+        best = best.lesser(part_bound(sums, start, low, speed));
+        if low == start {
+            return Found { bound: best, count };
+        }
+        start = low - 1;
+    }
+    best = best.lesser(part_bound(sums, start, n, speeds[last]));
+    Found { bound: best, count }
+}
+
 /// A row's entry as a bound.
 #[inline]
 fn entry(pair: [u32; 2]) -> Bound {
@@ -352,6 +382,7 @@ fn allowance(method: Method, speeds: &[u32], weights: &[u32]) -> u32 {
             let slowest = speeds.iter().copied().min().unwrap_or(1) as u64;
             1 + (64 - (heaviest * (fastest * fastest) / slowest).leading_zeros())
         }
+        Method::Nicol => (speeds.len() - 1) as u32 * (usize::BITS - weights.len().leading_zeros()),
     }
 }
 
@@ -382,6 +413,7 @@ pub fn plan(
         Method::Bidding => bidding(speeds, sums, separators),
         Method::BiddingResumed => bidding_resumed(speeds, sums, separators),
         Method::Bisection => bisection(speeds, sums, separators),
+        Method::Nicol => nicol(speeds, sums, separators),
     };
     trial(speeds, sums, found.bound, separators);
     let bottleneck = bottleneck(speeds, sums, separators);

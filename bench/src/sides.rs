@@ -108,6 +108,12 @@ pub fn planner_bisection(job: &Job, room: &mut Room) -> u32 {
 
 #[no_mangle]
 #[inline(never)]
+pub fn planner_nicol(job: &Job, room: &mut Room) -> u32 {
+    planner_plan(4, job, room)
+}
+
+#[no_mangle]
+#[inline(never)]
 pub fn planner_quick(job: &Job, room: &mut Room) -> u32 {
     // SAFETY: as above.
     unsafe {
@@ -191,6 +197,12 @@ pub fn plain_resumed(job: &Job, room: &mut Room) -> u32 {
 #[inline(never)]
 pub fn plain_bisection(job: &Job, room: &mut Room) -> u32 {
     plain_plan(Method::Bisection, job, room)
+}
+
+#[no_mangle]
+#[inline(never)]
+pub fn plain_nicol(job: &Job, room: &mut Room) -> u32 {
+    plain_plan(Method::Nicol, job, room)
 }
 
 #[no_mangle]

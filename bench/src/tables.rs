@@ -4,20 +4,22 @@ use crate::measure::{growth, FASTEST, GROWTH_PROCESSORS, GROWTH_TASKS, PLACEMENT
 use crate::records::{self, Records};
 
 /// A table of ratios: its title and the two sides.
-const RATIOS: [(&str, &str, &str); 6] = [
+const RATIOS: [(&str, &str, &str); 7] = [
     ("Table", "planner_table", "plain_table"),
     ("Bidding, plain Rust in the same resumed form", "planner_bidding", "plain_resumed"),
     ("Bidding, plain Rust with every walk from machine 1", "planner_bidding", "plain_bidding"),
     ("Bisection", "planner_bisection", "plain_bisection"),
+    ("Nicol's search", "planner_nicol", "plain_nicol"),
     ("Quick plan", "planner_quick", "plain_quick"),
     ("Single trial", "planner_trial", "plain_trial"),
 ];
 
 /// A side's name as a column's title, with the plain Rust beside it.
-const PAIRS: [(&str, &str, &str); 5] = [
+const PAIRS: [(&str, &str, &str); 6] = [
     ("table", "planner_table", "plain_table"),
     ("bidding", "planner_bidding", "plain_resumed"),
     ("bisection", "planner_bisection", "plain_bisection"),
+    ("Nicol", "planner_nicol", "plain_nicol"),
     ("quick plan", "planner_quick", "plain_quick"),
     ("single trial", "planner_trial", "plain_trial"),
 ];
@@ -186,7 +188,7 @@ fn counts(records: &Records) {
     println!("## Moves and trials against allowances\n");
     println!("Speeds 1–4, N = {TASKS}: the mean count, the mean allowance, and the greatest part of its allowance that a job took.\n");
     let mut columns = texts(&["weights", "N/P"]);
-    for method in ["table: moves", "bidding: trials", "bisection: trials"] {
+    for method in ["table: moves", "bidding: trials", "bisection: trials", "Nicol: trials"] {
         columns.extend([method.to_string(), "allowance".to_string(), "most".to_string()]);
     }
     head(&columns);
@@ -194,7 +196,7 @@ fn counts(records: &Records) {
         for processors in PROCESSORS {
             let shape = Shape { family, tasks: TASKS, processors, fastest: 4 };
             let mut cells = vec![family.name().to_string(), (TASKS / processors).to_string()];
-            for method in ["table", "bidding", "bisection"] {
+            for method in ["table", "bidding", "bisection", "Nicol"] {
                 let fact = |name: &str| records.get("fact", &format!("{method} {name}"), shape);
                 cells.push(format!("{:.1}", fact("count")));
                 cells.push(format!("{:.1}", fact("allowance")));
@@ -237,7 +239,7 @@ fn imbalances(records: &Records) {
 fn growth_table(records: &Records, shapes: &[Shape]) {
     let mut columns = texts(&["N", "P"]);
     columns.extend(PAIRS.iter().map(|pair| pair.0.to_string()));
-    columns.extend(texts(&["table, ns an entry", "a bisection's trial"]));
+    columns.extend(texts(&["table, ns an entry", "a bisection's trial", "a trial of Nicol's"]));
     head(&columns);
     for &shape in shapes {
         let mut cells = vec![shape.tasks.to_string(), shape.processors.to_string()];
@@ -245,8 +247,9 @@ fn growth_table(records: &Records, shapes: &[Shape]) {
         cells.extend(PAIRS.iter().map(|pair| micros(time(pair.1))));
         let entries = (shape.tasks + 1) * shape.processors;
         cells.push(format!("{:.1}", time("planner_table") / entries as f64));
-        let trials = records.get("fact", "bisection count", shape) + 1.0;
-        cells.push(micros(time("planner_bisection") / trials));
+        let trials = |method: &str| records.get("fact", &format!("{method} count"), shape) + 1.0;
+        cells.push(micros(time("planner_bisection") / trials("bisection")));
+        cells.push(micros(time("planner_nicol") / trials("Nicol")));
         row(&cells);
     }
     println!();
@@ -266,7 +269,8 @@ pub fn print(files: &[String]) {
     counts(&records);
     imbalances(&records);
     println!("## Growth with N and with P, in microseconds\n");
-    println!("The planner; lognormal weights, speeds 1–4. The last column is bisection's time over its trials and the closing walk.\n");
+    println!("The planner; lognormal weights, speeds 1–4. The last columns are the time of bisection and of Nicol's search over their trials");
+    println!("and the closing walk.\n");
     growth_table(&records, &GROWTH_TASKS.map(|tasks| growth(tasks, 64)));
     growth_table(&records, &GROWTH_PROCESSORS.map(|processors| growth(TASKS, processors)));
 }

@@ -24,7 +24,7 @@ int main(void) {
     n += put(job + n, 2, 1); /* three tiles, of weight 1, 3 and 8 */
     n += put(job + n, 2, 3);
     n += put(job + n, 2, 8);
-    for (uint32_t method = PELSHAQU_TABLE; method <= PELSHAQU_BISECTION; method++) {
+    for (uint32_t method = PELSHAQU_TABLE; method <= PELSHAQU_NICOL; method++) {
         uint32_t number = plan_job(job, n, method, plan, sizeof plan);
         if (number != 0) {
             printf("method %u: refused %u\n", method, number);

@@ -35,7 +35,7 @@ static uint32_t take(struct job *job, const uint8_t *r) {
 }
 
 static uint32_t judge(struct job *job, const uint8_t *file, size_t len, uint32_t method, size_t plan_len) {
-    if (method < 1 || method > 3) return 1;
+    if (method < 1 || method > 4) return 1;
     if (len % 8) return 2;
     for (size_t i = 0; i < len; i += 8) {
         uint32_t number = take(job, file + i);
@@ -92,7 +92,7 @@ int LLVMFuzzerTestOneInput(const uint8_t *data, size_t size) {
     static struct job job;
     static uint8_t plan[PELSHAQU_MAX_PLAN + 256], before[sizeof plan];
     if (size < 2) return 0;
-    uint32_t method = data[0] % 5;
+    uint32_t method = data[0] % 6;
     const uint8_t *file = data + 2;
     size_t len = size - 2;
     size_t records = len / 8 < PELSHAQU_MAX_MACHINES ? len / 8 : PELSHAQU_MAX_MACHINES;

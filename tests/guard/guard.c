@@ -77,9 +77,9 @@ static void both(const uint8_t *job, size_t job_len, uint32_t method, size_t pla
 
 /* A job by each method, with a plan buffer of every length from 0 to a record more than it needs. */
 static void every_length(const uint8_t *job, size_t job_len, const uint8_t *plan, size_t needed) {
-    for (uint32_t method = 0; method <= 4; method++) {
+    for (uint32_t method = 0; method <= 5; method++) {
         for (size_t len = 0; len <= needed + 17; len++) {
-            struct wanted wanted = {method < 1 || method > 3 ? 1 : len < needed ? 9 : 0, plan, needed};
+            struct wanted wanted = {method < 1 || method > 4 ? 1 : len < needed ? 9 : 0, plan, needed};
             both(job, job_len, method, len, wanted);
         }
     }
@@ -116,10 +116,10 @@ static void marked_jobs(void) {
 }
 
 static void refused(const uint8_t *job, size_t job_len, uint32_t number) {
-    for (uint32_t method = 1; method <= 3; method++) {
+    for (uint32_t method = 1; method <= 4; method++) {
         for (size_t len = 0; len <= 48; len++) both(job, job_len, method, len, (struct wanted){number, NULL, 0});
     }
-    both(job, job_len, 0, 16, (struct wanted){1, NULL, 0});
+    for (uint32_t method = 0; method <= 5; method += 5) both(job, job_len, method, 16, (struct wanted){1, NULL, 0});
     both(job, job_len, UINT32_MAX, 0, (struct wanted){1, NULL, 0});
 }
 
@@ -165,7 +165,7 @@ static void longest(void) {
         m += field(plan + m, 8000000);
         m += field(plan + m, 10000);
     }
-    for (uint32_t method = 1; method <= 3; method++) {
+    for (uint32_t method = 1; method <= 4; method++) {
         for (size_t len = m - 2; len <= m + 2; len++) both(job, n, method, len, (struct wanted){len < m ? 9 : 0, plan, m});
     }
 }

@@ -1,7 +1,7 @@
 //! What every call must answer and leave behind, on any input, by the scope (docs/SCOPE.md).
 
 use crate::job::{self, Job};
-use crate::methods::{self, Tried};
+use crate::methods::{self, Search, Tried};
 use crate::planner::Call;
 use crate::slow::{self, Bound};
 use crate::{damage, fast, listing};
@@ -13,24 +13,26 @@ pub struct After {
     pub free: usize,
 }
 
-/// A plan as expected: separators, counts by method, bottleneck.
+/// A plan as expected: separators, counts by method, bottleneck; the quick plan, and how the search of method 4 went.
 #[derive(Clone, Debug)]
 pub struct Solved {
     pub job: Job,
     pub best: Vec<usize>,
     pub bottleneck: Bound,
-    pub counts: [u64; 3],
+    pub counts: [u64; 4],
     pub quick: Vec<usize>,
+    pub search: Search,
 }
 
 impl Solved {
-    /// Tiny jobs by every division and by the table itself, others by the fast reference.
+    /// Tiny jobs by every division, by the table itself and by each j in turn, others by the fast reference.
     pub fn of(job: &Job) -> Solved {
         let tiny = damage::is_tiny(job);
         let (best, bottleneck) = if tiny { slow::solve(job) } else { fast::solve(job) };
         let moves = if tiny { methods::moves_by_table(job) } else { methods::moves_by_walks(job) };
-        let counts = [moves, methods::bids(job), methods::halvings(job)];
-        Solved { job: job.clone(), best, bottleneck, counts, quick: methods::quick(job) }
+        let search = if tiny { methods::search_in_turn(job) } else { methods::search_by_sums(job) };
+        let counts = [moves, methods::bids(job), methods::halvings(job), search.trials];
+        Solved { job: job.clone(), best, bottleneck, counts, quick: methods::quick(job), search }
     }
 }
 
@@ -74,7 +76,7 @@ pub fn expected(call: Call, given: &[&[u8]], solved: Option<&Solved>) -> Result<
         Call::Read => read(given),
         Call::Host { method } => host(method, given, solved),
         Call::List => listed(given),
-        Call::Plan { method } if !(1..=3).contains(&method) => Err(1),
+        Call::Plan { method } if !(1..=4).contains(&method) => Err(1),
         _ => {
             let (speeds, weights) = (words(given[0]), words(given[1]));
             match refuse_lists(&speeds, &weights) {

@@ -26,6 +26,8 @@ pub struct Check {
     /// How often each call gave each number.
     seen: [[u64; 13]; 10],
     pub fits: u64,
+    /// How often a search ended early, and had its least candidate on the first machine, on one between, on the last.
+    pub searches: [u64; 4],
 }
 
 /// The calls, the name of each, and the numbers that it can give.
@@ -99,6 +101,7 @@ impl Check {
             part: "",
             seen: [[0; 13]; 10],
             fits: 0,
+            searches: [0; 4],
         }
     }
 
@@ -185,7 +188,7 @@ impl Check {
         assert_eq!(total, job.weight(0, job.weights.len()), "loads of the reference");
         let file = job.file();
         let exact = 16 * job.speeds.len();
-        for method in 1..=3 {
+        for method in 1..=4 {
             self.call(&file, method, exact, Ok(&plan));
             let longer = exact + 1 + self.rng.below(80);
             self.call(&file, method, longer, Ok(&plan));

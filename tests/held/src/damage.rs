@@ -23,9 +23,9 @@ fn judge(c: &mut Check, file: &[u8], method: u32, plan_len: usize) {
 
 fn some_method(c: &mut Check) -> u32 {
     if c.rng.once_in(20) {
-        c.rng.pick(&[0, 4, u32::MAX])
+        c.rng.pick(&[0, 5, u32::MAX])
     } else {
-        c.rng.range(1, 3)
+        c.rng.range(1, 4)
     }
 }
 

@@ -2,6 +2,7 @@
 
 use crate::answers::{bytes_of, Solved};
 use crate::check::Check;
+use crate::damage::is_tiny;
 use crate::job::Job;
 use crate::methods::{self, Tried};
 use crate::planner::Call;
@@ -182,9 +183,37 @@ fn trials(c: &mut Check, s: &Solved, e: &[u8], w: &[u8], thorough: bool) {
     }
 }
 
+/// The search of method 4 that the test expects must itself end as it has to: no candidate is below the best, one is equal to it,
+/// and an empty share fits exactly where nothing weighs. Up to 200 tiles its other form must agree.
+fn searched(c: &mut Check, s: &Solved) {
+    if s.job.weights.len() <= 200 {
+        let other = if is_tiny(&s.job) { methods::search_by_sums(&s.job) } else { methods::search_in_turn(&s.job) };
+        if other != s.search {
+            c.fail(&format!("the solvers differ: {:?} and {:?}", s.search, other), format!("  {:?}", s.job));
+        }
+    }
+    let (machines, list) = (s.job.speeds.len(), &s.search.candidates);
+    let nothing = methods::ideal(&s.job).0 == 0;
+    let least = list.iter().position(|&b| !less(s.bottleneck, b));
+    let mut good = least.is_some() && !list.iter().any(|&b| less(b, s.bottleneck));
+    good &= s.search.early == (nothing && machines > 1);
+    good &= list.len() == if s.search.early { 1 } else { machines };
+    if !good {
+        c.fail("the solver's own search is wrong", format!("  {:?}", s));
+        return;
+    }
+    let which = match least {
+        _ if s.search.early => 0,
+        Some(p) if p + 1 == machines => 3,
+        Some(0) => 1,
+        _ => 2,
+    };
+    c.searches[which] += 1;
+}
+
 fn plans(c: &mut Check, s: &Solved, e: &[u8], w: &[u8], thorough: bool) {
     let (p, n) = (s.job.speeds.len(), s.job.weights.len());
-    for method in 1..=3 {
+    for method in 1..=4 {
         if s.counts[method as usize - 1] > methods::allowance(&s.job, method) {
             c.fail("the solver's own count is above the allowance", format!("  {:?}", s));
         }
@@ -198,6 +227,7 @@ fn plans(c: &mut Check, s: &Solved, e: &[u8], w: &[u8], thorough: bool) {
 /// Every call on an accepted job.
 pub fn job(c: &mut Check, s: &Solved, thorough: bool) {
     let (e, w) = (bytes_of(&s.job.speeds), bytes_of(&s.job.weights));
+    searched(c, s);
     c.accepted(&s.job, &s.best);
     files(c, s, &e, &w, thorough);
     measures(c, s, &e, &w, thorough);

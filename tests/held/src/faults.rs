@@ -161,7 +161,7 @@ impl Lists<'_> {
         let divides = matches!(self.call, Call::Measure | Call::PlanFile);
         let out = |load, speed| load > 100_000_000_000_000 || !(1..=1_000_000_000).contains(&speed);
         let tests = [
-            (matches!(self.call, Call::Plan { method } if !(1..=3).contains(&method)), 1),
+            (matches!(self.call, Call::Plan { method } if !(1..=4).contains(&method)), 1),
             (e.iter().any(|&e| e == 0 || e > 10_000), 5),
             (w.iter().any(|&w| w > 1_000_000), 6),
             (e.is_empty() || e.len() > 256, 7),
@@ -324,6 +324,39 @@ fn crossing_only(job: &Job) -> Bound {
     row[tiles]
 }
 
+/// The separators of the walk at a bound.
+fn rewalk(job: &Job, s: &mut [u32], bound: Option<Bound>) {
+    let Some(bound) = bound else { return };
+    if let Tried::Fits(d) = methods::trial(job, bound) {
+        for (to, from) in s.iter_mut().zip(d) {
+            *to = from as u32;
+        }
+    }
+}
+
+fn least_of(bounds: &[Bound]) -> Option<Bound> {
+    bounds.iter().copied().reduce(|a, b| if less(b, a) { b } else { a })
+}
+
+/// The least candidate of a search in which each machine keeps tile j too.
+fn keeping_j(job: &Job) -> Option<Bound> {
+    let tiles = job.weights.len();
+    let fits = |b: &Bound| matches!(methods::trial(job, *b), Tried::Fits(_));
+    let (mut start, mut list) = (0, Vec::new());
+    for &e in &job.speeds {
+        let share = |j: usize| (job.weight(start, j), e as u128);
+        let Some(j) = (start..=tiles).find(|&j| fits(&share(j))) else { break };
+        list.push(share(j));
+        start = j;
+    }
+    least_of(&list)
+}
+
+/// So many times the binary digits of N, or of some tiles fewer.
+fn times_digits(job: &Job, times: usize, fewer: usize) -> u64 {
+    times as u64 * methods::digits(job.weights.len().saturating_sub(fewer) as u128)
+}
+
 /// True once in so many times.
 fn seldom(times: u64) -> bool {
     static TURN: AtomicU64 = AtomicU64::new(0);
@@ -373,6 +406,9 @@ const FAULTS: &[(&str, &str, Run)] = &[
     ("plan-quick", "the quick plan for bidding", |l| l.inner(l.is_plan(2), |j, s| for (to, from) in s.iter_mut().zip(methods::quick(j)) { *to = from as u32 })),
     ("plan-whole", "a bound rounded up to a whole number", |l| l.inner(l.is_plans(), |j, s| { let b = slow::bottleneck(j, &s.iter().map(|&x| x as usize).collect::<Vec<_>>()); if let Tried::Fits(d) = methods::trial(j, (b.0.div_ceil(b.1), 1)) { for (to, from) in s.iter_mut().zip(d) { *to = from as u32 } } })),
     ("plan-crossing", "the table looking only at the crossing", |l| l.inner(l.is_plan(1) && l.at[1].1 < 200, |j, s| if let Tried::Fits(d) = methods::trial(j, crossing_only(j)) { for (to, from) in s.iter_mut().zip(d) { *to = from as u32 } })),
+    ("plan-nicol-first", "Nicol's search: the walk at the first candidate", |l| l.inner(l.is_plan(4), |j, s| rewalk(j, s, methods::search_by_sums(j).candidates.first().copied()))),
+    ("plan-nicol-last", "Nicol's search: the last candidate left out", |l| l.inner(l.is_plan(4), |j, s| rewalk(j, s, methods::search_by_sums(j).candidates.split_last().and_then(|(_, list)| least_of(list))))),
+    ("plan-nicol-keeps", "Nicol's search: each machine keeps tile j too", |l| l.inner(l.is_plan(4) && l.at[1].1 < 200, |j, s| rewalk(j, s, keeping_j(j)))),
     ("plan-endless", "bisection without end for three machines of speed 3", |l| { while l.is_plan(3) && l.words(Slot::Speeds) == [3, 3, 3] {} l.real() }),
     ("plan-nothing", "no separators written", |l| { let before = l.words(Slot::Separators).to_vec(); l.then(l.is_plans(), |_| l.words(Slot::Separators).copy_from_slice(&before)) }),
     ("host-separator", "C call: a separator one too small", |l| l.inner(l.is_host(), |_, s| if s.len() > 2 && s[1] > 0 { s[1] -= 1 })),
@@ -387,18 +423,27 @@ const FAULTS: &[(&str, &str, Run)] = &[
     ("host-refused", "C call: the plan buffer changed on refusal", |l| l.mark(l.is_host(), Slot::Plan)),
     ("host-input", "C call: the job file changed", |l| l.then(l.is_host(), |_| l.bytes(Slot::File)[4] ^= 1)),
     ("host-length", "C call: a file of 8 n + 4 bytes judged by 8 n", |l| if l.is_host() && l.at[0].1 % 8 == 4 { let mut f = l.bytes(Slot::File).to_vec(); f.truncate(l.at[0].1 - 4); l.with(Slot::File, &mut f) } else { l.real() }),
-    ("host-method", "C call: method 4 taken for 3", |l| if l.call == (Call::Host { method: 4 }) { l.other(Call::Host { method: 3 }) } else { l.real() }),
+    ("host-method", "C call: method 5 taken for 4", |l| if l.call == (Call::Host { method: 5 }) { l.other(Call::Host { method: 4 }) } else { l.real() }),
+    ("host-method-4", "C call: method 4 refused", |l| if l.call == (Call::Host { method: 4 }) { 1 } else { l.real() }),
+    ("host-nicol", "C call: Nicol's search with the walk at its first candidate", |l| l.inner(l.call == (Call::Host { method: 4 }), |j, s| rewalk(j, s, methods::search_by_sums(j).candidates.first().copied()))),
     ("host-9-early", "C call: no plan buffer tested before the file", |l| if l.is_host() && l.at[1].1 == 0 && l.real() > 1 { 9 } else { l.real() }),
     // Figures.
     ("count-table", "table: a move too many", |l| l.figure(l.is_plan(1), 0, |_, v| v + 1)),
     ("count-bidding", "bidding: the trial that fits not counted", |l| l.figure(l.is_plan(2), 0, |_, v| v - 1)),
     ("count-bisection", "bisection: the closing walk counted", |l| l.figure(l.is_plan(3), 0, |_, v| v + 1)),
+    ("count-nicol", "Nicol's search: the closing walk counted", |l| l.figure(l.is_plan(4), 0, |_, v| v + 1)),
+    ("count-nicol-early", "Nicol's search: goes on where the empty share fits", |l| l.figure(l.is_plan(4), 0, |j, v| if methods::ideal(j).0 == 0 { times_digits(j, j.speeds.len() - 1, 0) } else { v })),
+    ("count-nicol-high", "Nicol's search: N, known to fit, tried too", |l| l.figure(l.is_plan(4), 0, |j, v| v + j.speeds.len() as u64 - 1)),
+    ("count-nicol-many", "Nicol's search: a trial not counted, with more than 200 machines and 2,000 tiles", |l| l.figure(l.is_plan(4) && l.at[0].1 > 200 && l.at[1].1 > 2_000, 0, |_, v| v.saturating_sub(1))),
+    ("count-nicol-bisection", "Nicol's search: bisection's count", |l| l.figure(l.is_plan(4), 0, |j, _| methods::halvings(j))),
     ("count-zero", "table: moves over tiles of weight 0 not counted", |l| l.figure(l.is_plan(1), 0, |j, v| v.saturating_sub(j.weights.iter().filter(|&&w| w == 0).count() as u64))),
     ("allowance-table", "table: one too many", |l| l.figure(l.is_plan(1), 1, |_, v| v + 1)),
     ("allowance-bidding", "bidding: without its 1", |l| l.figure(l.is_plan(2), 1, |_, v| v - 1)),
     ("allowance-bisection", "bisection: without its 1", |l| l.figure(l.is_plan(3), 1, |_, v| v - 1)),
     ("allowance-nought", "bisection: 0 has a digit", |l| l.figure(l.is_plan(3), 1, |_, v| v.max(2))),
     ("allowance-slowest", "bisection: D not divided by the slowest speed", |l| l.figure(l.is_plan(3), 1, |j, _| methods::allowance(&Job::new(&[&j.speeds[..], &[1]].concat(), &j.weights), 3))),
+    ("allowance-nicol", "Nicol's search: the digits of N - 1", |l| l.figure(l.is_plan(4), 1, |j, _| times_digits(j, j.speeds.len() - 1, 1))),
+    ("allowance-nicol-all", "Nicol's search: once more, for the last machine", |l| l.figure(l.is_plan(4), 1, |j, _| times_digits(j, j.speeds.len(), 0))),
     ("imbalance-up", "rounded up", |l| l.figure(l.is_plans(), 4, |j, v| { let (w, e) = methods::ideal(j); let b = best_bound(j); if w > 0 && 1000 * (b.0 * e - w * b.1) % (w * b.1) != 0 { v + 1 } else { v } })),
     ("imbalance-hundred", "per hundred", |l| l.figure(l.is_plans(), 4, |_, v| v / 10)),
     ("bottleneck-reduced", "plan: the pair reduced", |l| l.pair(l.is_plans(), 2, |_, b| reduced(b))),
@@ -463,6 +508,7 @@ const FAULTS: &[(&str, &str, Run)] = &[
     ("planfile-no-division", "plan file: a division that ends early taken", |l| match l.real() { 11 if l.call == Call::PlanFile => { let (s, n) = (l.words(Slot::Separators), l.at[0].1); if answers::is_division(&s[..n + 1], s[n] as usize) && (s[n] as usize) < l.at[1].1 { 0 } else { 11 } } n => n }),
     ("list-space", "listing: two spaces in the place of the first digit and its space", |l| l.listed(|l, _| if let Some(k) = l.bytes(Slot::Text).iter().position(|&b| b == b' ') { l.bytes(Slot::Text)[k + 1] = b' ' })),
     ("list-count", "listing: a byte too many counted", |l| l.listed(|l, _| if let Some(v) = l.answer().first_mut() { *v += 1 })),
+    ("list-fourth", "listing: the fourth line numbered 3", |l| l.listed(|l, n| { let text = l.bytes(Slot::Text); if let Some(k) = text[..n - 1].iter().rposition(|&b| b == b'\n') { text[k + 1] = b'3' } })),
     ("list-short", "listing: a buffer one byte too short taken for enough", |l| match l.real() { 9 if l.call == Call::List && l.at[1].1 + 1 == listing::ROOM => 0, code => code }),
     // Measuring, trial, quick plan.
     ("measure-no-division", "measuring: a division that does not begin at 0 taken", |l| match l.real() { 11 if l.call == Call::Measure => { let (s, n) = (l.words(Slot::Separators), l.at[0].1); let first = std::mem::replace(&mut s[0], 0); let code = l.real(); s[0] = first; if n > 0 { code } else { 11 } } n => n }),

@@ -64,7 +64,7 @@ impl Job {
 
 /// The tests of the C call in their order: the job, or the number of the refusal.
 pub fn read(file: &[u8], method: u32, plan_len: usize) -> Result<Job, u32> {
-    if method != 1 && method != 2 && method != 3 {
+    if method != 1 && method != 2 && method != 3 && method != 4 {
         return Err(1);
     }
     if file.len() % 8 != 0 {

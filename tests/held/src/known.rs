@@ -1,4 +1,4 @@
-//! The jobs A to E and the edge lines of the scope, section 11, with the values written there.
+//! The jobs A to E and the edge lines of the scope, section 11, with the values written there, and some jobs more, worked by hand.
 
 use crate::answers::{bytes_of, After, Solved};
 use crate::check::Check;
@@ -7,36 +7,47 @@ use crate::planner::Call;
 use crate::slow::Bound;
 use crate::{every, fast, methods};
 
-/// A job of the document with all that is written there: of each method count and allowance, where given.
+/// A job with all that is known of it: of each method count and allowance, the imbalance where the document gives it.
 struct Known {
     name: &'static str,
     weights: &'static [u32],
     speeds: &'static [u32],
     separators: &'static [usize],
     bottleneck: Bound,
-    counts: [u64; 3],
-    allowances: Option<[u64; 3]>,
+    counts: [u64; 4],
+    allowances: [u64; 4],
     imbalance: Option<u64>,
 }
 
 #[rustfmt::skip]
 const JOBS: [Known; 5] = [
-    Known { name: "A", weights: &[1, 3, 8], speeds: &[1, 3], separators: &[0, 1, 3], bottleneck: (11, 3), counts: [2, 2, 2], allowances: Some([3, 4, 8]), imbalance: Some(222) },
-    Known { name: "B", weights: &[4, 3, 2, 6, 1], speeds: &[1, 2], separators: &[0, 1, 5], bottleneck: (12, 2), counts: [2, 2, 1], allowances: Some([5, 6, 6]), imbalance: Some(125) },
-    Known { name: "C", weights: &[], speeds: &[7, 2], separators: &[0, 0, 0], bottleneck: (0, 7), counts: [0, 1, 1], allowances: None, imbalance: Some(0) },
-    Known { name: "D", weights: &[0, 0], speeds: &[1, 1], separators: &[0, 2, 2], bottleneck: (0, 1), counts: [0, 1, 1], allowances: None, imbalance: Some(0) },
-    Known { name: "E", weights: &[6], speeds: &[1, 1], separators: &[0, 1, 1], bottleneck: (6, 1), counts: [1, 2, 1], allowances: None, imbalance: None },
+    Known { name: "A", weights: &[1, 3, 8], speeds: &[1, 3], separators: &[0, 1, 3], bottleneck: (11, 3), counts: [2, 2, 2, 2], allowances: [3, 4, 8, 2], imbalance: Some(222) },
+    Known { name: "B", weights: &[4, 3, 2, 6, 1], speeds: &[1, 2], separators: &[0, 1, 5], bottleneck: (12, 2), counts: [2, 2, 1, 2], allowances: [5, 6, 6, 3], imbalance: Some(125) },
+    Known { name: "C", weights: &[], speeds: &[7, 2], separators: &[0, 0, 0], bottleneck: (0, 7), counts: [0, 1, 1, 0], allowances: [0, 1, 1, 0], imbalance: Some(0) },
+    Known { name: "D", weights: &[0, 0], speeds: &[1, 1], separators: &[0, 2, 2], bottleneck: (0, 1), counts: [0, 1, 1, 2], allowances: [2, 3, 1, 2], imbalance: Some(0) },
+    Known { name: "E", weights: &[6], speeds: &[1, 1], separators: &[0, 1, 1], bottleneck: (6, 1), counts: [1, 2, 1, 1], allowances: [1, 2, 4, 1], imbalance: None },
 ];
 
-/// The solver must give what the document says, then the planner what the solver gives.
+/// Worked by hand, for the search of method 4: it ends early, or the first machine, one between or the last has the least candidate.
+#[rustfmt::skip]
+const MORE: [Known; 7] = [
+    Known { name: "one machine", weights: &[4, 0, 3], speeds: &[5], separators: &[0, 3], bottleneck: (7, 5), counts: [0, 1, 1, 0], allowances: [0, 1, 6, 0], imbalance: Some(0) },
+    Known { name: "one machine, nothing weighs", weights: &[0, 0, 0], speeds: &[5], separators: &[0, 3], bottleneck: (0, 5), counts: [0, 1, 1, 0], allowances: [0, 1, 1, 0], imbalance: Some(0) },
+    Known { name: "no tiles", weights: &[], speeds: &[4, 1, 2], separators: &[0, 0, 0, 0], bottleneck: (0, 4), counts: [0, 1, 1, 0], allowances: [0, 1, 1, 0], imbalance: Some(0) },
+    Known { name: "nothing weighs", weights: &[0; 5], speeds: &[2, 1, 3], separators: &[0, 5, 5, 5], bottleneck: (0, 2), counts: [0, 1, 1, 3], allowances: [10, 11, 1, 6], imbalance: Some(0) },
+    Known { name: "the first candidate", weights: &[2, 2, 2], speeds: &[1, 1, 1], separators: &[0, 1, 2, 3], bottleneck: (2, 1), counts: [4, 1, 1, 4], allowances: [6, 7, 3, 4], imbalance: Some(0) },
+    Known { name: "a candidate between", weights: &[3, 2, 3, 1, 2], speeds: &[1, 2, 3], separators: &[0, 0, 2, 5], bottleneck: (5, 2), counts: [4, 2, 2, 5], allowances: [10, 11, 6, 6], imbalance: Some(363) },
+    Known { name: "the last candidate", weights: &[2, 2, 5], speeds: &[1, 1, 2], separators: &[0, 1, 2, 3], bottleneck: (5, 2), counts: [6, 2, 1, 3], allowances: [6, 7, 6, 4], imbalance: Some(111) },
+];
+
+/// The solver must give what is known, then the planner what the solver gives.
 fn marked(c: &mut Check, k: &Known) {
     let job = Job::new(k.speeds, k.weights);
     let solved = Solved::of(&job);
     let mut good = solved.best == k.separators && solved.bottleneck == k.bottleneck && solved.counts == k.counts;
     good &= fast::solve(&job) == (k.separators.to_vec(), k.bottleneck) && methods::moves_by_walks(&job) == k.counts[0];
-    if let Some(list) = k.allowances {
-        good &= (1..=3).all(|m| methods::allowance(&job, m) == list[m as usize - 1]);
-    }
+    good &= methods::search_by_sums(&job).trials == k.counts[3];
+    good &= (1..=4).all(|m| methods::allowance(&job, m) == k.allowances[m as usize - 1]);
     if let Some(i) = k.imbalance {
         good &= methods::imbalance(&job, k.bottleneck) == i;
     }
@@ -71,7 +82,7 @@ fn lines_of_a(c: &mut Check) {
 }
 
 pub fn run(c: &mut Check) {
-    for k in &JOBS {
+    for k in JOBS.iter().chain(&MORE) {
         marked(c, k);
     }
     lines_of_a(c);
@@ -97,7 +108,7 @@ fn files_of_a_and_d(c: &mut Check) {
         1, 0, 0, 0, 1, 0, 0, 0, 1, 0, 0, 0, 1, 0, 0, 0, //
         2, 0, 0, 0, 0, 0, 0, 0, 2, 0, 0, 0, 0, 0, 0, 0,
     ];
-    for method in 1..=3 {
+    for method in 1..=4 {
         c.call(&a_file, method, 32, Ok(&job::decode(&a)));
         c.call(&d_file, method, 32, Ok(&job::decode(&d)));
     }
@@ -137,7 +148,7 @@ fn edges(c: &mut Check) {
     let mut first = vec![0; 257];
     first[1..].fill(2_048);
     c.accepted(&Job::new(&[10_000; 256], &[0; 2_048]), &first);
-    for method in 1..=3 {
+    for method in 1..=4 {
         for plan_len in [0, 16, 33] {
             c.call(&[1, 0, 0, 0, 1, 0, 0], method, plan_len, Err(2));
         }
@@ -146,7 +157,7 @@ fn edges(c: &mut Check) {
 
 fn single(c: &mut Check, records: &[Record], number: u32) {
     let file = records.concat();
-    for method in 1..=3 {
+    for method in 1..=4 {
         for plan_len in [0, 16, 4_096] {
             c.call(&file, method, plan_len, Err(number));
         }

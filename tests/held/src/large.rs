@@ -125,10 +125,10 @@ fn threads(c: &mut Check) {
             .iter()
             .map(|(file, wanted)| {
                 let work = move || {
-                    (0..6u32).all(|k| {
+                    (0..8u32).all(|k| {
                         let mut plan = vec![0xA5u8; 16 * P];
                         let at = [(file.as_ptr() as *mut u8, file.len()), (plan.as_mut_ptr(), plan.len())];
-                        let code = unsafe { planner::call(Call::Host { method: 1 + k % 3 }, &at) };
+                        let code = unsafe { planner::call(Call::Host { method: 1 + k % 4 }, &at) };
                         code == 0 && &plan == wanted
                     })
                 };
@@ -138,7 +138,7 @@ fn threads(c: &mut Check) {
         running.into_iter().map(|t| t.join().unwrap_or(false)).collect::<Vec<_>>()
     });
     guard::done();
-    c.calls += 6 * list.len() as u64;
+    c.calls += 8 * list.len() as u64;
     for (k, ok) in good.iter().enumerate() {
         if !ok {
             c.fail("a wrong plan from several threads at once", crate::check::describe(Call::Host { method: 0 }, &[&list[k].0, &[]]));

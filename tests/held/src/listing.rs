@@ -14,8 +14,8 @@ use crate::{damage, methods, small};
 /// One record more than the longest job: what the program takes in.
 const INTAKE: usize = 8 * (256 + 2_048 + 1);
 
-/// Three lines of a plan with 256 machines and the first line, each number taken for one of 20 digits.
-pub const ROOM: usize = 84 + 3 * (126 + 21 * 257);
+/// Four lines of a plan with 256 machines and the first line, each number taken for one of 20 digits.
+pub const ROOM: usize = 84 + 4 * (126 + 21 * 257);
 
 /// What the program must write.
 pub fn wanted(file: &[u8]) -> String {
@@ -28,7 +28,7 @@ pub fn wanted(file: &[u8]) -> String {
     let whole = job.weight(0, job.weights.len());
     let mut text = format!("tiles {} machines {} total {}\n", job.weights.len(), job.speeds.len(), whole);
     let imbalance = methods::imbalance(&job, s.bottleneck);
-    for method in 1..=3 {
+    for method in 1..=4 {
         let (count, most) = (s.counts[method as usize - 1], methods::allowance(&job, method));
         text += &format!("{} {} {} {} {} {}", method, count, most, s.bottleneck.0, s.bottleneck.1, imbalance);
         for x in &s.best {

@@ -77,7 +77,7 @@ fn some_division(r: &mut Rng, machines: usize, tiles: usize) -> Vec<u32> {
 
 const BAD_SPEED: [u32; 5] = [0, 10_001, 65_537, 1_000_000, u32::MAX];
 const BAD_WEIGHT: [u32; 5] = [1_000_001, 1 << 20, 1 << 24, 1 << 31, u32::MAX];
-const BAD_METHOD: [u32; 6] = [0, 4, 255, 257, 65_538, u32::MAX];
+const BAD_METHOD: [u32; 7] = [0, 5, 255, 257, 260, 65_538, u32::MAX];
 
 /// Counts and values: the lists of a job with these faults of 5 to 8, and the numbers of those that could be made.
 fn job_with(r: &mut Rng, faults: &[u32]) -> (Vec<u32>, Vec<u32>, Vec<u32>) {
@@ -135,7 +135,7 @@ fn lend_with(r: &mut Rng, name: &str, faults: &[u32], i: &mut Input, made: &mut 
 fn input_with(r: &mut Rng, name: &str, faults: &[u32]) -> (Input, u32) {
     let (speeds, weights, mut made) = job_with(r, faults);
     let separators = some_division(r, speeds.len(), weights.len());
-    let mut i = Input { method: r.range(1, 3), bound: (1_000_000, 1), speeds, weights, separators, room: 0 };
+    let mut i = Input { method: r.range(1, 4), bound: (1_000_000, 1), speeds, weights, separators, room: 0 };
     lend_with(r, name, faults, &mut i, &mut made);
     if faults.contains(&1) {
         i.method = r.pick(&BAD_METHOD);

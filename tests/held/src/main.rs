@@ -61,8 +61,8 @@ fn whole(c: &mut Check) {
     }
     // A run in which some answer never came up would be no test of it.
     let unseen = c.unseen();
-    if !unseen.is_empty() || c.fits == 0 {
-        c.fail(&format!("answers never seen: {:?}; {} fits", unseen, c.fits), String::new());
+    if !unseen.is_empty() || c.fits == 0 || c.searches.contains(&0) {
+        c.fail(&format!("answers never seen: {:?}; {} fits, searches {:?}", unseen, c.fits, c.searches), String::new());
     }
 }
 

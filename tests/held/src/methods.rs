@@ -1,4 +1,4 @@
-//! Trial, quick plan, the counts of the three methods and what else a plan carries, each as the scope says it.
+//! Trial, quick plan, the counts of the four methods and what else a plan carries, each as the scope says it.
 
 use crate::job::Job;
 use crate::slow::{self, less, Bound};
@@ -168,19 +168,112 @@ fn stays_below(weights: &[u32], speeds: &[u32], load: i128, speed: i128) -> bool
     left.peek().is_none()
 }
 
+/// What the search machine by machine comes to: its candidates in the order of the machines, and its trials.
+#[derive(Clone, Debug, PartialEq)]
+pub struct Search {
+    pub candidates: Vec<Bound>,
+    pub trials: u64,
+    /// It ended at an empty share that fits.
+    pub early: bool,
+}
+
+/// The halving: low at the share's start, high at N, known to fit, until they meet. Where they do, and the trials made.
+fn halve(mut low: usize, mut high: usize, fits: impl Fn(usize) -> bool) -> (usize, u64) {
+    let mut trials = 0;
+    while low != high {
+        trials += 1;
+        let middle = (low + high) / 2;
+        if fits(middle) {
+            high = middle;
+        } else {
+            low = middle + 1;
+        }
+    }
+    (low, trials)
+}
+
+/// The search, each j by trying every one in turn, with whole trials. The halving gives the trials, and must find the same j.
+pub fn search_in_turn(job: &Job) -> Search {
+    let tiles = job.weights.len();
+    let (last, others) = job.speeds.split_last().unwrap();
+    let mut found = Search { candidates: Vec::new(), trials: 0, early: false };
+    let mut start = 0;
+    for &e in others {
+        let share = |j: usize| (job.weight(start, j), e as u128);
+        let fits = |j: usize| matches!(trial(job, share(j)), Tried::Fits(_));
+        let Some(j) = (start..=tiles).find(|&j| fits(j)) else { panic!("all that remains does not fit for {:?}", job) };
+        let (met, trials) = halve(start, tiles, fits);
+        assert_eq!(met, j, "the halving finds another j for {:?}", job);
+        found.trials += trials;
+        found.candidates.push(share(j));
+        if j == start {
+            found.early = true;
+            return found;
+        }
+        start = j - 1;
+    }
+    found.candidates.push((job.weight(start, tiles), *last as u128));
+    found
+}
+
+/// The same for jobs up to the limits: each j by the halving alone, and a walk over sums that says only whether it fits.
+pub fn search_by_sums(job: &Job) -> Search {
+    let tiles = job.weights.len();
+    let mut sums = vec![0u64];
+    for &w in &job.weights {
+        sums.push(sums[sums.len() - 1] + w as u64);
+    }
+    let (last, others) = job.speeds.split_last().unwrap();
+    let fits = |load: u64, speed: u64| {
+        let mut at = 0;
+        for &e in others {
+            let most = sums[at] + load * e as u64 / speed;
+            // Most trials are far above the best and end here.
+            if sums[tiles] <= most {
+                return true;
+            }
+            while sums[at + 1] <= most {
+                at += 1;
+            }
+        }
+        (sums[tiles] - sums[at]) * speed <= load * *last as u64
+    };
+    let mut found = Search { candidates: Vec::new(), trials: 0, early: false };
+    let mut start = 0;
+    for &e in others {
+        let load = |j: usize| sums[j] - sums[start];
+        let (j, trials) = halve(start, tiles, |j| fits(load(j), e as u64));
+        found.trials += trials;
+        found.candidates.push((load(j) as u128, e as u128));
+        if j == start {
+            found.early = true;
+            return found;
+        }
+        start = j - 1;
+    }
+    found.candidates.push(((sums[tiles] - sums[start]) as u128, *last as u128));
+    found
+}
+
+/// The binary digits of a number; 0 has none.
+pub fn digits(mut number: u128) -> u64 {
+    let mut digits = 0;
+    while number > 0 {
+        number /= 2;
+        digits += 1;
+    }
+    digits
+}
+
 /// The most that a method may count.
 pub fn allowance(job: &Job, method: u32) -> u64 {
-    let steps = ((job.speeds.len() - 1) * job.weights.len()) as u64;
+    let (others, tiles) = (job.speeds.len() - 1, job.weights.len());
+    let steps = (others * tiles) as u64;
     let heaviest = job.weights.iter().copied().max().unwrap_or(0) as u128;
     let fastest = *job.speeds.iter().max().unwrap() as u128;
     let slowest = *job.speeds.iter().min().unwrap() as u128;
-    let mut d = heaviest * fastest * fastest / slowest;
-    let mut digits = 0;
-    while d > 0 {
-        d /= 2;
-        digits += 1;
-    }
-    [steps, steps + 1, digits + 1][method as usize - 1]
+    let d = heaviest * fastest * fastest / slowest;
+    [steps, steps + 1, digits(d) + 1, others as u64 * digits(tiles as u128)][method as usize - 1]
 }
 
 /// 1000 × (bottleneck − ideal) / ideal, rounded down.

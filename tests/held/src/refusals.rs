@@ -6,7 +6,7 @@ use crate::job::{machine, record, tile, Record};
 use crate::planner::{self, At, Call};
 
 /// Methods that are none, some of which look like one when cut short.
-const NO_METHOD: [u32; 11] = [0, 4, 5, 255, 256, 257, 258, 65_537, 0x0100_0002, 0x8000_0003, u32::MAX];
+const NO_METHOD: [u32; 13] = [0, 5, 6, 255, 256, 257, 258, 260, 65_537, 0x0100_0002, 0x8000_0003, 0x8000_0004, u32::MAX];
 
 /// A call that must be refused; the number is written by rule here, and the solver's reader must say the same. Where the number
 /// comes from the file alone, reading must give it too.
@@ -26,12 +26,12 @@ fn records(file: &[u8]) -> usize {
     file.len() / 8
 }
 
-/// By the three methods the number given, by any other 1.
+/// By the four methods the number given, by any other 1.
 fn refuse_all(c: &mut Check, file: &[u8], plan_len: usize, number: u32) {
-    for method in 1..=3 {
+    for method in 1..=4 {
         refuse(c, file, method, plan_len, number);
     }
-    for method in [0, 4, u32::MAX] {
+    for method in [0, 5, u32::MAX] {
         refuse(c, file, method, plan_len, 1);
     }
 }
@@ -246,8 +246,8 @@ fn pairs_of_counts(c: &mut Check) {
 fn nulls(c: &mut Check) {
     let one = machine(1);
     let broken = [0u8; 8];
-    for method in (1..=3).chain(NO_METHOD) {
-        let known = (1..=3).contains(&method);
+    for method in (1..=4).chain(NO_METHOD) {
+        let known = (1..=4).contains(&method);
         // No job at all; a job and no room; a broken job; cut ones.
         let cases: [(&[u8], u32); 5] = [(&[], 7), (&one, 9), (&broken, 3), (&one[..7], 2), (&broken[..1], 2)];
         for (file, number) in cases {
