@@ -14,7 +14,7 @@ use Rattle.chain.specs.Probe.{walk, fits}
 use Rattle.chain.specs.Dynamic.{tableValue}
 use Rattle.chain.specs.Bidding.{bidding}
 use Rattle.chain.specs.Bisection.{ends, meet}
-use Rattle.chain.specs.Nicol.{candidateOn}
+use Rattle.chain.specs.Nicol.{candidateOn, Comes}
 use Rattle.chain.specs.declared.Method.{Method}
 use Rattle.chain.specs.declared.Method.the-variants.{Table, Bidding, Bisection, Nicol}
 use Rattle.chain.specs.Lists.{isFirst}
@@ -29,7 +29,7 @@ use Rattle.chain.proofs.Table.{table-real, table-cover, moves-allowed}
 use Rattle.chain.proofs.Ideal.{ideal-finite}
 use Rattle.chain.proofs.Bidding.{ideal-below, bidding-least, bidding-allowed, bidding-ends}
 use Rattle.chain.proofs.Bisection.{first-allowed, bisection-least, bisection-allowed, bisection-ends}
-use Rattle.chain.proofs.Nicol.{Comes, candidate-above, candidate-met}
+use Rattle.chain.proofs.Nicol.{candidate-above, candidate-met}
 use Rattle.chain.proofs.Halving.{nicol-counts, nicol-least, nicol-allowed, nicol-is}
 use Rattle.chain.proofs.Enumeration.{least-is-least, least-attained}
 

@@ -14,7 +14,7 @@ use Rattle.bound.specs.declared.Bound.{Bound}
 use Rattle.bound.specs.Order.{nought, pick}
 use Rattle.chain.specs.Lists.{sumTo, all, isFirst, smallestFrom, digits}
 use Rattle.chain.specs.Job.{Job, tasks, last}
-use Rattle.chain.specs.Nicol.{Range, fitsAt, firstFit, startOn, leastCandidate, emptyFits, nextRange, rangeAfter, single, settled}
+use Rattle.chain.specs.Nicol.{Range, fitsAt, firstFit, startOn, leastCandidate, emptyFits, Comes, nextRange, rangeAfter, single, settled}
 use Rattle.chain.specs.Plan.{TrialsTo, NicolEnds, early, whole, allowance, nicolTrials, nicolStop}
 use Rattle.chain.specs.declared.Method.the-variants.{Nicol}
 use Rattle.chain.proofs.Tests.{T-of, T-not-of}
@@ -23,7 +23,7 @@ use Rattle.chain.proofs.Sums.{sum-same-below, sum-below}
 use Rattle.chain.proofs.Digits.{digits-least}
 use Rattle.chain.proofs.Indices.{Smallest, smallest-is, all-at, all-of, first-holds, first-fails, first-of, first-unique, first-exists, smallest-first}
 use Rattle.chain.proofs.Best.{Least}
-use Rattle.chain.proofs.Nicol.{Comes, comes-sooner, first-fit-is, start-to, fits-at-raise, fails-at-lower, empty-least, rest-fits, candidates-least}
+use Rattle.chain.proofs.Nicol.{comes-sooner, first-fit-is, start-to, fits-at-raise, fails-at-lower, empty-least, rest-fits, candidates-least}
 
 -- What holds of a range: it lies between a and N, every index before it fails, its high end fits, and n times its width is at most N.
 pub record Ranged (job : Job) (p a n : ℕ) (R : Range) : Type 0 where
@@ -176,7 +176,7 @@ trials-unique {job} {n} x y =
 
 module _ {job : Job} (can : Plannable job) where
   -- within the allowance,
-  trials-allowed : (n c : ℕ) → n ≤ last job → ((p : ℕ) → p < n → Comes job p) → TrialsTo job n c → c ≤ allowance Nicol job
+  pub trials-allowed : (n c : ℕ) → n ≤ last job → ((p : ℕ) → p < n → Comes job p) → TrialsTo job n c → c ≤ allowance Nicol job
   unfolding allowance
   trials-allowed n c h comes t =
       omega (
@@ -188,7 +188,7 @@ module _ {job : Job} (can : Plannable job) where
       )
 
   -- and that of the definition.
-  trials-are : (n : ℕ) → n ≤ last job → ((p : ℕ) → p < n → Comes job p) → TrialsTo job n (sumTo (nicolTrials job) n)
+  pub trials-are : (n : ℕ) → n ≤ last job → ((p : ℕ) → p < n → Comes job p) → TrialsTo job n (sumTo (nicolTrials job) n)
   trials-are n h comes =
       record { trials = nicolTrials job; each = λ p l. trials-first can p (omega arith) (comes p l); counted = refl }
 

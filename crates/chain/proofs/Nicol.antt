@@ -15,7 +15,7 @@ use Rattle.bound.proofs.Order.{finite-real, le-refl, le-trans, le-or-lt, lt-le-
 use Rattle.chain.specs.Lists.{isFirst}
 use Rattle.chain.specs.Job.{Job, tasks, last, partBound}
 use Rattle.chain.specs.Probe.{separator, fits}
-use Rattle.chain.specs.Nicol.{fitsAt, firstFit, startOn, candidateOn, leastCandidate, emptyFits}
+use Rattle.chain.specs.Nicol.{fitsAt, firstFit, startOn, candidateOn, leastCandidate, emptyFits, Comes}
 use Rattle.chain.proofs.Tests.{T-of, T-not-of, T-false}
 use Rattle.chain.proofs.Parts.{Proper, Plannable, part-empty, part-right, part-finite, part-real}
 use Rattle.chain.proofs.Within.{within-of, within-bound, within-empty, within-shrink}
@@ -105,6 +105,16 @@ module _ {job : Job} (ok : Proper job) where
         least = λ C u. nought-le C;
       }
 
+  -- It is then the smallest.
+  pub empty-found : (p : ℕ) → T (emptyFits job p) → firstFit job p (startOn job p) ≡ startOn job p
+  unfolding emptyFits
+  empty-found p t =
+      let a : ℕ = startOn job p in
+      elim (decLe (suc a) (firstFit job p a)) [
+        | yes x ↦ absurd (T-not (fitsAt job p a a) (T-not-of ((first-fit-is job p a) .before a (omega arith) x)) t)
+        | no x ↦ omega (arith, (first-fit-is job p a) .from)
+      ]
+
   -- So the search ends early at the first processor or nowhere.
   pub early-first : (p : ℕ) → T (isFirst (emptyFits job) p) → p ≡ 0
   early-first zero t = refl
@@ -150,10 +160,7 @@ module _ {job : Job} (ok : Proper job) where
           each : (p : ℕ) → p ≤ last job → C ≺ candidateOn job p
           each p h = lt-le-trans (candidate-real p) x (least-le (candidateOn job) candidate-real (last job) p h)
 
--- No empty part before processor p fits: the search comes to p.
-pub record Comes (job : Job) (p : ℕ) : Type 0 where
-  pub none : (q : ℕ) → q < p → T (not (emptyFits job q))
-
+-- What comes to a processor comes to those before it.
 pub comes-sooner : {job : Job} {p q : ℕ} → q ≤ p → Comes job p → Comes job q
 comes-sooner h c = record { none = λ i l. c .none i (omega arith) }
 

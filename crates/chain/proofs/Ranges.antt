@@ -9,7 +9,7 @@ use native.Mathlib.Omega.{arith}
 use native.Mathlib.Nat.{le-trans, lt-of-le-of-lt, mul-le-mul, mul-le-mul-left, mul-le-mul-right, one-le-mul, add-le-add}
 use lib.Dec.{T, leb, leb→le, le→leb, lit<, lit≤}
 use Rattle.bound.specs.declared.Bound.{Bound}
-use Rattle.bound.specs.Order.{infinite, lesser, middle}
+use Rattle.bound.specs.Order.{nought, infinite, lesser, middle}
 use Rattle.bound.proofs.Order.{lesser-cases}
 use Rattle.chain.specs.Limits.{maxTasks, maxWeight, maxLoad, maxProcessors, maxSpeed, maxBoundLoad, maxBoundSpeed}
 use Rattle.chain.specs.Ranges.{Small, Lendable, Narrow}
@@ -224,6 +224,11 @@ small-lendable s =
       speed-positive = s .speed-positive;
       speed-lent = le-trans (s .speed-small) speed-lendable;
     }
+
+-- Nought can be lent.
+pub nought-lendable : Lendable nought
+unfolding maxBoundSpeed
+nought-lendable = record { load-lent = omega arith; speed-positive = omega arith; speed-lent = lit≤ tt }
 
 -- The midpoint of two small bounds can be lent.
 pub middle-lendable : {B C : Bound} → Small B → Small C → Lendable (middle B C)

@@ -1,7 +1,7 @@
 -- Nicol's search. Scope 5.17 to 5.22.
-use Prim.Native.Nat.{ℕ, zero, suc, _+_, _-_, _/_}
-use mathlib.Core.Bool.{Bool, true, false}
-use lib.Dec.{eqb, ltb}
+use Prim.Native.Nat.{ℕ, zero, suc, _+_, _-_, _/_, _<_}
+use mathlib.Core.Bool.{Bool, true, false, not}
+use lib.Dec.{T, eqb, ltb}
 use Rattle.bound.specs.declared.Bound.{Bound}
 use Rattle.bound.specs.Order.{pick, leastTo}
 use Rattle.chain.specs.Lists.{smallestFrom}
@@ -35,6 +35,10 @@ leastCandidate job = leastTo (candidateOn job) (last job)
 -- Scope 5.20: "Where the empty share fits"
 unfoldable pub emptyFits : Job → ℕ → Bool
 emptyFits job p = let a = startOn job p in fitsAt job p a a
+
+-- The search comes to processor p: no empty part before it fits.
+pub record Comes (job : Job) (p : ℕ) : Type 0 where
+  pub none : (q : ℕ) → q < p → T (not (emptyFits job q))
 
 -- Scope 5.21: "a range of indices", by its two ends.
 pub record Range : Type 0 where
