@@ -83,12 +83,12 @@ fn first_fit(
     let mut trials = 0u32;
     while low < high {
         let middle = (low + high) / 2;
+        trials += 1;
         if fits_at(speeds, weights, sums, p, a, middle, separators) {
             high = middle;
         } else {
             low = middle + 1;
         }
-        trials += 1;
     }
     FirstFit { index: low, trials }
 }
