@@ -8,7 +8,7 @@ use lib.Dec.{eqb, ltb}
 use lib.ListN.{take}
 use Rattle.io.specs.Digits.{digits}
 use Rattle.chain.specs.declared.Method.{Method}
-use Rattle.chain.specs.declared.Method.the-variants.{Table, Bidding, Bisection}
+use Rattle.chain.specs.declared.Method.the-variants.{Table, Bidding, Bisection, Nicol}
 use Rattle.chain.specs.Limits.{maxProcessors, maxTasks}
 use Rattle.chain.specs.Lists.{smallestFrom}
 use Rattle.chain.specs.Job.{Job, tasks, processors, totalWeight}
@@ -66,7 +66,8 @@ methodLine method job = planLine (numberOf method) (planFigures method job) (pla
 
 -- Scope 9.3: "Then there is a line for each method, in the order of their numbers".
 unfoldable pub jobListing : Job → List ℕ
-jobListing job = countsLine job ++ methodLine Table job ++ methodLine Bidding job ++ methodLine Bisection job
+jobListing job =
+    countsLine job ++ methodLine Table job ++ methodLine Bidding job ++ methodLine Bisection job ++ methodLine Nicol job
 
 -- Scope 9.5: "the one line `refused`, a space, the number"
 unfoldable pub refusalLine : ℕ → List ℕ

@@ -26,9 +26,9 @@ planRoom separators = figuresRoom + fieldRoom * separators
 abbrev pub countsRoom : ℕ
 countsRoom = 21 + 3 * fieldRoom
 
--- The whole listing: the first line, and one for each of the three methods. The line of a refusal is shorter.
+-- The whole listing: the first line, and one for each of the four methods. The line of a refusal is shorter.
 unfoldable pub listingRoom : ℕ
-listingRoom = countsRoom + 3 * planRoom (maxProcessors + 1)
+listingRoom = countsRoom + 4 * planRoom (maxProcessors + 1)
 
 -- The buffer after the text has been put into it at an index, and the index behind the text.
 pub record Put (new : List ℕ) (at : ℕ) (old later : List ℕ) (next : ℕ) : Type 0 where

@@ -40,7 +40,7 @@ const PLAN_ROOM: usize = 6 * FIELD_ROOM + FIELD_ROOM * SEPARATORS;
 
 const COUNTS_ROOM: usize = 21 + 3 * FIELD_ROOM;
 
-pub const LISTING_ROOM: usize = COUNTS_ROOM + 3 * PLAN_ROOM;
+pub const LISTING_ROOM: usize = COUNTS_ROOM + 4 * PLAN_ROOM;
 
 // Inner. Puts the text at index `at`, and answers the index behind it.
 fn put_text(text: &[u8], at: usize, out: &mut [u8]) -> usize
@@ -188,7 +188,8 @@ fn list_job(speeds: &[u32], weights: &[u32], out: &mut [u8]) -> usize
     let mut next = put_counts_line(speeds, weights, out);
     next = list_method(Method::Table, speeds, weights, next, out);
     next = list_method(Method::Bidding, speeds, weights, next, out);
-    list_method(Method::Bisection, speeds, weights, next, out)
+    next = list_method(Method::Bisection, speeds, weights, next, out);
+    list_method(Method::Nicol, speeds, weights, next, out)
 }
 
 // Inner. Puts the listing of a job file, or the line of its refusal.

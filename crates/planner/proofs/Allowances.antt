@@ -5,17 +5,17 @@ use mathlib.Core.Path.{_≡_, sym, ap, subst, _∙_}
 use mathlib.Core.Bool.{Bool, true, false, cond}
 use mathlib.Core.List.{List, [], _∷_}
 use native.Mathlib.Omega.{arith}
+use native.Mathlib.Nat.{mul-le-mul, le-trans as ≤-trans}
 use native.Mathlib.Decide.{decLe}
-use lib.Count.{leadingZeros}
-use lib.Dec.{leb}
+use lib.Dec.{leb, lit<}
 use lib.ListN.{length, getD}
 use Rattle.chain.specs.declared.Method.{Method}
-use Rattle.chain.specs.declared.Method.the-variants.{Table, Bidding, Bisection}
+use Rattle.chain.specs.declared.Method.the-variants.{Table, Bidding, Bisection, Nicol}
 use Rattle.chain.specs.Lists.{greatestOf, leastOf, digits}
-use Rattle.chain.specs.Job.{Job, tasks, last, slowestOf}
+use Rattle.chain.specs.Limits.{maxProcessors}
+use Rattle.chain.specs.Job.{Job, Valid, tasks, processors, last, slowestOf}
 use Rattle.chain.specs.Plan.{difference, allowance}
 use Rattle.chain.proofs.Indices.{below-next}
-use Rattle.chain.proofs.Digits.{digits-leading}
 use Rattle.chain.proofs.Extremes.{same-default, greatest-of-le, greatest-cases, slowest-le}
 
 -- The same as code counts.
@@ -103,6 +103,21 @@ fewest-end (x ∷ xs) {i} {m} w h =
       least-cases (λ n. m ≤ n) x xs (w .below 0 (omega (arith, w .from))) (λ k l. w .below (suc k) (omega (arith, w .to))),
     )
 
+-- One processor fewer, times at most 64 digits, fits 32 bits.
+trials-fit : maxProcessors * 64 < 2 ^ 32
+unfolding maxProcessors
+trials-fit = lit< tt
+
+module _ {job : Job} (v : Valid job) where
+  last-limit : last job ≤ maxProcessors
+  last-limit = ≤-trans {n = last job} {m = processors job} (omega arith) (v .processors-limit)
+
+  pub few-last : last job < 2 ^ 32
+  few-last = omega (arith, last-limit, trials-fit)
+
+  pub few-trials : {n : ℕ} → n ≤ 64 → last job * n < 2 ^ 32
+  few-trials {n} h = let x : last job * n ≤ maxProcessors * 64 = mul-le-mul last-limit h in omega (arith, trials-fit)
+
 -- The allowances, method by method.
 module _ (job : Job) {m : Method} where
   pub allowance-table : m ≡ Table → last job * tasks job ≡ allowance m job
@@ -113,8 +128,11 @@ module _ (job : Job) {m : Method} where
   unfolding allowance
   allowance-bidding e = sym (ap (λ (k : Method). allowance k job) e)
 
-  -- By the leading zeros of the 64-bit D.
-  pub allowance-bisection : (d : ℕ) → m ≡ Bisection → d ≡ difference job → d < 2 ^ 64 → 1 + (64 - leadingZeros 64 d) ≡ allowance m job
+  -- By the digits of D, and of N, as the code counts them.
+  pub allowance-bisection : {n d : ℕ} → m ≡ Bisection → d ≡ difference job → n ≡ digits d → 1 + n ≡ allowance m job
   unfolding allowance
-  allowance-bisection d a e h =
-      ap (λ (n : ℕ). 1 + n) (sym (digits-leading 64 d h) ∙ ap digits e) ∙ sym (ap (λ (k : Method). allowance k job) a)
+  allowance-bisection a e h = ap (λ (n : ℕ). 1 + n) (h ∙ ap digits e) ∙ sym (ap (λ (k : Method). allowance k job) a)
+
+  pub allowance-nicol : {n : ℕ} → m ≡ Nicol → n ≡ digits (tasks job) → last job * n ≡ allowance m job
+  unfolding allowance
+  allowance-nicol a h = ap (λ (n : ℕ). last job * n) h ∙ sym (ap (λ (k : Method). allowance k job) a)

@@ -12,13 +12,13 @@ use borrow.Author.Tests.{ne-eqb}
 use Rattle.bound.specs.declared.Bound.{Bound}
 use Rattle.bound.specs.Order.{_≼_}
 use Rattle.chain.specs.declared.Method.{Method}
-use Rattle.chain.specs.declared.Method.the-variants.{Table, Bidding, Bisection}
+use Rattle.chain.specs.declared.Method.the-variants.{Table, Bidding, Bisection, Nicol}
 use Rattle.chain.specs.Ranges.{Small, Lendable}
 use Rattle.chain.specs.Lists.{sum}
 use Rattle.chain.specs.Job.{Job, Valid, tasks, processors, bottleneck, ideal, totalWeight}
 use Rattle.chain.specs.Probe.{walk}
 use Rattle.chain.specs.Bidding.{bidding}
-use Rattle.chain.specs.Plan.{MethodEnds, BiddingEnds, BisectionEnds, planOf, allowance, countBy, imbalance}
+use Rattle.chain.specs.Plan.{MethodEnds, BiddingEnds, BisectionEnds, NicolEnds, planOf, allowance, countBy, imbalance}
 use Rattle.chain.specs.Refusal.{refusal}
 use Rattle.chain.proofs.Indices.{length-tabulate}
 use Rattle.chain.proofs.Parts.{valid-proper, valid-plannable, weight-all}
@@ -53,6 +53,9 @@ module _ {job : Job} {m : Method} {B : Bound} {n : ℕ} where
 
   pub ends-bisection : m ≡ Bisection → BisectionEnds job n B → MethodEnds m job n B
   ends-bisection e t = subst (λ (k : Method). MethodEnds k job n B) (sym e) t
+
+  pub ends-nicol : m ≡ Nicol → NicolEnds job n B → MethodEnds m job n B
+  ends-nicol e t = subst (λ (k : Method). MethodEnds k job n B) (sym e) t
 
 -- Bidding's bounds are within the limits of a lent bound.
 bidding-lendable : {job : Job} → Valid job → (k : ℕ) → Lendable (bidding job k)

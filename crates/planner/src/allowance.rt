@@ -1,8 +1,8 @@
 // The allowance of a method. All functions here are inner.
-ghost use Prim.Native.Nat.{_<_};
+ghost use Prim.Native.Nat.{_≤_, _<_};
 ghost use mathlib.Core.Path.{_≡_};
 ghost use lib.ListN.{length};
-ghost use Rattle.chain.specs.Lists.{greatestOf};
+ghost use Rattle.chain.specs.Lists.{greatestOf, digits};
 ghost use Rattle.chain.specs.Job.{Job, jobOf, Valid, slowestOf};
 ghost use Rattle.chain.specs.Plan.{difference, allowance};
 use chain::Method;
@@ -54,6 +54,14 @@ fn difference_of(speeds: &[u32], weights: &[u32]) -> u64
     heaviest * (fastest * fastest) / slowest
 }
 
+// How many binary digits a number has, 0 having none: those of the 64 that are not leading zeros.
+fn digits_of(n: u64) -> u32
+    ensures { λ r. ⌜ r ≡ digits n ⌝ }
+    ensures { λ r. ⌜ r ≤ 64 ⌝ }
+{
+    64 - u64::leading_zeros(n)
+}
+
 // The allowance of a method. Inner: the job is within the limits.
 pub fn allowance_of(method: Method, speeds: &[u32], weights: &[u32]) -> u32
     ghost { Job }
@@ -61,10 +69,12 @@ pub fn allowance_of(method: Method, speeds: &[u32], weights: &[u32]) -> u32
     requires { λ job. ⌜ Valid job ⌝ }
     ensures { λ job r. ⌜ r ≡ allowance method job ⌝ }
 {
-    let most = (speeds.len() - 1) * weights.len();
+    let last = speeds.len() - 1;
+    let most = last * weights.len();
     match method {
         Method::Table => most as u32,
         Method::Bidding => (most + 1) as u32,
-        Method::Bisection => 1 + (64 - u64::leading_zeros(difference_of(speeds, weights))),
+        Method::Bisection => 1 + digits_of(difference_of(speeds, weights)),
+        Method::Nicol => last as u32 * digits_of(weights.len() as u64),
     }
 }

@@ -1,4 +1,4 @@
-// Planning by table, bidding or bisection: every method ends at the least bottleneck, and one walk there writes the plan.
+// Planning by table, bidding, bisection or Nicol's search: every method ends at the least bottleneck, and one walk there writes the plan.
 ghost use Prim.Native.Nat.{suc, _≤_, _<_};
 ghost use mathlib.Core.Path.{_≡_};
 ghost use mathlib.Core.List.{_++_};
@@ -25,6 +25,7 @@ use chain::Method;
 use dynamic::table_in;
 pub use host::plan_job;
 use imbalance::imbalance_of;
+use nicol::nicol_in;
 use parts::Found;
 use parts::measure_in;
 use parts::prefix_sums;
@@ -78,6 +79,7 @@ fn run_method(
         Method::Table => table_in(speeds, weights, scratch),
         Method::Bidding => bidding_in(speeds, weights, scratch, separators),
         Method::Bisection => bisection_in(speeds, weights, scratch, separators),
+        Method::Nicol => nicol_in(speeds, weights, scratch, separators),
     }
 }
 

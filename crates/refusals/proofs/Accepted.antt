@@ -13,10 +13,10 @@ use Rattle.chain.proofs.Ranges.{lendable-test}
 use Rattle.chain.proofs.Refusals.{Numbered, numbered-append, numbered-map, job-numbered, append-accepted, Each, map-accepted, job-accepted, partition-test}
 use Rattle.chain.proofs.Tests.{and-left, and-right}
 
--- Its method is one of the three, its job valid, its lists long enough, its bound within the limits, its list a division: of each
+-- Its method is one of the four, its job valid, its lists long enough, its bound within the limits, its list a division: of each
 -- kind, what the call takes.
 pub record Accepted (job : Job) (inputs : Inputs) : Type 0 where
-  pub methods : Each (λ m. (1 ≤ m) × (m ≤ 3)) (inputs .methods)
+  pub methods : Each (λ m. (1 ≤ m) × (m ≤ 4)) (inputs .methods)
   pub valid : Valid job
   pub lists : Each (λ l. l .needed ≤ l .given) (inputs .lists)
   pub bounds : Each Lendable (inputs .bounds)
@@ -30,7 +30,7 @@ accepted {job} {inputs} e =
     let l = append-accepted (ms ++ jobTests job) ls (numbered-append ms-numbered (job-numbered job)) (b .0) in
     let m = append-accepted ms (jobTests job) ms-numbered (l .0) in
     record {
-      methods = map-accepted (λ m. (1 ≤ m) × (m ≤ 3)) methodTest (λ m. omega arith) (λ m t. (leb→le 1 m (and-left (leb 1 m) (leb m 3) t), leb→le m 3 (and-right (leb 1 m) (leb m 3) t))) (inputs .methods) (m .0);
+      methods = map-accepted (λ m. (1 ≤ m) × (m ≤ 4)) methodTest (λ m. omega arith) (λ m t. (leb→le 1 m (and-left (leb 1 m) (leb m 4) t), leb→le m 4 (and-right (leb 1 m) (leb m 4) t))) (inputs .methods) (m .0);
       valid = job-accepted .0 (m .1);
       lists = map-accepted (λ l. l .needed ≤ l .given) (λ l. lengthTest (l .needed) (l .given)) (λ l. omega arith) (λ l t. leb→le (l .needed) (l .given) t) (inputs .lists) (l .1);
       bounds = map-accepted Lendable boundTest (λ B. omega arith) (λ B t. lendable-test B .0 t) (inputs .bounds) (b .1);

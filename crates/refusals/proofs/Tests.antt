@@ -22,15 +22,15 @@ use Rattle.refusals.proofs.Steps.{fails, passes, passed-all}
 -- The method.
 pub method-low : (m : ℕ) → m < 1 → 1 ≡ firstRefusal (methodTest m ∷ [])
 unfolding methodTest
-method-low m h = sym (fails 1 [] (between-low 1 3 m h))
+method-low m h = sym (fails 1 [] (between-low 1 4 m h))
 
-pub method-high : (m : ℕ) → 3 < m → 1 ≡ firstRefusal (methodTest m ∷ [])
+pub method-high : (m : ℕ) → 4 < m → 1 ≡ firstRefusal (methodTest m ∷ [])
 unfolding methodTest
-method-high m h = sym (fails 1 [] (between-high 1 3 m h))
+method-high m h = sym (fails 1 [] (between-high 1 4 m h))
 
-pub method-in : (m : ℕ) → 1 ≤ m → m ≤ 3 → 0 ≡ firstRefusal (methodTest m ∷ [])
+pub method-in : (m : ℕ) → 1 ≤ m → m ≤ 4 → 0 ≡ firstRefusal (methodTest m ∷ [])
 unfolding methodTest
-method-in m h k = sym (passes 1 [] (between-in 1 3 m h k) ∙ passed-all)
+method-in m h k = sym (passes 1 [] (between-in 1 4 m h k) ∙ passed-all)
 
 -- A length.
 pub length-short : (needed given : ℕ) → given < needed → 9 ≡ firstRefusal (lengthTest needed given ∷ [])

@@ -134,6 +134,7 @@ pub fn choose(number: u32) -> Chosen
         1 => Chosen::Known(Method::Table),
         2 => Chosen::Known(Method::Bidding),
         3 => Chosen::Known(Method::Bisection),
+        4 => Chosen::Known(Method::Nicol),
         _ => Chosen::Unknown,
     }
 }
@@ -146,6 +147,7 @@ pub fn method_number(method: Method) -> u32
         Method::Table => 1,
         Method::Bidding => 2,
         Method::Bisection => 3,
+        Method::Nicol => 4,
     }
 }
 

@@ -24,15 +24,20 @@ list-method-requires-3 : tie.Need-list-method-requires-3
 unfolding listingRoom
 list-method-requires-3 c κs = let s = c .before .before .before .before .before .before .before .before .before .before .before .before .before .before .before .before in (s .pre .0, omega (arith, s .pre .0 .processors-limit))
 
+list-method-requires-4 : tie.Need-list-method-requires-4
+unfolding listingRoom
+list-method-requires-4 c κs = let s = c .before .before .before .before .before .before .before .before .before .before .before .before .before .before .before .before .before .before .before .before in (s .pre .0, omega (arith, s .pre .0 .processors-limit))
+
 same-length : tie.Need-same-length
 same-length c = search needs
 
 returns : tie.Need-returns
 unfolding jobListing listingRoom
 returns c =
-    let s = c .before .before .before .before .before .before .before .before .before .before .before .before .before .before .before .before .before .before .before in
-    let first = put-then (c .before .before .before .before .before .before .before .before .before .before .before .before .before .before .put-counts-line .ensures .0) (c .before .before .before .before .before .before .before .before .before .before .list-method .ensures .0) in
-    (put-then (put-then first (c .before .before .before .before .before .before .list-method2 .ensures .0)) (c .before .before .list-method3 .ensures .0), omega (arith, s .pre .0 .processors-limit))
+    let s = c .before .before .before .before .before .before .before .before .before .before .before .before .before .before .before .before .before .before .before .before .before .before .before in
+    let first = put-then (c .before .before .before .before .before .before .before .before .before .before .before .before .before .before .before .before .before .before .put-counts-line .ensures .0) (c .before .before .before .before .before .before .before .before .before .before .before .before .before .before .list-method .ensures .0) in
+    let second = put-then first (c .before .before .before .before .before .before .before .before .before .before .list-method2 .ensures .0) in
+    (put-then (put-then second (c .before .before .before .before .before .before .list-method3 .ensures .0)) (c .before .before .list-method4 .ensures .0), omega (arith, s .pre .0 .processors-limit))
 
 pub list-job-spec : {M : Type 1} → statement M
 list-job-spec =
@@ -42,5 +47,6 @@ list-job-spec =
     list-method-requires
     list-method-requires-2
     list-method-requires-3
+    list-method-requires-4
     same-length
     returns)

@@ -9,7 +9,7 @@ use Rattle.refusals.specs.Inputs.{scratchNeeded}
 use Rattle.parts.proofs.Front.{kept-start, kept-written}
 use Rattle.probe.proofs.Answer.{walk-count}
 use Rattle.dynamic.proofs.Laws.{tabled-ready, tabled-small}
-use Rattle.planner.proofs.Laws.{ends-table, ends-bidding, ends-bisection, ended-lendable, tabled-kept}
+use Rattle.planner.proofs.Laws.{ends-table, ends-bidding, ends-bisection, ends-nicol, ended-lendable, tabled-kept}
 use borrow.Author.Needs.{needs}
 use Rattle.planner.proofs.run_method.Statement.{statement}
 use Rattle.planner.proofs.run_method.Tie as tie
@@ -35,6 +35,12 @@ enum-told-3 c = search needs
 
 bisection-in-requires : tie.Need-bisection-in-requires
 bisection-in-requires c κs = search needs
+
+enum-told-4 : tie.Need-enum-told-4
+enum-told-4 c = search needs
+
+nicol-in-requires : tie.Need-nicol-in-requires
+nicol-in-requires c κs = search needs
 
 same-length : tie.Need-same-length
 same-length c = search needs
@@ -88,6 +94,20 @@ returns-3 c =
     let r = (c .before .before .bisection-in) .ensures in
     (ends-bisection ((c .before .before .before .before .before .enum-told3) .given .1) (r .0), (r .1 .0, (r .1 .1, (p .0, kept-start (scratchNeeded job) (s .args .scratch .now)))))
 
+same-length-6 : tie.Need-same-length-6
+same-length-6 c = search needs
+
+same-length-7 : tie.Need-same-length-7
+same-length-7 c = search needs
+
+returns-4 : tie.Need-returns-4
+returns-4 c =
+    let s = c .before .before .before .before .before .before .before .before .before .before .before in
+    let p = (c .before .before .before .before .before .before .before .before .before .before .before .pre) in
+    let job : Job = job-at s in
+    let r = (c .before .before .nicol-in) .ensures in
+    (ends-nicol ((c .before .before .before .before .before .enum-told4) .given .1) (r .0), (r .1 .0, (r .1 .1, (p .0, kept-start (scratchNeeded job) (s .args .scratch .now)))))
+
 pub run-method-spec : {M : Type 1} → statement M
 run-method-spec =
     tie.close
@@ -98,6 +118,8 @@ run-method-spec =
     bidding-in-requires
     enum-told-3
     bisection-in-requires
+    enum-told-4
+    nicol-in-requires
     same-length
     returns
     same-length-2
@@ -105,4 +127,7 @@ run-method-spec =
     returns-2
     same-length-4
     same-length-5
-    returns-3)
+    returns-3
+    same-length-6
+    same-length-7
+    returns-4)

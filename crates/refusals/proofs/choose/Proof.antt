@@ -16,5 +16,8 @@ returns-3 c = search choice-laws
 returns-4 : tie.Need-returns-4
 returns-4 c = search choice-laws
 
+returns-5 : tie.Need-returns-5
+returns-5 c = search choice-laws
+
 pub choose-spec : {M : Type 1} → statement M
-choose-spec = tie.close (tie.spec returns returns-2 returns-3 returns-4)
+choose-spec = tie.close (tie.spec returns returns-2 returns-3 returns-4 returns-5)

@@ -15,6 +15,9 @@ enum-told-2 c = search needs
 enum-told-3 : tie.Need-enum-told-3
 enum-told-3 c = search needs
 
+enum-told-4 : tie.Need-enum-told-4
+enum-told-4 c = search needs
+
 returns : tie.Need-returns
 unfolding numberOf
 returns c = sym (ap numberOf (c .enum-told .given .1))
@@ -27,5 +30,9 @@ returns-3 : tie.Need-returns-3
 unfolding numberOf
 returns-3 c = sym (ap numberOf (c .enum-told3 .given .1))
 
+returns-4 : tie.Need-returns-4
+unfolding numberOf
+returns-4 c = sym (ap numberOf (c .enum-told4 .given .1))
+
 pub method-number-spec : {M : Type 1} → statement M
-method-number-spec = tie.close (tie.spec enum-told enum-told-2 enum-told-3 returns returns-2 returns-3)
+method-number-spec = tie.close (tie.spec enum-told enum-told-2 enum-told-3 enum-told-4 returns returns-2 returns-3 returns-4)

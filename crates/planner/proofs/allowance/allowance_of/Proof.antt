@@ -1,13 +1,10 @@
 -- `allowance_of` meets its contract, method by method.
 -- Assumes nothing.
-use Prim.Native.Nat.{ℕ, _<_, _^_}
-use mathlib.Core.Path.{subst, sym}
 use native.Mathlib.Omega.{arith}
-use lib.Count.{leading-le}
 use Rattle.chain.specs.Job.{Job, jobOf}
 use Rattle.chain.specs.Plan.{allowance}
-use Rattle.chain.proofs.Counts.{allowance-fits, difference-fits}
-use Rattle.planner.proofs.Allowances.{allowance-table, allowance-bidding, allowance-bisection}
+use Rattle.chain.proofs.Counts.{allowance-fits}
+use Rattle.planner.proofs.Allowances.{few-last, few-trials, allowance-table, allowance-bidding, allowance-bisection, allowance-nicol}
 use borrow.Author.Needs.{needs}
 use Rattle.planner.proofs.allowance.allowance_of.Statement.{statement}
 use Rattle.planner.proofs.allowance.allowance_of.Tie as tie
@@ -16,8 +13,8 @@ use Rattle.planner.proofs.allowance.allowance_of.Tie as tie
 abbrev job-at : tie.Start → Job
 job-at s = jobOf (s .args .speeds .now) (s .args .weights .now)
 
-sub-most : tie.Need-sub-most
-sub-most c = search needs
+sub-last : tie.Need-sub-last
+sub-last c = search needs
 
 mul-most : tie.Need-mul-most
 unfolding allowance
@@ -55,11 +52,23 @@ enum-told-3 c = search needs
 difference-of-requires : tie.Need-difference-of-requires
 difference-of-requires c κs = search needs
 
-sub-result : tie.Need-sub-result
-sub-result c = leading-le 64 (c .difference-of .result)
+digits-of-requires : tie.Need-digits-of-requires
+digits-of-requires c κs = search needs
 
 add-result-2 : tie.Need-add-result-2
 add-result-2 c = search needs
+
+enum-told-4 : tie.Need-enum-told-4
+enum-told-4 c = search needs
+
+cast-result-3 : tie.Need-cast-result-3
+cast-result-3 c = omega (arith, few-last (c .before .before .before .before .pre))
+
+digits-of-requires-2 : tie.Need-digits-of-requires-2
+digits-of-requires-2 c κs = search needs
+
+mul-result : tie.Need-mul-result
+mul-result c = omega (arith, few-trials (c .before .before .before .before .before .pre) (c .digits-of2 .ensures .1))
 
 returns : tie.Need-returns
 returns c =
@@ -73,16 +82,20 @@ returns-2 c =
 
 returns-3 : tie.Need-returns-3
 returns-3 c =
+    let s = c .before .before .before .before .before .before in
+    let d = c .before .difference-of in
+    allowance-bisection (job-at s) ((c .before .before .enum-told3) .given .1) (d .ensures) (c .digits-of .ensures .0)
+
+returns-4 : tie.Need-returns-4
+returns-4 c =
     let s = c .before .before .before .before .before in
-    let job : Job = job-at s in
-    let d = c .difference-of in
-    allowance-bisection job (d .result) ((c .before .enum-told3) .given .1) (d .ensures) (subst (λ (n : ℕ). n < 2 ^ 64) (sym (d .ensures)) (difference-fits {job = job} ((c .before .before .before .before .before .pre))))
+    allowance-nicol (job-at s) ((c .before .enum-told4) .given .1) (c .digits-of2 .ensures .0)
 
 pub allowance-of-spec : {M : Type 1} → statement M
 allowance-of-spec =
     tie.close
     (tie.spec
-    sub-most
+    sub-last
     mul-most
     enum-told
     cast-result
@@ -91,8 +104,13 @@ allowance-of-spec =
     cast-result-2
     enum-told-3
     difference-of-requires
-    sub-result
+    digits-of-requires
     add-result-2
+    enum-told-4
+    cast-result-3
+    digits-of-requires-2
+    mul-result
     returns
     returns-2
-    returns-3)
+    returns-3
+    returns-4)
