@@ -115,8 +115,8 @@ unfolding decimal
 number-text {n} f e = e ∙ ap (λ (j : ℕ). digits 10 j n) (fewest-width f)
 
 -- A number of 64 bits has at most so many digits.
-pub digits-few : (n k : ℕ) → Fewest 10 1 n k → n < 2 ^ 64 → k ≤ numberRoom
-digits-few n k f h =
+pub digits-few : {n k : ℕ} → Fewest 10 1 n k → n < 2 ^ 64 → k ≤ numberRoom
+digits-few {n} {k} f h =
     elim (decLe k numberRoom) [
       | yes p ↦ p
       | no p ↦ let least : 10 ^ numberRoom ≤ 10 ^ (k - 1) = pow-le-pow-right (lit< tt) {i = numberRoom} {j = k - 1} (omega arith) in

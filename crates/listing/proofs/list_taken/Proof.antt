@@ -12,8 +12,7 @@ use Rattle.listing.proofs.list_taken.Statement.{statement}
 use Rattle.listing.proofs.list_taken.Tie as tie
 
 slice-aggregate-list-file : tie.Need-slice-aggregate-list-file
-unfolding intake maxProcessors maxTasks
-slice-aggregate-list-file c = sym (length-take-le intake (c .before .before .before .before .args .file .now) (omega arith))
+slice-aggregate-list-file c = sym (length-take-le _ (c .before .before .before .before .args .file .now) (omega arith))
 
 list-file-requires : tie.Need-list-file-requires
 list-file-requires c κs = search needs

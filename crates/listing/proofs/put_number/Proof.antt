@@ -16,20 +16,16 @@ slice-aggregate-put-text : tie.Need-slice-aggregate-put-text
 slice-aggregate-put-text c = search needs
 
 put-text-requires : tie.Need-put-text-requires
-put-text-requires c κs =
-    let s = c .before .before .before .before .before in
-    let d = c .before .before .decimal in
-    omega (arith, digits-few (s .args .n) (d .result) (d .ensures .1 .0) (s .fits .n .fits))
+put-text-requires c κs = omega (arith, digits-few (c .before .before .decimal .ensures .1 .0) (omega arith))
 
 same-length : tie.Need-same-length
 same-length c = search needs
 
 returns : tie.Need-returns
 returns c =
-    let s = c .before .before .before .before .before .before .before .before in
     let d = c .before .before .before .before .before .decimal in (
       put-as (number-text (d .ensures .1 .0) (d .ensures .1 .1)) (c .before .before .put-text .ensures .0),
-      omega (arith, digits-few (s .args .n) (d .result) (d .ensures .1 .0) (s .fits .n .fits)),
+      omega (arith, digits-few (d .ensures .1 .0) (omega arith)),
     )
 
 pub put-number-spec : {M : Type 1} → statement M

@@ -2,10 +2,11 @@
 -- Assumes nothing.
 use Prim.Native.Nat.{ℕ, _*_, _/_, _<_, _^_}
 use mathlib.Core.Path.{_≡_, subst, sym, ap₂, _∙_}
+use native.Mathlib.Omega.{arith}
 use Rattle.chain.specs.Job.{Job, jobOf, heaviest, fastest, slowest}
 use Rattle.chain.specs.Plan.{difference}
 use Rattle.chain.proofs.Parts.{valid-proper}
-use Rattle.chain.proofs.Extremes.{slowest-positive}
+use Rattle.chain.proofs.Extremes.{slowest-positive, speed-fastest}
 use Rattle.chain.proofs.Ranges.{difference-product}
 use Rattle.chain.proofs.Counts.{square-fits}
 use borrow.Author.Needs.{needs}
@@ -59,7 +60,7 @@ div-result c =
     let h : c .before .before .before .before .wide .result ≡ heaviest job = c .before .before .before .before .wide .ensures ∙ c .before .before .before .before .before .greatest-of .ensures in
     let f : c .before .before .wide2 .result ≡ fastest job = c .before .before .wide2 .ensures ∙ c .before .before .before .greatest-of2 .ensures in
     let l : c .wide3 .result ≡ slowest job = c .wide3 .ensures ∙ c .before .least-of .ensures in
-    subst (λ (n : ℕ). 0 < n) (sym l) (slowest-positive job (valid-proper (s .pre)))
+    omega (arith, f, l, slowest-positive job (valid-proper (s .pre)), s .pre .speeds-positive 0, speed-fastest job 0 (s .pre .some-processor))
 
 returns : tie.Need-returns
 unfolding difference
