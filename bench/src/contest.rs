@@ -16,7 +16,7 @@ pub struct Contest {
     pub jobs: usize,
 }
 
-pub const CONTESTS: [Contest; 7] = [
+pub const CONTESTS: [Contest; 8] = [
     Contest {
         name: "table",
         sides: [("planner_table", sides::planner_table), ("plain_table", sides::plain_table)],
@@ -47,6 +47,12 @@ pub const CONTESTS: [Contest; 7] = [
     Contest {
         name: "Nicol",
         sides: [("planner_nicol", sides::planner_nicol), ("plain_nicol", sides::plain_nicol)],
+        answers: 5,
+        jobs: 12,
+    },
+    Contest {
+        name: "Nicol by the trial",
+        sides: [("planner_nicol", sides::planner_nicol), ("plain_nicoltrial", sides::plain_nicoltrial)],
         answers: 5,
         jobs: 12,
     },

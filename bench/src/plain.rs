@@ -60,6 +60,7 @@ pub enum Method {
     BiddingResumed,
     Bisection,
     Nicol,
+    NicolByTrial,
 }
 
 /// No early end, so that several are tested at once.
@@ -296,9 +297,30 @@ fn bisection(speeds: &[u32], sums: &[u32], separators: &mut [u32]) -> Found {
     Found { bound: low, count }
 }
 
+/// Whether the walk of all machines fits: a walk without bids, which Nicol's search does not ask for.
+fn fits(speeds: &[u32], sums: &[u32], bound: Bound, separators: &mut [u32]) -> bool {
+    let n = sums.len() - 1;
+    let last = speeds.len() - 1;
+    let separators = &mut separators[..=speeds.len()];
+    let mut a = 0;
+    separators[0] = 0;
+    for (&speed, end) in speeds[..last].iter().zip(&mut separators[1..]) {
+        let b = part_end(sums, a, speed, bound, *end as usize);
+        *end = b as u32;
+        a = b;
+    }
+    separators[last + 1] = n as u32;
+    part_bound(sums, a, n, speeds[last]).at_most(bound)
+}
+
 /// Nicol's search: for each machine but the last the smallest end of its part at whose bound the whole job fits, by halving.
 /// That bound is a candidate, and so is what is left for the last machine; the machine keeps its part without the last tile.
-fn nicol(speeds: &[u32], sums: &[u32], separators: &mut [u32]) -> Found {
+fn nicol(
+    speeds: &[u32],
+    sums: &[u32],
+    separators: &mut [u32],
+    fits: impl Fn(&[u32], &[u32], Bound, &mut [u32]) -> bool,
+) -> Found {
     let n = sums.len() - 1;
     let last = speeds.len() - 1;
     let mut best = Bound::ENDLESS;
@@ -309,9 +331,10 @@ fn nicol(speeds: &[u32], sums: &[u32], separators: &mut [u32]) -> Found {
         let mut high = n;
         while low < high {
             let middle = (low + high) / 2;
-            match trial(speeds, sums, part_bound(sums, start, middle, speed), separators) {
-                None => high = middle,
-                Some(_) => low = middle + 1,
+            if fits(speeds, sums, part_bound(sums, start, middle, speed), separators) {
+                high = middle;
+            } else {
+                low = middle + 1;
             }
             count += 1;
         }
@@ -382,7 +405,7 @@ fn allowance(method: Method, speeds: &[u32], weights: &[u32]) -> u32 {
             let slowest = speeds.iter().copied().min().unwrap_or(1) as u64;
             1 + (64 - (heaviest * (fastest * fastest) / slowest).leading_zeros())
         }
-        Method::Nicol => (speeds.len() - 1) as u32 * (usize::BITS - weights.len().leading_zeros()),
+        Method::Nicol | Method::NicolByTrial => (speeds.len() - 1) as u32 * (usize::BITS - weights.len().leading_zeros()),
     }
 }
 
@@ -413,7 +436,8 @@ pub fn plan(
         Method::Bidding => bidding(speeds, sums, separators),
         Method::BiddingResumed => bidding_resumed(speeds, sums, separators),
         Method::Bisection => bisection(speeds, sums, separators),
-        Method::Nicol => nicol(speeds, sums, separators),
+        Method::Nicol => nicol(speeds, sums, separators, fits),
+        Method::NicolByTrial => nicol(speeds, sums, separators, |e, s, b, to| trial(e, s, b, to).is_none()),
     };
     trial(speeds, sums, found.bound, separators);
     let bottleneck = bottleneck(speeds, sums, separators);

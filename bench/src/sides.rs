@@ -207,6 +207,12 @@ pub fn plain_nicol(job: &Job, room: &mut Room) -> u32 {
 
 #[no_mangle]
 #[inline(never)]
+pub fn plain_nicoltrial(job: &Job, room: &mut Room) -> u32 {
+    plain_plan(Method::NicolByTrial, job, room)
+}
+
+#[no_mangle]
+#[inline(never)]
 pub fn plain_quick(job: &Job, room: &mut Room) -> u32 {
     match plain::heuristic(&job.speeds, &job.weights, &mut room.separators) {
         Err(number) => number,

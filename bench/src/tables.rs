@@ -4,12 +4,13 @@ use crate::measure::{growth, FASTEST, GROWTH_PROCESSORS, GROWTH_TASKS, PLACEMENT
 use crate::records::{self, Records};
 
 /// A table of ratios: its title and the two sides.
-const RATIOS: [(&str, &str, &str); 7] = [
+const RATIOS: [(&str, &str, &str); 8] = [
     ("Table", "planner_table", "plain_table"),
     ("Bidding, plain Rust in the same resumed form", "planner_bidding", "plain_resumed"),
     ("Bidding, plain Rust with every walk from machine 1", "planner_bidding", "plain_bidding"),
     ("Bisection", "planner_bisection", "plain_bisection"),
-    ("Nicol's search", "planner_nicol", "plain_nicol"),
+    ("Nicol's search, plain Rust by the same trial", "planner_nicol", "plain_nicoltrial"),
+    ("Nicol's search, plain Rust by a walk without bids", "planner_nicol", "plain_nicol"),
     ("Quick plan", "planner_quick", "plain_quick"),
     ("Single trial", "planner_trial", "plain_trial"),
 ];
@@ -169,7 +170,7 @@ fn passes(records: &Records) {
 
 fn single(records: &Records) {
     println!("## A plan at N = {TASKS}, P = {SINGLE}, in microseconds\n");
-    println!("Planner, and plain Rust behind the stroke (bidding: the resumed form).\n");
+    println!("Planner, and plain Rust behind the stroke (bidding: the resumed form; Nicol's search: by a walk without bids).\n");
     let mut columns = texts(&["weights", "speeds"]);
     columns.extend(PAIRS.iter().map(|pair| pair.0.to_string()));
     head(&columns);

@@ -44,7 +44,7 @@ square-fits {job} v =
     lt-of-le-of-lt (mul-le-mul h h) (lit< tt)
 
 -- D fits 64 bits.
-pub difference-fits : {job : Job} → Valid job → difference job < 2 ^ 64
+difference-fits : {job : Job} → Valid job → difference job < 2 ^ 64
 unfolding difference
 difference-fits {job} v =
     lt-of-le-of-lt (div-le-self (heaviest job * (fastest job * fastest job)) (slowest job)) (difference-product v)
