@@ -17,7 +17,7 @@ unfoldable pub firstFit : Job → ℕ → ℕ → ℕ
 firstFit job p a = smallestFrom (fitsAt job p a) a (tasks job - a)
 
 -- Scope 5.18: "The share of machine 1 starts before the first tile; p keeps the tiles before j, and there the share of the next machine
--- starts." (There is a tile before j unless the empty part fits, where the search ends.)
+-- starts." (j is past the start of the part, so that there is an index before it, unless the empty part fits: there the search ends.)
 unfoldable pub startOn : Job → ℕ → ℕ
 startOn job zero = 0
 startOn job (suc p) = firstFit job p (startOn job p) - 1

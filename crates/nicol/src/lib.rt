@@ -17,9 +17,9 @@ use parts::part_bound;
 use probe::probe_in;
 
 // The smallest index that fits, and the trials that found it.
-pub struct FirstFit {
-    pub index: usize,
-    pub trials: u32,
+struct FirstFit {
+    index: usize,
+    trials: u32,
 }
 
 // Inner. The middle of a range, rounded down.
@@ -101,7 +101,7 @@ fn first_fit(
     FirstFit { index: low, trials }
 }
 
-// Inner. Nicol's search: machine by machine the smallest part at whose bound the job fits; the least of these bounds, and of all that
+// Inner. Nicol's search: processor by processor the smallest part at whose bound the job fits; the least of these bounds, and of all that
 // remains for the last, is the bottleneck. Where an empty part fits, it is nought.
 pub fn nicol_in(speeds: &[u32], weights: &[u32], sums: &[u32], separators: &mut [u32]) -> Found
     ghost { Job }
