@@ -1,10 +1,12 @@
--- The small algebra of fractions: sum, half, multiple, midpoint.
+-- The small algebra of fractions: sum, half, multiple, midpoint, rounding up.
 -- Assumes nothing.
-use Prim.Native.Nat.{ℕ, _*_, _<_}
+use Prim.Native.Nat.{ℕ, suc, _+_, _-_, _*_, _≤_, _<_, _/_}
+use mathlib.Core.Path.{_≡_, ap₂}
+use mathlib.Core.Logic.{_↔_}
 use native.Mathlib.Omega.{arith}
-use native.Mathlib.Nat.{mul-le-mul-right, le-of-mul-le-mul-right, one-le-mul}
+use native.Mathlib.Nat.{mul-le-mul-right, le-of-mul-le-mul-right, one-le-mul, div-lt-iff-lt-mul}
 use Rattle.bound.specs.declared.Bound.{Bound}
-use Rattle.bound.specs.Order.{_≼_, plus, half, times, middle}
+use Rattle.bound.specs.Order.{over, _≼_, plus, half, times, middle, roundedUp, Finite}
 use Rattle.bound.proofs.Order.{open-le, make-le}
 
 pub plus-comm : (B C : Bound) → plus B C ≼ plus C B
@@ -45,3 +47,17 @@ times-mono n h = make-le (omega (arith, mul-le-mul-right n (open-le h)))
 
 pub times-cancel : (n : ℕ) {B C : Bound} → 0 < n → times n B ≼ times n C → B ≼ C
 times-cancel n {B} {C} p h = make-le (le-of-mul-le-mul-right {k = n} (omega (arith, open-le h)) p)
+
+-- Rounded up, a bound is the least whole number that is not below it.
+pub rounded-least : {B : Bound} → Finite B → (n : ℕ) → (roundedUp B ≤ n) ↔ (B ≼ over n 1)
+unfolding roundedUp
+rounded-least {B} f n =
+    let d = div-lt-iff-lt-mul {k = B .speed} {x = B .load + (B .speed - 1)} {y = suc n} (f .speed-positive) in (
+      λ h. make-le (omega (arith, d .0 (omega arith), f .speed-positive)),
+      λ h. let l : (B .load + (B .speed - 1)) / B .speed < suc n = d .1 (omega (arith, open-le h, f .speed-positive)) in omega arith,
+    )
+
+-- By the sum that code divides.
+pub rounded-is : (B : Bound) {n d : ℕ} → n ≡ B .load + (B .speed - 1) → d ≡ B .speed → n / d ≡ roundedUp B
+unfolding roundedUp
+rounded-is B e f = ap₂ (λ (n d : ℕ). n / d) e f

@@ -1,5 +1,5 @@
 -- Bounds and their order, and the algebra of fractions over unbounded numbers.
-use Prim.Native.Nat.{ℕ, zero, suc, _+_, _*_, _<_}
+use Prim.Native.Nat.{ℕ, zero, suc, _+_, _-_, _*_, _/_, _<_}
 use mathlib.Core.Bool.{Bool, true, false, not}
 use lib.Dec.{T, leb}
 use Rattle.bound.specs.declared.Bound.{Bound}
@@ -74,6 +74,10 @@ times n B = over (n * B .load) (B .speed)
 -- The midpoint: half the sum.
 abbrev pub middle : Bound → Bound → Bound
 middle B C = half (plus B C)
+
+-- A bound rounded up to a whole number.
+unfoldable pub roundedUp : Bound → ℕ
+roundedUp B = (B .load + (B .speed - 1)) / B .speed
 
 -- A bound that is a number or above all numbers: any but 0/0.
 pub record Real (B : Bound) : Type 0 where

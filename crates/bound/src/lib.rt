@@ -1,7 +1,7 @@
 // A bound: a load over a speed, compared exactly by cross products.
 ghost use Prim.Native.Nat.{_<_, _*_, _+_, _^_};
 ghost use mathlib.Core.Path.{_≡_};
-ghost use Rattle.bound.specs.Order.{nought, le, greater, lesser, middle};
+ghost use Rattle.bound.specs.Order.{nought, le, greater, lesser, middle, roundedUp};
 
 pub struct Bound {
     pub load: u64,
@@ -55,5 +55,13 @@ impl Bound {
             load: a.load * b.speed + b.load * a.speed,
             speed: 2 * (a.speed * b.speed),
         }
+    }
+
+    // a, rounded up to a whole number. Inner: it has a speed, and load and speed together fit 64 bits.
+    pub fn rounded_up(a: Bound) -> u64
+        requires { ⌜ (0 < a .speed) × (a .load + a .speed < 2 ^ 64) ⌝ }
+        ensures { λ r. ⌜ r ≡ roundedUp a ⌝ }
+    {
+        (a.load + (a.speed - 1)) / a.speed
     }
 }

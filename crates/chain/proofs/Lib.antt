@@ -11,6 +11,7 @@ pub mod Extremes
 pub mod Halving
 pub mod Heuristic
 pub mod Ideal
+pub mod Imbalance
 pub mod Indices
 pub mod Marked
 pub mod NextBid

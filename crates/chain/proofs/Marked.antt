@@ -1,8 +1,8 @@
--- The worked jobs of the scope, section 11, and seven more, hold of the definitions: the checker computes the whole table.
+-- The worked jobs of the scope, section 11, and eight more, hold of the definitions: the checker computes the whole table.
 -- Assumes nothing.
 use mathlib.Core.List.{_++_}
 use lib.Dec.{T}
-use Rattle.bound.specs.Order.{le, greater, lesser, leastTo}
+use Rattle.bound.specs.Order.{le, greater, lesser, leastTo, roundedUp}
 use Rattle.chain.specs.Limits.{maxTasks, maxWeight, maxProcessors, maxSpeed, maxBoundLoad, maxBoundSpeed}
 use Rattle.chain.specs.Lists.{sum, greatestOf, leastOf, tabulate, sumTo, all, greatestFrom, smallestFrom, smallestLeast, digitsWithin, digits}
 use Rattle.chain.specs.Job.{speedOf, partOf, partWeight, partLoad, slowestOf, partBound, within, offer, boundAt, bottleneckTo, bottleneck, ideal}
@@ -17,5 +17,5 @@ use Rattle.chain.specs.Refusal.{eachBetween, methodTest, speedsTest, wei
 use Rattle.chain.specs.Marked.{sameList, samePair, figuresAre, walksAre, isFailing, isFitting, holds, everyHolds, marked, worked}
 
 pub marked-jobs : T (everyHolds (marked ++ worked))
-unfolding le greater lesser leastTo maxTasks maxWeight maxProcessors maxSpeed maxBoundLoad maxBoundSpeed sum greatestOf leastOf tabulate sumTo all greatestFrom smallestFrom smallestLeast digitsWithin digits speedOf partOf partWeight partLoad slowestOf partBound within offer boundAt bottleneckTo bottleneck ideal reach separator walk fits bid nextBid probe miss nearest heuristic startOf candidate crossingOf lesserAt tableValue crossing movesTo moves bidding firstEnds nextEnds ends meet fitsAt firstFit startOn candidateOn leastCandidate emptyFits nextRange rangeAfter single settled spread onward partitions leastBound leastBottleneck planOf difference allowance biddingFailures bisectionRounds nicolTrials nicolStop countBy foundBy imbalance eachBetween methodTest speedsTest weightsTest processorsTest tasksTest lengthTest boundTest isPartition partitionTest firstRefusal jobTests callTests refusal sameList samePair figuresAre walksAre isFailing isFitting holds everyHolds marked worked
+unfolding le greater lesser leastTo roundedUp maxTasks maxWeight maxProcessors maxSpeed maxBoundLoad maxBoundSpeed sum greatestOf leastOf tabulate sumTo all greatestFrom smallestFrom smallestLeast digitsWithin digits speedOf partOf partWeight partLoad slowestOf partBound within offer boundAt bottleneckTo bottleneck ideal reach separator walk fits bid nextBid probe miss nearest heuristic startOf candidate crossingOf lesserAt tableValue crossing movesTo moves bidding firstEnds nextEnds ends meet fitsAt firstFit startOn candidateOn leastCandidate emptyFits nextRange rangeAfter single settled spread onward partitions leastBound leastBottleneck planOf difference allowance biddingFailures bisectionRounds nicolTrials nicolStop countBy foundBy imbalance eachBetween methodTest speedsTest weightsTest processorsTest tasksTest lengthTest boundTest isPartition partitionTest firstRefusal jobTests callTests refusal sameList samePair figuresAre walksAre isFailing isFitting holds everyHolds marked worked
 marked-jobs = tt

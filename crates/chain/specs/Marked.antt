@@ -100,7 +100,7 @@ jobE = jobOf (1 ∷ 1 ∷ []) (6 ∷ [])
 -- The table, with the figures of the scope's section 11.
 unfoldable pub marked : List Row
 marked =
-    planned jobA (0 ∷ 1 ∷ 3 ∷ []) (over 11 3) 222 (four 2 2 2 2) (four 3 4 8 2)
+    planned jobA (0 ∷ 1 ∷ 3 ∷ []) (over 11 3) 223 (four 2 2 2 2) (four 3 4 8 2)
     ∷ failsWith jobA (over 3 1) (over 11 3)
     ∷ fitsWith jobA (over 11 3) (0 ∷ 1 ∷ 3 ∷ [])
     ∷ fitsWith jobA (over 23 6) (0 ∷ 1 ∷ 3 ∷ [])
@@ -115,14 +115,16 @@ marked =
 
 -- Beside the marked jobs: two bids that tie, 3/1 and 6/2; two indices equally near; a midpoint that fails; a first candidate of Nicol's
 -- search, 5/1, below the last, 6/1; equal weights on three processors, of which the search starts the second behind a task; weights of
--- 0 on three processors, where it ends at the first; a single processor.
+-- 0 on three processors, where it ends at the first; a single processor; two parts that differ by 1 in 2001, where an imbalance rounded
+-- down would be 0.
 unfoldable pub worked : List Row
 worked =
     failsWith (jobOf (1 ∷ 2 ∷ []) (3 ∷ 3 ∷ [])) (over 0 1) (over 3 1)
     ∷ quick (jobOf (1 ∷ 3 ∷ []) (1 ∷ 1 ∷ [])) (0 ∷ 0 ∷ 2 ∷ []) (over 2 3)
-    ∷ planned (jobOf (2 ∷ 3 ∷ 3 ∷ []) (6 ∷ 3 ∷ 4 ∷ 1 ∷ [])) (0 ∷ 0 ∷ 1 ∷ 4 ∷ []) (over 8 3) 523 (four 3 3 3 5) (four 8 9 6 6)
-    ∷ planned (jobOf (1 ∷ 1 ∷ []) (5 ∷ 1 ∷ [])) (0 ∷ 1 ∷ 2 ∷ []) (over 5 1) 666 (four 1 2 1 2) (four 2 3 4 2)
+    ∷ planned (jobOf (2 ∷ 3 ∷ 3 ∷ []) (6 ∷ 3 ∷ 4 ∷ 1 ∷ [])) (0 ∷ 0 ∷ 1 ∷ 4 ∷ []) (over 8 3) 524 (four 3 3 3 5) (four 8 9 6 6)
+    ∷ planned (jobOf (1 ∷ 1 ∷ []) (5 ∷ 1 ∷ [])) (0 ∷ 1 ∷ 2 ∷ []) (over 5 1) 667 (four 1 2 1 2) (four 2 3 4 2)
     ∷ planned (jobOf (1 ∷ 1 ∷ 1 ∷ []) (2 ∷ 2 ∷ 2 ∷ 2 ∷ 2 ∷ 2 ∷ [])) (0 ∷ 2 ∷ 4 ∷ 6 ∷ []) (over 4 1) 0 (four 7 1 1 5) (four 12 13 3 6)
     ∷ planned (jobOf (1 ∷ 1 ∷ 1 ∷ []) (0 ∷ 0 ∷ [])) (0 ∷ 2 ∷ 2 ∷ 2 ∷ []) (over 0 1) 0 (four 0 1 1 2) (four 4 5 1 4)
     ∷ planned (jobOf (3 ∷ []) (5 ∷ 2 ∷ [])) (0 ∷ 2 ∷ []) (over 7 3) 0 (four 0 1 1 0) (four 0 1 5 0)
+    ∷ planned (jobOf (1 ∷ 1 ∷ []) (1000 ∷ 1001 ∷ [])) (0 ∷ 1 ∷ 2 ∷ []) (over 1001 1) 1 (four 2 2 1 1) (four 2 3 11 2)
     ∷ []

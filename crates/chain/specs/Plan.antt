@@ -5,7 +5,7 @@ use mathlib.Core.Bool.{not, cond}
 use mathlib.Core.List.{List, [], _∷_, _++_, map}
 use lib.Dec.{T, eqb, ltb}
 use Rattle.bound.specs.declared.Bound.{Bound}
-use Rattle.bound.specs.Order.{nought, pick, lesser, _≼_, _≈_}
+use Rattle.bound.specs.Order.{over, nought, pick, lesser, roundedUp, _≼_, _≈_}
 use Rattle.chain.specs.declared.Method.{Method}
 use Rattle.chain.specs.declared.Method.the-variants.{Table, Bidding, Bisection, Nicol}
 use Rattle.chain.specs.Lists.{digits, sumTo, all, isFirst, smallestFrom}
@@ -139,11 +139,11 @@ foundBy Bidding job = bidding job (biddingFailures job)
 foundBy Bisection job = cond (fits job (ideal job)) (ideal job) ((ends job (bisectionRounds job)) .low)
 foundBy Nicol job = pick (ltb (nicolStop job) (last job)) nought (leastCandidate job)
 
--- Scope 6.4: "The imbalance is 1000 × (bottleneck − ideal) / ideal, rounded down; it is 0 where Wtot is 0."
+-- Scope 6.4: "The imbalance is 1000 × (bottleneck − ideal) / ideal, rounded up; it is 0 where Wtot is 0."
 unfoldable pub imbalance : Job → Bound → ℕ
 imbalance job B =
     cond (eqb (totalWeight job) 0) 0
-    (1000 * (B .load * totalSpeed job - totalWeight job * B .speed) / (totalWeight job * B .speed))
+    (roundedUp (over (1000 * (B .load * totalSpeed job - totalWeight job * B .speed)) (totalWeight job * B .speed)))
 
 -- Scope 6.1: "A plan carries its separators, its count, its allowance, the bottleneck of its separators and its imbalance."
 pub record Plan : Type 0 where

@@ -1,19 +1,21 @@
 -- Demand 3 of running code: what a caller may read off the answer of planning and off the lists that it leaves.
 -- Assumes nothing.
-use Prim.Native.Nat.{ℕ, suc, _≤_}
+use Prim.Native.Nat.{ℕ, suc, _+_, _≤_, _<_}
 use mathlib.Core.Path.{_≡_, refl, sym, ap, subst, _∙_}
 use mathlib.Core.Bool.{Bool, true, false, cond}
 use mathlib.Core.List.{List, _++_}
-use mathlib.Core.Logic.{_≢_}
+use mathlib.Core.Logic.{_≢_, _↔_}
 use native.Mathlib.Omega.{arith}
 use lib.Dec.{T, eqb, eqb→eq}
 use lib.ListN.{length, take, drop}
 use lib.Seq.{drop-at}
 use Rattle.chain.specs.declared.Method.{Method}
-use Rattle.chain.specs.Job.{Job, Valid, processors}
+use Rattle.bound.specs.Order.{times, _≼_, _≈_}
+use Rattle.chain.specs.Job.{Job, Valid, processors, totalWeight, boundAt, bottleneck, ideal}
 use Rattle.chain.specs.Plan.{planOf, Best, MethodEnds, countBy, foundBy, Plan, PlanBy}
 use Rattle.chain.proofs.Parts.{valid-plannable}
 use Rattle.chain.proofs.Demand.{method-is, method-allowed, plan-of-best}
+use Rattle.chain.proofs.Imbalance.{imbalance-none, division-least, division-nought, division-even}
 use Rattle.refusals.specs.declared.Chosen.{Chosen}
 use Rattle.refusals.specs.declared.Chosen.the-variants.{Known, Unknown}
 use Rattle.refusals.specs.Methods.{chosenOf}
@@ -154,6 +156,34 @@ module _ (job : Job) (m : ℕ) (s t : List ℕ) where
         subst (λ (g : Figures). g .count ≤ g .allowance) (sym (given e .figures))
         (method-allowed (valid-plannable valid) (given e .method) (countBy (given e .method) job) (foundBy (given e .method) job)
         (method-is (valid-plannable valid) (given e .method)))
+
+    -- The imbalance is 0 where nothing weighs;
+    pub accepted-weightless : totalWeight job ≡ 0 → f .imbalance ≡ 0
+    unfolding planFigures
+    accepted-weightless z =
+        subst (λ (g : Figures). g .imbalance ≡ 0) (sym (given e .figures)) (imbalance-none job (bottleneck job (planOf job)) z)
+
+    module _ (weighs : 0 < totalWeight job) where
+      -- else it is the least number of thousandths by which the ideal has to grow to be no less than the bottleneck.
+      pub accepted-least : (n : ℕ) → (f .imbalance ≤ n) ↔ (times 1000 (f .bottleneck) ≼ times (1000 + n) (ideal job))
+      unfolding planFigures
+      accepted-least n =
+          subst (λ (g : Figures). (g .imbalance ≤ n) ↔ (times 1000 (g .bottleneck) ≼ times (1000 + n) (ideal job))) (sym (given e .figures))
+          (division-least (valid-plannable valid .proper) weighs (accepted-best .partition) n)
+
+      -- Scope 6.5: "With Wtot above 0 it is 0 exactly for a plan that meets the ideal: its bottleneck equals the ideal as a bound."
+      pub accepted-nought : (f .imbalance ≡ 0) ↔ (f .bottleneck ≈ ideal job)
+      unfolding planFigures
+      accepted-nought =
+          subst (λ (g : Figures). (g .imbalance ≡ 0) ↔ (g .bottleneck ≈ ideal job)) (sym (given e .figures))
+          (division-nought (valid-plannable valid .proper) weighs (accepted-best .partition))
+
+      -- So it is 0 exactly for an even row.
+      pub accepted-even : (f .imbalance ≡ 0) ↔ ((p : ℕ) → p < processors job → boundAt job (planOf job) p ≈ ideal job)
+      unfolding planFigures
+      accepted-even =
+          subst (λ (g : Figures). (g .imbalance ≡ 0) ↔ ((p : ℕ) → p < processors job → boundAt job (planOf job) p ≈ ideal job))
+          (sym (given e .figures)) (division-even (valid-plannable valid .proper) weighs (accepted-best .partition))
 
     written : planWrites job m s t ≡ planOf job ++ drop (suc (processors job)) s
     unfolding planWrites

@@ -7,7 +7,7 @@ ghost use Rattle.chain.specs.Job.{Job, jobOf, Valid, ideal};
 ghost use Rattle.chain.specs.Plan.{imbalance};
 use bound::Bound;
 
-// The imbalance of a bottleneck in thousandths of the ideal. Inner: the bottleneck is no less than the ideal.
+// The imbalance of a bottleneck in thousandths of the ideal, rounded up. Inner: the bottleneck is no less than the ideal.
 pub fn imbalance_of(speeds: &[u32], weights: &[u32], total: u64, bottleneck: Bound) -> u64
     ghost { Job }
     requires { λ job. ⌜ jobOf (now speeds) (now weights) ≡ job ⌝ }
@@ -20,5 +20,9 @@ pub fn imbalance_of(speeds: &[u32], weights: &[u32], total: u64, bottleneck: Bou
         return 0;
     }
     let ideal = total * bottleneck.speed;
-    1000 * (bottleneck.load * speed - ideal) / ideal
+    let excess = bottleneck.load * speed - ideal;
+    Bound::rounded_up(Bound {
+        load: 1000 * excess,
+        speed: ideal,
+    })
 }

@@ -5,7 +5,8 @@ use native.Mathlib.Omega.{arith}
 use Rattle.bound.specs.Order.{over}
 use Rattle.bound.proofs.Order.{nought-load, not-nought}
 use Rattle.chain.specs.Job.{jobOf}
-use Rattle.planner.proofs.Imbalances.{imbalance-none, divisor-fits, load-fits, no-less, excess-fits, divisor-positive, imbalance-is}
+use Rattle.chain.proofs.Imbalance.{imbalance-none}
+use Rattle.planner.proofs.Imbalances.{divisor-fits, load-fits, no-less, excess-fits, sum-fits, divisor-positive, imbalance-is}
 use Rattle.parts.proofs.Laws.{speeds-add-up}
 use borrow.Author.Needs.{needs}
 use Rattle.planner.proofs.imbalance.imbalance_of.Statement.{statement}
@@ -20,26 +21,31 @@ is-nought-requires c κs = search needs
 returns : tie.Need-returns
 returns c =
     let s = c .before .before .before .before .before in
-    imbalance-none (jobOf (s .args .speeds .now) (s .args .weights .now)) (s .args .bottleneck)
-    (sym (s .pre .1 .0) ∙ nought-load (over (s .args .total) (c .before .before .total .result)) (sym (c .before .is-nought .ensures) ∙ c .if1 .taken))
+    sym
+    (imbalance-none (jobOf (s .args .speeds .now) (s .args .weights .now)) (s .args .bottleneck)
+    (sym (s .pre .1 .0) ∙ nought-load (over (s .args .total) (c .before .before .total .result)) (sym (c .before .is-nought .ensures) ∙ c .if1 .taken)))
 
 mul-ideal : tie.Need-mul-ideal
-mul-ideal c = record { fits = divisor-fits (c .before .before .before .before .before .before .pre .0) (c .before .before .before .before .before .before .pre .1 .1) (c .before .before .before .before .before .before .pre .1 .2) (c .before .before .before .before .before .before .pre .1 .0) (c .before .before .before .total .ensures) }
+mul-ideal c = let s = c .before .before .before .before .before .before in record { fits = divisor-fits (s .pre .0) (s .pre .1 .1) (s .pre .1 .2) (s .pre .1 .0) (c .before .before .before .total .ensures) }
 
-mul-result : tie.Need-mul-result
-mul-result c = record { fits = load-fits (c .before .before .before .before .before .before .before .pre .0) (c .before .before .before .before .before .before .before .pre .1 .1) (c .before .before .before .before .before .before .before .pre .1 .2) (c .before .before .before .before .before .before .before .pre .1 .0) (c .before .before .before .before .total .ensures) }
+mul-excess : tie.Need-mul-excess
+mul-excess c = let s = c .before .before .before .before .before .before .before in record { fits = load-fits (s .pre .0) (s .pre .1 .1) (s .pre .1 .2) (s .pre .1 .0) (c .before .before .before .before .total .ensures) }
 
-sub-result : tie.Need-sub-result
-sub-result c = no-less (c .before .before .before .before .before .before .before .pre .0) (c .before .before .before .before .before .before .before .pre .1 .1) (c .before .before .before .before .before .before .before .pre .1 .2) (c .before .before .before .before .before .before .before .pre .1 .0) (c .before .before .before .before .total .ensures)
+sub-excess : tie.Need-sub-excess
+sub-excess c = let s = c .before .before .before .before .before .before .before in no-less (s .pre .0) (s .pre .1 .1) (s .pre .1 .2) (s .pre .1 .0) (c .before .before .before .before .total .ensures)
 
-mul-result-2 : tie.Need-mul-result-2
-mul-result-2 c = omega (arith, excess-fits (c .before .before .before .before .before .before .before .pre .0) (c .before .before .before .before .before .before .before .pre .1 .1) (c .before .before .before .before .before .before .before .pre .1 .2) (c .before .before .before .before .before .before .before .pre .1 .0) (c .before .before .before .before .total .ensures))
+mul-t10 : tie.Need-mul-t10
+mul-t10 c = let s = c .before .before .before .before .before .before .before in omega (arith, excess-fits (s .pre .0) (s .pre .1 .1) (s .pre .1 .2) (s .pre .1 .0) (c .before .before .before .before .total .ensures))
 
-div-result : tie.Need-div-result
-div-result c = divisor-positive (c .before .before .before .before .before .before .before .pre .0) (c .before .before .before .before .before .before .before .pre .1 .1) (c .before .before .before .before .before .before .before .pre .1 .2) (c .before .before .before .before .before .before .before .pre .1 .0) (c .before .before .before .before .total .ensures) (not-nought (over (c .before .before .before .before .before .before .before .args .total) (c .before .before .before .before .total .result)) (sym (c .before .before .before .is-nought .ensures) ∙ c .before .before .if1 .left))
+rounded-up-requires : tie.Need-rounded-up-requires
+rounded-up-requires c κs =
+    let s = c .before .before .before .before .before .before .before in
+    (divisor-positive (s .pre .0) (s .pre .1 .1) (s .pre .1 .2) (s .pre .1 .0) (c .before .before .before .before .total .ensures) (not-nought (over (s .args .total) (c .before .before .before .before .total .result)) (sym (c .before .before .before .is-nought .ensures) ∙ c .before .before .if1 .left)), omega (arith, sum-fits (s .pre .0) (s .pre .1 .1) (s .pre .1 .2) (s .pre .1 .0) (c .before .before .before .before .total .ensures)))
 
 returns-2 : tie.Need-returns-2
-returns-2 c = imbalance-is (c .before .before .before .before .before .before .before .pre .0) (c .before .before .before .before .before .before .before .pre .1 .1) (c .before .before .before .before .before .before .before .pre .1 .2) (c .before .before .before .before .before .before .before .pre .1 .0) (c .before .before .before .before .total .ensures) (not-nought (over (c .before .before .before .before .before .before .before .args .total) (c .before .before .before .before .total .result)) (sym (c .before .before .before .is-nought .ensures) ∙ c .before .before .if1 .left))
+returns-2 c =
+    let s = c .before .before .before .before .before .before .before .before in
+    imbalance-is (s .pre .0) (s .pre .1 .1) (s .pre .1 .2) (s .pre .1 .0) (c .before .before .before .before .before .total .ensures) (not-nought (over (s .args .total) (c .before .before .before .before .before .total .result)) (sym (c .before .before .before .before .is-nought .ensures) ∙ c .before .before .before .if1 .left)) (omega arith) (omega arith) (c .rounded-up .ensures)
 
 pub imbalance-of-spec : {M : Type 1} → statement M
 imbalance-of-spec =
@@ -49,8 +55,8 @@ imbalance-of-spec =
     is-nought-requires
     returns
     mul-ideal
-    mul-result
-    sub-result
-    mul-result-2
-    div-result
+    mul-excess
+    sub-excess
+    mul-t10
+    rounded-up-requires
     returns-2)
