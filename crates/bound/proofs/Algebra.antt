@@ -48,14 +48,20 @@ times-mono n h = make-le (omega (arith, mul-le-mul-right n (open-le h)))
 pub times-cancel : (n : ℕ) {B C : Bound} → 0 < n → times n B ≼ times n C → B ≼ C
 times-cancel n {B} {C} p h = make-le (le-of-mul-le-mul-right {k = n} (omega (arith, open-le h)) p)
 
+-- A quotient is at most n exactly where the dividend is below n + 1 divisors.
+quotient-below : {k x n : ℕ} → 0 < k → x / k ≤ n → x < suc n * k
+quotient-below {k} {x} {n} p h = (div-lt-iff-lt-mul {k = k} {x = x} {y = suc n} p) .0 (omega arith)
+
+below-quotient : {k x n : ℕ} → 0 < k → x < suc n * k → x / k ≤ n
+below-quotient {k} {x} {n} p h = let l : x / k < suc n = (div-lt-iff-lt-mul {k = k} {x = x} {y = suc n} p) .1 h in omega arith
+
 -- Rounded up, a bound is the least whole number that is not below it.
 pub rounded-least : {B : Bound} → Finite B → (n : ℕ) → (roundedUp B ≤ n) ↔ (B ≼ over n 1)
 unfolding roundedUp
-rounded-least {B} f n =
-    let d = div-lt-iff-lt-mul {k = B .speed} {x = B .load + (B .speed - 1)} {y = suc n} (f .speed-positive) in (
-      λ h. make-le (omega (arith, d .0 (omega arith), f .speed-positive)),
-      λ h. let l : (B .load + (B .speed - 1)) / B .speed < suc n = d .1 (omega (arith, open-le h, f .speed-positive)) in omega arith,
-    )
+rounded-least {B} f n = (
+  λ h. make-le (omega (arith, quotient-below (f .speed-positive) h)),
+  λ h. below-quotient (f .speed-positive) (omega (arith, open-le h)),
+)
 
 -- By the sum that code divides.
 pub rounded-is : (B : Bound) {n d : ℕ} → n ≡ B .load + (B .speed - 1) → d ≡ B .speed → n / d ≡ roundedUp B

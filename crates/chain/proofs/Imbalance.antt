@@ -1,8 +1,8 @@
 -- The imbalance is the least number of thousandths by which the ideal has to grow to be no less than the bottleneck, so it is 0 exactly where
 -- the bottleneck meets the ideal.
 -- Assumes nothing.
-use Prim.Native.Nat.{ℕ, _+_, _-_, _*_, _≤_, _<_}
-use mathlib.Core.Path.{_≡_, sym, ap, subst}
+use Prim.Native.Nat.{ℕ, _+_, _≤_, _<_}
+use mathlib.Core.Path.{_≡_, ap}
 use mathlib.Core.Bool.{Bool, cond}
 use mathlib.Core.List.{List}
 use mathlib.Core.Logic.{_↔_}
@@ -10,28 +10,24 @@ use native.Mathlib.Omega.{arith}
 use native.Mathlib.Nat.{one-le-mul}
 use borrow.Author.Tests.{eq-eqb, ne-eqb}
 use Rattle.bound.specs.declared.Bound.{Bound}
-use Rattle.bound.specs.Order.{over, times, roundedUp, _≼_, _≈_, Finite}
+use Rattle.bound.specs.Order.{times, roundedUp, _≼_, _≈_, Finite}
 use Rattle.bound.proofs.Order.{open-le, make-le}
 use Rattle.bound.proofs.Algebra.{times-cancel, times-mono, rounded-least}
-use Rattle.chain.specs.Job.{Job, processors, totalWeight, totalSpeed, Partition, boundAt, bottleneck, ideal}
-use Rattle.chain.specs.Plan.{imbalance}
+use Rattle.chain.specs.Job.{Job, processors, totalWeight, Partition, boundAt, bottleneck, ideal}
+use Rattle.chain.specs.Plan.{thousandths, imbalance}
 use Rattle.chain.proofs.Parts.{Proper}
 use Rattle.chain.proofs.Bottleneck.{bottleneck-finite}
 use Rattle.chain.proofs.Ideal.{ideal-least, even-exactly}
 
 module _ (job : Job) (B : Bound) where
-  -- The fraction that is rounded.
-  abbrev pub thousandths : Bound
-  thousandths = over (1000 * (B .load * totalSpeed job - totalWeight job * B .speed)) (totalWeight job * B .speed)
-
   -- Scope 6.4: "it is 0 where Wtot is 0"
   pub imbalance-none : totalWeight job ≡ 0 → imbalance job B ≡ 0
   unfolding imbalance
-  imbalance-none e = ap (λ (t : Bool). cond t 0 (roundedUp thousandths)) (eq-eqb (totalWeight job) 0 e)
+  imbalance-none e = ap (λ (t : Bool). cond t 0 (roundedUp (thousandths job B))) (eq-eqb (totalWeight job) 0 e)
 
-  pub imbalance-some : (totalWeight job ≡ 0 → ⊥) → imbalance job B ≡ roundedUp thousandths
+  pub imbalance-some : (totalWeight job ≡ 0 → ⊥) → imbalance job B ≡ roundedUp (thousandths job B)
   unfolding imbalance
-  imbalance-some h = ap (λ (t : Bool). cond t 0 (roundedUp thousandths)) (ne-eqb (totalWeight job) 0 h)
+  imbalance-some h = ap (λ (t : Bool). cond t 0 (roundedUp (thousandths job B))) (ne-eqb (totalWeight job) 0 h)
 
 module _ (job : Job) {B : Bound} (w : 0 < totalWeight job) (f : Finite B) where
   thousandths-finite : Finite (thousandths job B)

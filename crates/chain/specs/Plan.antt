@@ -139,11 +139,13 @@ foundBy Bidding job = bidding job (biddingFailures job)
 foundBy Bisection job = cond (fits job (ideal job)) (ideal job) ((ends job (bisectionRounds job)) .low)
 foundBy Nicol job = pick (ltb (nicolStop job) (last job)) nought (leastCandidate job)
 
+-- Scope 6.4: "1000 × (bottleneck − ideal) / ideal", as a fraction.
+abbrev pub thousandths : Job → Bound → Bound
+thousandths job B = over (1000 * (B .load * totalSpeed job - totalWeight job * B .speed)) (totalWeight job * B .speed)
+
 -- Scope 6.4: "The imbalance is 1000 × (bottleneck − ideal) / ideal, rounded up; it is 0 where Wtot is 0."
 unfoldable pub imbalance : Job → Bound → ℕ
-imbalance job B =
-    cond (eqb (totalWeight job) 0) 0
-    (roundedUp (over (1000 * (B .load * totalSpeed job - totalWeight job * B .speed)) (totalWeight job * B .speed)))
+imbalance job B = cond (eqb (totalWeight job) 0) 0 (roundedUp (thousandths job B))
 
 -- Scope 6.1: "A plan carries its separators, its count, its allowance, the bottleneck of its separators and its imbalance."
 pub record Plan : Type 0 where

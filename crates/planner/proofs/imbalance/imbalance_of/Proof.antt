@@ -6,7 +6,7 @@ use Rattle.bound.specs.Order.{over}
 use Rattle.bound.proofs.Order.{nought-load, not-nought}
 use Rattle.chain.specs.Job.{jobOf}
 use Rattle.chain.proofs.Imbalance.{imbalance-none}
-use Rattle.planner.proofs.Imbalances.{divisor-fits, load-fits, no-less, excess-fits, sum-fits, divisor-positive, imbalance-is}
+use Rattle.planner.proofs.Imbalances.{known, divisor-fits, load-fits, no-less, excess-fits, sum-fits, divisor-positive, imbalance-is}
 use Rattle.parts.proofs.Laws.{speeds-add-up}
 use borrow.Author.Needs.{needs}
 use Rattle.planner.proofs.imbalance.imbalance_of.Statement.{statement}
@@ -26,26 +26,35 @@ returns c =
     (sym (s .pre .1 .0) ∙ nought-load (over (s .args .total) (c .before .before .total .result)) (sym (c .before .is-nought .ensures) ∙ c .if1 .taken)))
 
 mul-ideal : tie.Need-mul-ideal
-mul-ideal c = let s = c .before .before .before .before .before .before in record { fits = divisor-fits (s .pre .0) (s .pre .1 .1) (s .pre .1 .2) (s .pre .1 .0) (c .before .before .before .total .ensures) }
+mul-ideal c =
+    let s = c .before .before .before .before .before .before in
+    record { fits = divisor-fits (known (s .pre .0) (s .pre .1) (c .before .before .before .total .ensures)) }
 
 mul-excess : tie.Need-mul-excess
-mul-excess c = let s = c .before .before .before .before .before .before .before in record { fits = load-fits (s .pre .0) (s .pre .1 .1) (s .pre .1 .2) (s .pre .1 .0) (c .before .before .before .before .total .ensures) }
+mul-excess c =
+    let s = c .before .before .before .before .before .before .before in
+    record { fits = load-fits (known (s .pre .0) (s .pre .1) (c .before .before .before .before .total .ensures)) }
 
 sub-excess : tie.Need-sub-excess
-sub-excess c = let s = c .before .before .before .before .before .before .before in no-less (s .pre .0) (s .pre .1 .1) (s .pre .1 .2) (s .pre .1 .0) (c .before .before .before .before .total .ensures)
+sub-excess c =
+    let s = c .before .before .before .before .before .before .before in
+    no-less (known (s .pre .0) (s .pre .1) (c .before .before .before .before .total .ensures))
 
 mul-t10 : tie.Need-mul-t10
-mul-t10 c = let s = c .before .before .before .before .before .before .before in omega (arith, excess-fits (s .pre .0) (s .pre .1 .1) (s .pre .1 .2) (s .pre .1 .0) (c .before .before .before .before .total .ensures))
+mul-t10 c =
+    let s = c .before .before .before .before .before .before .before in
+    omega (arith, excess-fits (known (s .pre .0) (s .pre .1) (c .before .before .before .before .total .ensures)))
 
 rounded-up-requires : tie.Need-rounded-up-requires
 rounded-up-requires c κs =
     let s = c .before .before .before .before .before .before .before in
-    (divisor-positive (s .pre .0) (s .pre .1 .1) (s .pre .1 .2) (s .pre .1 .0) (c .before .before .before .before .total .ensures) (not-nought (over (s .args .total) (c .before .before .before .before .total .result)) (sym (c .before .before .before .is-nought .ensures) ∙ c .before .before .if1 .left)), omega (arith, sum-fits (s .pre .0) (s .pre .1 .1) (s .pre .1 .2) (s .pre .1 .0) (c .before .before .before .before .total .ensures)))
+    let k = known (s .pre .0) (s .pre .1) (c .before .before .before .before .total .ensures) in
+    (divisor-positive k (not-nought (over (s .args .total) (c .before .before .before .before .total .result)) (sym (c .before .before .before .is-nought .ensures) ∙ c .before .before .if1 .left)), omega (arith, sum-fits k))
 
 returns-2 : tie.Need-returns-2
 returns-2 c =
     let s = c .before .before .before .before .before .before .before .before in
-    imbalance-is (s .pre .0) (s .pre .1 .1) (s .pre .1 .2) (s .pre .1 .0) (c .before .before .before .before .before .total .ensures) (not-nought (over (s .args .total) (c .before .before .before .before .before .total .result)) (sym (c .before .before .before .before .is-nought .ensures) ∙ c .before .before .before .if1 .left)) (omega arith) (omega arith) (c .rounded-up .ensures)
+    imbalance-is (known (s .pre .0) (s .pre .1) (c .before .before .before .before .before .total .ensures)) (not-nought (over (s .args .total) (c .before .before .before .before .before .total .result)) (sym (c .before .before .before .before .is-nought .ensures) ∙ c .before .before .before .if1 .left)) (omega arith) (omega arith) (c .rounded-up .ensures)
 
 pub imbalance-of-spec : {M : Type 1} → statement M
 imbalance-of-spec =
