@@ -414,7 +414,7 @@ fn imbalance(speeds: &[u32], total: u64, bottleneck: Bound) -> u64 {
         return 0;
     }
     let ideal = total * bottleneck.speed;
-    1000 * (bottleneck.load * total_speed(speeds) - ideal) / ideal
+    (1000 * (bottleneck.load * total_speed(speeds) - ideal)).div_ceil(ideal)
 }
 
 /// A plan by a method.

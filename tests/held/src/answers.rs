@@ -13,13 +13,14 @@ pub struct After {
     pub free: usize,
 }
 
-/// A plan as expected: separators, counts by method, bottleneck; the quick plan, and how the search of method 4 went.
+/// A plan as expected: separators, bottleneck, counts by method, imbalance; the quick plan, and how the search of method 4 went.
 #[derive(Clone, Debug)]
 pub struct Solved {
     pub job: Job,
     pub best: Vec<usize>,
     pub bottleneck: Bound,
     pub counts: [u64; 4],
+    pub imbalance: u64,
     pub quick: Vec<usize>,
     pub search: Search,
 }
@@ -32,7 +33,9 @@ impl Solved {
         let moves = if tiny { methods::moves_by_table(job) } else { methods::moves_by_walks(job) };
         let search = if tiny { methods::search_in_turn(job) } else { methods::search_by_sums(job) };
         let counts = [moves, methods::bids(job), methods::halvings(job), search.trials];
-        Solved { job: job.clone(), best, bottleneck, counts, quick: methods::quick(job), search }
+        let imbalance = methods::imbalance(job, bottleneck);
+        assert!(methods::is_imbalance(job, bottleneck, imbalance), "{} is not the imbalance of {:?}", imbalance, job);
+        Solved { job: job.clone(), best, bottleneck, counts, imbalance, quick: methods::quick(job), search }
     }
 }
 
@@ -198,7 +201,7 @@ fn solved_answer(call: Call, job: Job, given: &[&[u8]], solved: Option<&Solved>)
         methods::allowance(&job, method) as u128,
         s.bottleneck.0,
         s.bottleneck.1,
-        methods::imbalance(&job, s.bottleneck) as u128,
+        s.imbalance as u128,
     ];
     Ok(vec![stays(), stays(), front(&s.best), work, answer(given[4], &figures)])
 }

@@ -28,6 +28,8 @@ pub struct Check {
     pub fits: u64,
     /// How often a search ended early, and had its least candidate on the first machine, on one between, on the last.
     pub searches: [u64; 4],
+    /// How many plans had nothing to weigh, met the ideal, were above it by less than a thousandth of it, and by as much or more.
+    pub noughts: [u64; 4],
 }
 
 /// The calls, the name of each, and the numbers that it can give.
@@ -102,6 +104,7 @@ impl Check {
             seen: [[0; 13]; 10],
             fits: 0,
             searches: [0; 4],
+            noughts: [0; 4],
         }
     }
 
@@ -135,6 +138,10 @@ impl Check {
             self.fail(&format!("answer {} instead of {}", code, number), describe(call, given));
             return;
         }
+        if code == 0 && matches!(call, Call::Plan { .. }) && !self.nought(given) {
+            self.fail("an imbalance of 0 off the ideal, or another one at it", describe(call, given));
+            return;
+        }
         for (k, &slot) in slots.iter().enumerate() {
             let stays = After::default();
             let after = wanted.as_ref().map_or(&stays, |all| &all[k]);
@@ -143,6 +150,24 @@ impl Check {
                 return;
             }
         }
+    }
+
+    /// Nought means nought, asked of the planner's own figures: with Wtot above 0 its imbalance is 0 exactly where its bottleneck meets
+    /// the ideal as a bound, and with Wtot 0 it is 0.
+    fn nought(&mut self, given: &[&[u8]]) -> bool {
+        let figures: Vec<u128> = self.desk[4].now().chunks_exact(8).map(|b| u64::from_le_bytes(b.try_into().unwrap()) as u128).collect();
+        let &[_, _, load, speed, imbalance, ..] = &figures[..] else { return true };
+        let sum = |list: &[u8]| list.chunks_exact(4).map(|b| u32::from_le_bytes(b.try_into().unwrap()) as u128).sum::<u128>();
+        let (all_speed, whole) = (sum(given[0]), sum(given[1]));
+        let meets = load * all_speed == whole * speed;
+        let which = match whole {
+            0 => 0,
+            _ if meets => 1,
+            _ if 1000 * load * all_speed < 1001 * whole * speed => 2,
+            _ => 3,
+        };
+        self.noughts[which] += 1;
+        (imbalance == 0) == (whole == 0 || meets)
     }
 
     /// A list that is not as it must be.

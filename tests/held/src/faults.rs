@@ -263,6 +263,13 @@ fn best_bound(job: &Job) -> Bound {
     answers::Solved::of(job).bottleneck
 }
 
+/// The whole thousandths of the ideal by which the best bottleneck is above it, and whether it is above by more; None where nothing weighs.
+fn thousandths(job: &Job) -> Option<(u64, bool)> {
+    let (ideal, best) = (methods::ideal(job), best_bound(job));
+    let (above, one) = (1000 * (best.0 * ideal.1 - ideal.0 * best.1), ideal.0 * best.1);
+    (one > 0).then(|| ((above / one) as u64, above % one > 0))
+}
+
 /// All bids of a trial that fails.
 fn all_bids(job: &Job, bound: Bound) -> Vec<Bound> {
     let (mut at, mut bids) = (0, Vec::new());
@@ -444,8 +451,10 @@ const FAULTS: &[(&str, &str, Run)] = &[
     ("allowance-slowest", "bisection: D not divided by the slowest speed", |l| l.figure(l.is_plan(3), 1, |j, _| methods::allowance(&Job::new(&[&j.speeds[..], &[1]].concat(), &j.weights), 3))),
     ("allowance-nicol", "Nicol's search: the digits of N - 1", |l| l.figure(l.is_plan(4), 1, |j, _| times_digits(j, j.speeds.len() - 1, 1))),
     ("allowance-nicol-all", "Nicol's search: once more, for the last machine", |l| l.figure(l.is_plan(4), 1, |j, _| times_digits(j, j.speeds.len(), 0))),
-    ("imbalance-up", "rounded up", |l| l.figure(l.is_plans(), 4, |j, v| { let (w, e) = methods::ideal(j); let b = best_bound(j); if w > 0 && 1000 * (b.0 * e - w * b.1) % (w * b.1) != 0 { v + 1 } else { v } })),
-    ("imbalance-hundred", "per hundred", |l| l.figure(l.is_plans(), 4, |_, v| v / 10)),
+    ("imbalance-down", "rounded down", |l| l.figure(l.is_plans(), 4, |j, v| thousandths(j).map_or(v, |(t, _)| t))),
+    ("imbalance-one", "rounded down and one added, for whole thousandths too", |l| l.figure(l.is_plans(), 4, |j, v| thousandths(j).map_or(v, |(t, _)| t + 1))),
+    ("imbalance-nought", "0 for less than a thousandth", |l| l.figure(l.is_plans(), 4, |j, v| thousandths(j).map_or(v, |(t, more)| if t == 0 && more { 0 } else { v }))),
+    ("imbalance-hundred", "per hundred", |l| l.figure(l.is_plans(), 4, |_, v| v.div_ceil(10))),
     ("bottleneck-reduced", "plan: the pair reduced", |l| l.pair(l.is_plans(), 2, |_, b| reduced(b))),
     ("bottleneck-last", "plan: the pair of the highest-numbered machine", |l| { let s = l.words(Slot::Separators); l.pair(l.is_plans(), 2, |j, b| of_last_machine(j, s, b)) }),
     ("bottleneck-nought", "plan: 0/1 where nothing weighs", |l| l.pair(l.is_plans(), 2, |_, b| if b.0 == 0 { (0, 1) } else { b })),

@@ -27,10 +27,9 @@ pub fn wanted(file: &[u8]) -> String {
     let s = Solved::of(&job);
     let whole = job.weight(0, job.weights.len());
     let mut text = format!("tiles {} machines {} total {}\n", job.weights.len(), job.speeds.len(), whole);
-    let imbalance = methods::imbalance(&job, s.bottleneck);
     for method in 1..=4 {
         let (count, most) = (s.counts[method as usize - 1], methods::allowance(&job, method));
-        text += &format!("{} {} {} {} {} {}", method, count, most, s.bottleneck.0, s.bottleneck.1, imbalance);
+        text += &format!("{} {} {} {} {} {}", method, count, most, s.bottleneck.0, s.bottleneck.1, s.imbalance);
         for x in &s.best {
             text += &format!(" {}", x);
         }

@@ -61,8 +61,9 @@ fn whole(c: &mut Check) {
     }
     // A run in which some answer never came up would be no test of it.
     let unseen = c.unseen();
-    if !unseen.is_empty() || c.fits == 0 || c.searches.contains(&0) {
-        c.fail(&format!("answers never seen: {:?}; {} fits, searches {:?}", unseen, c.fits, c.searches), String::new());
+    if !unseen.is_empty() || c.fits == 0 || c.searches.contains(&0) || c.noughts.contains(&0) {
+        let seen = format!("{} fits, searches {:?}, plans at and off the ideal {:?}", c.fits, c.searches, c.noughts);
+        c.fail(&format!("answers never seen: {:?}; {}", unseen, seen), String::new());
     }
 }
 

@@ -276,11 +276,23 @@ pub fn allowance(job: &Job, method: u32) -> u64 {
     [steps, steps + 1, digits(d) + 1, others as u64 * digits(tiles as u128)][method as usize - 1]
 }
 
-/// 1000 × (bottleneck − ideal) / ideal, rounded down.
+/// 1000 × (bottleneck − ideal) / ideal, rounded up, and 0 if Wtot is 0.
 pub fn imbalance(job: &Job, bottleneck: Bound) -> u64 {
     let (whole, all_speed) = ideal(job);
     if whole == 0 {
         return 0;
     }
-    (1000 * (bottleneck.0 * all_speed - whole * bottleneck.1) / (whole * bottleneck.1)) as u64
+    // Both times both speeds.
+    let (bottleneck, ideal) = (bottleneck.0 * all_speed, whole * bottleneck.1);
+    let above = 1000 * (bottleneck - ideal);
+    let (quotient, rest) = (above / ideal, above % ideal);
+    (if rest == 0 { quotient } else { quotient + 1 }) as u64
+}
+
+/// The same number with no division: whether the bottleneck is at most the ideal and n thousandths of it, and not with one fewer.
+/// Where Wtot is 0 only 0 is.
+pub fn is_imbalance(job: &Job, bottleneck: Bound, n: u64) -> bool {
+    let (whole, all_speed) = ideal(job);
+    let enough = |n: u64| !less(((1000 + n as u128) * whole, all_speed), (1000 * bottleneck.0, bottleneck.1));
+    enough(n) && (n == 0 || !enough(n - 1))
 }
