@@ -1,7 +1,8 @@
 #!/bin/sh
 # Every quote in a comment of crates/ stands in docs/SCOPE.md: behind 'Scope 3.4:' in that sentence, behind 'Refusal 7:' in that row of
 # the table, else anywhere on the page. ' .. ' in a quote leaves words out. The page's worked jobs have the figures of their listings in
-# examples/, which are those that the program writes (tests/strips.sh) and that the prover computes (crates/listing/proofs/Examples.antt).
+# examples/, which are those that the program writes (tests/strips.sh) and that the prover computes (crates/listing/proofs/Examples.antt);
+# so have README.md, docs/strips.1, docs/WHY.md (the imbalance) and examples/README.md (bottlenecks and imbalances).
 set -eu
 cd "$(dirname "$0")/.."
 find crates -name '*.antt' -o -name '*.rt' | grep -v /declared/ | LC_ALL=C sort | xargs awk '
@@ -82,6 +83,16 @@ if [ "$(sed -n '/^9\. `strips` writes for A:/,/^## /s/^       //p' docs/SCOPE.md
     echo "docs/SCOPE.md, sentence 11.9: the listing is not that of examples/A.txt"
     failed=1
 fi
+# The first page and the manual show A's listing, WHY.md its imbalance, and the examples' table each bottleneck and imbalance.
+same() { [ "$2" = "$3" ] || { printf '%s: "%s", and the listing has "%s"\n' "$1" "$2" "$3"; failed=1; }; }
+same README.md "$(sed -n '/gives the listing of job A/,/^\*\*Read it/s/^    //p' README.md)" "$(cat examples/A.txt)"
+same docs/strips.1 "$(awk '/^\.fi/ { inside = 0 } inside; $0 == "$ ./strips examples/A.job" { inside = 1 }' docs/strips.1)" "$(cat examples/A.txt)"
+same docs/WHY.md "$(sed -n 's/.*so it says \([0-9]*\)\.$/\1/p' docs/WHY.md)" "$(awk 'NR == 2 { print $6 }' examples/A.txt)"
+for text in examples/*.txt; do
+    job=$(basename "$text" .txt)
+    same "examples/README.md, $job" "$(awk -F ' *[|] *' -v job="\`$job\`" '$2 == job { print $5, $6 }' examples/README.md)" \
+        "$(awk 'NR == 2 { print $4 "/" $5, $6 }' "$text")"
+done
 # The listings that the prover computes from the definitions, with \n for a line feed, are those of the examples.
 for job in A B C D E; do
     text=$(awk '{ printf "%s\\n", $0 }' "examples/$job.txt")
@@ -91,4 +102,4 @@ for job in A B C D E; do
     fi
 done
 [ "$failed" = 0 ] || { echo "tests/scope.sh: FAILED"; exit 1; }
-echo "tests/scope.sh: the worked jobs have the figures of their listings, in docs/SCOPE.md and in the computed examples"
+echo "tests/scope.sh: the worked jobs have the figures of their listings, in docs/SCOPE.md, README.md, docs/strips.1, examples/README.md and the computed examples"

@@ -97,7 +97,9 @@ jobD = jobOf (1 ∷ 1 ∷ []) (0 ∷ 0 ∷ [])
 abbrev pub jobE : Job
 jobE = jobOf (1 ∷ 1 ∷ []) (6 ∷ [])
 
--- The table, with the figures of the scope's section 11.
+-- The table, with the figures of the scope's section 11. Scope 11.1: "A trial of A at 3/1 fails with next bid 11/3; at 11/3 it fits; at
+-- 23/6 it fits with 0 1 3." Scope 11.2: "The quick plan of A is 0 2 3 with bottleneck 4/1." Scope 11.3: "Measuring 0 3 3 of A gives 12/1;
+-- measuring 0 2 2 of A is refused with 11."
 unfoldable pub marked : List Row
 marked =
     planned jobA (0 ∷ 1 ∷ 3 ∷ []) (over 11 3) 223 (four 2 2 2 2) (four 3 4 8 2)
@@ -115,8 +117,8 @@ marked =
 
 -- Beside the marked jobs: two bids that tie, 3/1 and 6/2; two indices equally near; a midpoint that fails; a first candidate of Nicol's
 -- search, 5/1, below the last, 6/1; equal weights on three processors, of which the search starts the second behind a task; weights of
--- 0 on three processors, where it ends at the first; a single processor; two parts that differ by 1 in 2001, where an imbalance rounded
--- down would be 0.
+-- 0 on three processors, where it ends at the first; a single processor. Scope 11.14: "An imbalance that is rounded down is 0 for weights
+-- 1000 1001 on speeds 1 1, though their plan, 0 1 2, is half a unit above the ideal; rounded up it is 1."
 unfoldable pub worked : List Row
 worked =
     failsWith (jobOf (1 ∷ 2 ∷ []) (3 ∷ 3 ∷ [])) (over 0 1) (over 3 1)
