@@ -99,7 +99,7 @@ jobE = jobOf (1 ∷ 1 ∷ []) (6 ∷ [])
 
 -- The table, with the figures of the scope's section 11. Scope 11.1: "A trial of A at 3/1 fails with next bid 11/3; at 11/3 it fits; at
 -- 23/6 it fits with 0 1 3." Scope 11.2: "The quick plan of A is 0 2 3 with bottleneck 4/1." Scope 11.3: "Measuring 0 3 3 of A gives 12/1;
--- measuring 0 2 2 of A is refused with 11."
+-- measuring 0 2 2 of A is refused with 11." Scope 11.10: "The quick plan is not the plan: of A its bottleneck is 4/1, the plan's 11/3."
 unfoldable pub marked : List Row
 marked =
     planned jobA (0 ∷ 1 ∷ 3 ∷ []) (over 11 3) 223 (four 2 2 2 2) (four 3 4 8 2)

@@ -30,6 +30,8 @@ processorRecord v = recordBytes 1 v
 abbrev pub taskRecord : ℕ → List ℕ
 taskRecord v = recordBytes 2 v
 
+-- Scope 11.4: "Speed 10,000 is taken; speeds 0 and 10,001 are refused with 5." Scope 11.5: "Weight 1,000,001 is refused with 6." Scope 11.6:
+-- "An empty file and 257 machines are refused with 7." Scope 11.8: "A file of 7 bytes is refused with 2."
 unfoldable pub files : List Case
 unfolding recordBytes fieldBytes recordsBytes
 files =
@@ -59,7 +61,7 @@ pub files-give : everyGives files ≡ true
 unfolding files everyGives fileRefusal fileTests firstRefusal multipleTest recordsTests recordTests formTest orderTest speedTest weightTest valuesOf speedsOf weightsOf processorsTest tasksTest byteAt kindAt valueAt fieldAt isKind taskBefore blank maxTasks maxWeight maxProcessors maxSpeed
 files-give = refl
 
--- By lists: all speeds, all weights, then the counts.
+-- By lists: all speeds, all weights, then the counts. Scope 11.7: "2,049 tiles are refused with 8."
 pub lists-give :
     (firstRefusal (jobTests (jobOf (0 ∷ []) (1000001 ∷ []))) ≡ 5) × (firstRefusal (jobTests (jobOf [] (1000001 ∷ []))) ≡ 6)
     × (firstRefusal (jobTests (jobOf [] (replicate 2049 0))) ≡ 7) × (firstRefusal (jobTests (jobOf (1 ∷ []) (replicate 2049 0))) ≡ 8)
