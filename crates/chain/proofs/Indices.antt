@@ -1,8 +1,8 @@
 -- Searches over indices find what their names say.
 -- Assumes nothing.
 use Prim.Native.Nat.{ℕ, zero, suc, _+_, _-_, _≤_, _<_}
-use mathlib.Core.Path.{_≡_, refl, ap, subst, _∙_}
-use mathlib.Core.Bool.{Bool, true, false, not, cond}
+use mathlib.Core.Path.{_≡_, refl, ap, ap₂, subst, _∙_}
+use mathlib.Core.Bool.{Bool, true, false, not, cond, _&&_}
 use mathlib.Core.List.{List, _∷_, _++_}
 use mathlib.Core.Logic.{_⊎_, inl, inr}
 use native.Mathlib.Omega.{arith}
@@ -105,6 +105,11 @@ pub all-of : (f : ℕ → Bool) (n : ℕ) → ((k : ℕ) → k < n → T (f k)) 
 unfolding all
 all-of f zero h = tt
 all-of f (suc n) h = and-both (all f n) (f n) (all-of f n (λ k l. h k (omega arith))) (h n (omega arith))
+
+pub all-same : {f g : ℕ → Bool} (n : ℕ) → ((k : ℕ) → k < n → f k ≡ g k) → all f n ≡ all g n
+unfolding all
+all-same zero h = refl
+all-same (suc n) h = ap₂ (λ (x y : Bool). x && y) (all-same n (λ k l. h k (omega arith))) (h n (omega arith))
 
 -- The first index at which f holds.
 pub first-holds : (f : ℕ → Bool) (k : ℕ) → T (isFirst f k) → T (f k)

@@ -8,6 +8,7 @@ pub mod Demand
 pub mod Digits
 pub mod Enumeration
 pub mod Extremes
+pub mod Grade
 pub mod Halving
 pub mod Heuristic
 pub mod Ideal

@@ -12,8 +12,8 @@ use lib.Dec.{T, leb, eqb, leb→le, le→leb, eqb→eq, eqb-refl, lit≤}
 use lib.ListN.{length, getD}
 use Rattle.chain.specs.Limits.{maxTasks, maxWeight, maxProcessors, maxSpeed}
 use Rattle.chain.specs.Lists.{all}
-use Rattle.chain.specs.Job.{Job, tasks, processors, speedOf, Valid, at, Partition}
-use Rattle.chain.specs.Refusal.{Test, between, eachBetween, methodTest, speedsTest, weightsTest, processorsTest, tasksTest, lengthTest, boundTest, isPartition, partitionTest, firstRefusal, FirstFailing, jobTests, Inputs, callTests, refusal}
+use Rattle.chain.specs.Job.{Job, tasks, processors, speedOf, partLoad, Valid, at, Partition}
+use Rattle.chain.specs.Refusal.{Test, between, eachBetween, methodTest, speedsTest, weightsTest, processorsTest, tasksTest, lengthTest, boundTest, isPartition, partitionTest, PlanRecords, separatorsOf, planLengthTest, joined, joinedTest, trueAt, trueTest, firstRefusal, FirstFailing, jobTests, Inputs, planTests, callTests, refusal}
 use Rattle.chain.proofs.Tests.{T-of, and-left, and-right, and-both}
 use Rattle.chain.proofs.Indices.{all-at, all-of}
 
@@ -199,13 +199,23 @@ job-numbered job =
 
 -- The tests of a call have numbers above 0.
 pub call-numbered : (job : Job) (inputs : Inputs) → Numbered (callTests job inputs)
-unfolding callTests methodTest lengthTest boundTest partitionTest
+unfolding callTests methodTest lengthTest boundTest planLengthTest partitionTest joinedTest trueTest
 call-numbered job inputs =
     numbered-append
     (numbered-append
+    (numbered-append
+    (numbered-append
+    (numbered-append
     (numbered-append (numbered-append (numbered-map methodTest (λ m. omega arith) (inputs .methods)) (job-numbered job))
     (numbered-map (λ l. lengthTest (l .needed) (l .given)) (λ l. omega arith) (inputs .lists)))
-    (numbered-map boundTest (λ B. omega arith) (inputs .bounds))) (numbered-map (partitionTest job) (λ s. omega arith) (inputs .divisions))
+    (numbered-map boundTest (λ B. omega arith) (inputs .bounds))) (numbered-map planLengthTest (λ s. omega arith) (inputs .plans)))
+    (numbered-map (partitionTest job) (λ s. omega arith) (inputs .divisions)))
+    (numbered-map (joinedTest job) (λ s. omega arith) (inputs .plans))) (numbered-map (trueTest job) (λ s. omega arith) (inputs .plans))
+
+pub plan-numbered : (job : Job) (plan : PlanRecords) → Numbered (planTests job plan)
+unfolding planTests planLengthTest joinedTest trueTest
+plan-numbered job plan =
+    numbered-cons (omega arith) (numbered-cons (omega arith) (numbered-cons (omega arith) numbered-nil))
 
 -- Every number of the list is in range exactly when every index reads one that is, the default included.
 each-at : (lo hi d : ℕ) (xs : List ℕ) → lo ≤ d → d ≤ hi → T (eachBetween lo hi xs) → (i : ℕ) → (lo ≤ getD xs i d) × (getD xs i d ≤ hi)
@@ -337,3 +347,52 @@ partition-test job s = (from, to)
         (and-both (len && zeroth) grow (and-both len zeroth (eq-test (length s) (suc (processors job)) (w .count)) (eq-test (at s 0) 0 (w .first)))
         (all-of (λ p. leb (at s p) (at s (suc p))) (processors job) (λ p h. le→leb (at s p) (at s (suc p)) (w .grows p h))))
         (eq-test (at s (processors job)) (tasks job) (w .end))
+
+-- What the tests of a plan file ask: the length; the separators of a division, where the records begin and end; true loads and speeds.
+pub record Told (job : Job) (plan : PlanRecords) : Type 0 where
+  pub long : plan .given ≡ plan .needed
+  pub division : Partition job (separatorsOf job plan)
+  pub begins : (p : ℕ) → p < processors job → plan .from p ≡ at (separatorsOf job plan) p
+  pub loads : (p : ℕ) → p < processors job → plan .load p ≡ partLoad job (plan .from p) (plan .to p)
+  pub speeds : (p : ℕ) → p < processors job → plan .speed p ≡ speedOf job p
+
+-- They pass exactly where all that holds.
+pub plan-accepted : (job : Job) (plan : PlanRecords) → (firstRefusal (planTests job plan) ≡ 0 → Told job plan) × (Told job plan → firstRefusal (planTests job plan) ≡ 0)
+unfolding planTests planLengthTest joined joinedTest trueAt trueTest
+plan-accepted job plan = (from, to)
+  where
+    begun : ℕ → Bool
+    begun p = eqb (plan .from p) (at (separatorsOf job plan) p)
+
+    loaded : ℕ → Bool
+    loaded p = eqb (plan .load p) (partLoad job (plan .from p) (plan .to p))
+
+    sped : ℕ → Bool
+    sped p = eqb (plan .speed p) (speedOf job p)
+
+    tests : List Test
+    tests = planTests job plan
+
+    from : firstRefusal tests ≡ 0 → Told job plan
+    from e =
+        let passes : (t : Test) → List·Memᴰ t tests → T (t .passes) = accepted-passes tests (plan-numbered job plan) e in
+        let l = passes (planLengthTest plan) (List·Memᴰ·head refl) in
+        let j = passes (joinedTest job plan) (List·Memᴰ·tail (List·Memᴰ·head refl)) in
+        let t = passes (trueTest job plan) (List·Memᴰ·tail (List·Memᴰ·tail (List·Memᴰ·head refl))) in
+        record {
+          long = eqb→eq (plan .given) (plan .needed) l;
+          division = partition-test job (separatorsOf job plan) .0 (and-right (all begun (processors job)) (isPartition job (separatorsOf job plan)) j);
+          begins = λ p h. eqb→eq _ _ (all-at begun (processors job) (and-left (all begun (processors job)) (isPartition job (separatorsOf job plan)) j) p h);
+          loads = λ p h. eqb→eq _ _ (and-left (loaded p) (sped p) (all-at (λ p. loaded p && sped p) (processors job) t p h));
+          speeds = λ p h. eqb→eq _ _ (and-right (loaded p) (sped p) (all-at (λ p. loaded p && sped p) (processors job) t p h));
+        }
+
+    to : Told job plan → firstRefusal tests ≡ 0
+    to w =
+        pass-skip (planLengthTest plan) (joinedTest job plan ∷ trueTest job plan ∷ []) (eq-test (plan .given) (plan .needed) (w .long))
+        ∙ pass-skip (joinedTest job plan) (trueTest job plan ∷ [])
+        (and-both (all begun (processors job)) (isPartition job (separatorsOf job plan))
+        (all-of begun (processors job) (λ p h. eq-test _ _ (w .begins p h))) (partition-test job (separatorsOf job plan) .1 (w .division)))
+        ∙ pass-skip (trueTest job plan) []
+        (all-of (λ p. loaded p && sped p) (processors job) (λ p h. and-both (loaded p) (sped p) (eq-test _ _ (w .loads p h)) (eq-test _ _ (w .speeds p h))))
+        ∙ (unfold firstRefusal in refl)

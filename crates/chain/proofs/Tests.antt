@@ -38,3 +38,10 @@ and-both false y t u = t
 pub and-fails : (x y : Bool) → T x → T (not (x && y)) → T (not y)
 and-fails true y t u = u
 and-fails false y t u = absurd t
+
+-- Two tests that pass together are equal.
+pub same-test : (x y : Bool) → (T x → T y) → (T y → T x) → x ≡ y
+same-test true true f g = refl
+same-test true false f g = absurd (f tt)
+same-test false true f g = absurd (g tt)
+same-test false false f g = refl

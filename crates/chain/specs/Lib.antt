@@ -10,4 +10,5 @@ pub mod Bisection
 pub mod Nicol
 pub mod Plan
 pub mod Refusal
+pub mod Grade
 pub mod Marked

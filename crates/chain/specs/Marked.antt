@@ -1,6 +1,6 @@
 -- The worked jobs of the scope, section 11, as one table, and what it means that a row holds.
 use Prim.Native.Nat.{ℕ}
-use mathlib.Core.Bool.{Bool, true, false, _&&_}
+use mathlib.Core.Bool.{Bool, true, false, not, _&&_}
 use mathlib.Core.List.{List, [], _∷_}
 use lib.Dec.{eqb}
 use Rattle.bound.specs.declared.Bound.{Bound}
@@ -13,7 +13,8 @@ use Rattle.chain.specs.Job.{Job, jobOf, bottleneck}
 use Rattle.chain.specs.Probe.{walk, probe}
 use Rattle.chain.specs.Heuristic.{heuristic}
 use Rattle.chain.specs.Plan.{planOf, allowance, countBy, foundBy, imbalance}
-use Rattle.chain.specs.Refusal.{measureInputs, refusal}
+use Rattle.chain.specs.Grade.{unbeaten}
+use Rattle.chain.specs.Refusal.{isPartition, measureInputs, refusal}
 
 -- The same list; the same pair, load and speed.
 unfoldable pub sameList : List ℕ → List ℕ → Bool
@@ -58,6 +59,9 @@ pub data Row : Type 0 where
   -- a division's bottleneck; a list that is refused with a number
   measures : Job → List ℕ → Bound → Row
   refused : Job → List ℕ → ℕ → Row
+  -- a division that is best; one that is beaten
+  best : Job → List ℕ → Row
+  beaten : Job → List ℕ → Row
 
 unfoldable pub isFailing : Outcome → Bound → Bool
 isFailing Fits C = false
@@ -77,6 +81,8 @@ holds (failsWith job B C) = isFailing (probe job B) C
 holds (quick job s B) = sameList (heuristic job) s && samePair (bottleneck job s) B
 holds (measures job s B) = eqb (refusal job (measureInputs job s)) 0 && samePair (bottleneck job s) B
 holds (refused job s n) = eqb (refusal job (measureInputs job s)) n
+holds (best job s) = isPartition job s && unbeaten job s
+holds (beaten job s) = isPartition job s && not (unbeaten job s)
 
 unfoldable pub everyHolds : List Row → Bool
 everyHolds [] = true
@@ -118,7 +124,9 @@ marked =
 -- Beside the marked jobs: two bids that tie, 3/1 and 6/2; two indices equally near; a midpoint that fails; a first candidate of Nicol's
 -- search, 5/1, below the last, 6/1; equal weights on three processors, of which the search starts the second behind a task; weights of
 -- 0 on three processors, where it ends at the first; a single processor. Scope 11.14: "An imbalance that is rounded down is 0 for weights
--- 1000 1001 on speeds 1 1, though their plan, 0 1 2, is half a unit above the ideal; rounded up it is 1."
+-- 1000 1001 on speeds 1 1, though their plan, 0 1 2, is half a unit above the ideal; rounded up it is 1." Scope 11.15: "Of A the
+-- division 0 1 3 is best, 0 2 3 and 0 3 3 are valid." Scope 11.16: "Other separators than the plan's can be best: 0 0 2 and 0 1 2 for D,
+-- 0 0 1 for E, and 0 0 2 for weights 2 2 on speeds 1 2, where its bottleneck is 4/2 and the plan's, of 0 1 2, is 2/1."
 unfoldable pub worked : List Row
 worked =
     failsWith (jobOf (1 ∷ 2 ∷ []) (3 ∷ 3 ∷ [])) (over 0 1) (over 3 1)
@@ -129,4 +137,13 @@ worked =
     ∷ planned (jobOf (1 ∷ 1 ∷ 1 ∷ []) (0 ∷ 0 ∷ [])) (0 ∷ 2 ∷ 2 ∷ 2 ∷ []) (over 0 1) 0 (four 0 1 1 2) (four 4 5 1 4)
     ∷ planned (jobOf (3 ∷ []) (5 ∷ 2 ∷ [])) (0 ∷ 2 ∷ []) (over 7 3) 0 (four 0 1 1 0) (four 0 1 5 0)
     ∷ planned (jobOf (1 ∷ 1 ∷ []) (1000 ∷ 1001 ∷ [])) (0 ∷ 1 ∷ 2 ∷ []) (over 1001 1) 1 (four 2 2 1 1) (four 2 3 11 2)
+    ∷ best jobA (0 ∷ 1 ∷ 3 ∷ [])
+    ∷ beaten jobA (0 ∷ 2 ∷ 3 ∷ [])
+    ∷ beaten jobA (0 ∷ 3 ∷ 3 ∷ [])
+    ∷ best jobD (0 ∷ 0 ∷ 2 ∷ [])
+    ∷ best jobD (0 ∷ 1 ∷ 2 ∷ [])
+    ∷ best jobE (0 ∷ 0 ∷ 1 ∷ [])
+    ∷ best (jobOf (1 ∷ 2 ∷ []) (2 ∷ 2 ∷ [])) (0 ∷ 0 ∷ 2 ∷ [])
+    ∷ measures (jobOf (1 ∷ 2 ∷ []) (2 ∷ 2 ∷ [])) (0 ∷ 0 ∷ 2 ∷ []) (over 4 2)
+    ∷ planned (jobOf (1 ∷ 2 ∷ []) (2 ∷ 2 ∷ [])) (0 ∷ 1 ∷ 2 ∷ []) (over 2 1) 500 (four 1 2 1 2) (four 2 3 5 2)
     ∷ []

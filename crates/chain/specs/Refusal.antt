@@ -7,8 +7,8 @@ use lib.ListN.{length, take}
 use lib.Dec.{T, leb, eqb}
 use Rattle.bound.specs.declared.Bound.{Bound}
 use Rattle.chain.specs.Limits.{maxTasks, maxWeight, maxProcessors, maxSpeed, maxBoundLoad, maxBoundSpeed}
-use Rattle.chain.specs.Lists.{all}
-use Rattle.chain.specs.Job.{Job, tasks, processors, at}
+use Rattle.chain.specs.Lists.{tabulate, all}
+use Rattle.chain.specs.Job.{Job, tasks, processors, speedOf, partLoad, at}
 
 -- A test: the number of its refusal, and whether it passes.
 pub record Test : Type 0 where
@@ -65,8 +65,41 @@ isPartition job s =
 unfoldable pub partitionTest : Job → List ℕ → Test
 partitionTest job s = test 11 (isPartition job (take (suc (processors job)) s))
 
--- The number of the first test that fails, 0 where all pass. Scope 8.2: "The tests are made in the order of the numbers, each call
--- making those of the inputs that it takes."
+-- A plan file as it is read: the length that it must have and the length that it has, and the four fields of each processor's record.
+pub record PlanRecords : Type 0 where
+  pub needed : ℕ
+  pub given : ℕ
+  pub from : ℕ → ℕ
+  pub to : ℕ → ℕ
+  pub load : ℕ → ℕ
+  pub speed : ℕ → ℕ
+
+-- Scope 14.2: "Its separators are the first field of the first record, then the second field of each record."
+unfoldable pub separatorsOf : Job → PlanRecords → List ℕ
+separatorsOf job plan = plan .from 0 ∷ tabulate (plan .to) (processors job)
+
+-- Refusal 12: "the length of a plan file is not 16 × P"
+unfoldable pub planLengthTest : PlanRecords → Test
+planLengthTest plan = test 12 (eqb (plan .given) (plan .needed))
+
+-- Each record begins at its separator: where the one before ends.
+unfoldable pub joined : Job → PlanRecords → Bool
+joined job plan = all (λ p. eqb (plan .from p) (at (separatorsOf job plan) p)) (processors job)
+
+-- Refusal 11: "of a plan file, its separators are no division, or a record does not begin where the one before ends"
+unfoldable pub joinedTest : Job → PlanRecords → Test
+joinedTest job plan = test 11 (joined job plan && isPartition job (separatorsOf job plan))
+
+-- The load and the speed of processor p's record are true.
+unfoldable pub trueAt : Job → PlanRecords → ℕ → Bool
+trueAt job plan p = eqb (plan .load p) (partLoad job (plan .from p) (plan .to p)) && eqb (plan .speed p) (speedOf job p)
+
+-- Refusal 13: "a load or a speed of a plan file is untrue"
+unfoldable pub trueTest : Job → PlanRecords → Test
+trueTest job plan = test 13 (all (trueAt job plan) (processors job))
+
+-- The number of the first test that fails, 0 where all pass. Scope 8.2: "The tests are made in the order of the numbers, but 12 before
+-- 11, each call making those of the inputs that it takes."
 unfoldable pub firstRefusal : List Test → ℕ
 firstRefusal [] = 0
 firstRefusal (t ∷ ts) = cond (t .passes) (firstRefusal ts) (t .number)
@@ -97,15 +130,22 @@ pub record Inputs : Type 0 where
   pub lists : List Lent
   pub bounds : List Bound
   pub divisions : List (List ℕ)
+  pub plans : List PlanRecords
 
 -- A call that takes nothing more,
 abbrev pub nothing : Inputs
-nothing = record { methods = []; lists = []; bounds = []; divisions = [] }
+nothing = record { methods = []; lists = []; bounds = []; divisions = []; plans = [] }
 
 -- and one input more of a kind, before the others of that kind.
 abbrev pub withMethod : ℕ → Inputs → Inputs
 withMethod m inputs =
-    record { methods = m ∷ inputs .methods; lists = inputs .lists; bounds = inputs .bounds; divisions = inputs .divisions }
+    record {
+      methods = m ∷ inputs .methods;
+      lists = inputs .lists;
+      bounds = inputs .bounds;
+      divisions = inputs .divisions;
+      plans = inputs .plans;
+    }
 
 abbrev pub lending : ℕ → ℕ → Inputs → Inputs
 lending needed given inputs =
@@ -114,15 +154,38 @@ lending needed given inputs =
       lists = record { needed = needed; given = given } ∷ inputs .lists;
       bounds = inputs .bounds;
       divisions = inputs .divisions;
+      plans = inputs .plans;
     }
 
 abbrev pub withBound : Bound → Inputs → Inputs
 withBound B inputs =
-    record { methods = inputs .methods; lists = inputs .lists; bounds = B ∷ inputs .bounds; divisions = inputs .divisions }
+    record {
+      methods = inputs .methods;
+      lists = inputs .lists;
+      bounds = B ∷ inputs .bounds;
+      divisions = inputs .divisions;
+      plans = inputs .plans;
+    }
 
 abbrev pub withDivision : List ℕ → Inputs → Inputs
 withDivision s inputs =
-    record { methods = inputs .methods; lists = inputs .lists; bounds = inputs .bounds; divisions = s ∷ inputs .divisions }
+    record {
+      methods = inputs .methods;
+      lists = inputs .lists;
+      bounds = inputs .bounds;
+      divisions = s ∷ inputs .divisions;
+      plans = inputs .plans;
+    }
+
+abbrev pub withPlan : PlanRecords → Inputs → Inputs
+withPlan plan inputs =
+    record {
+      methods = inputs .methods;
+      lists = inputs .lists;
+      bounds = inputs .bounds;
+      divisions = inputs .divisions;
+      plans = plan ∷ inputs .plans;
+    }
 
 -- Scope 8.7: "P + 1 separators"
 abbrev pub separatorsNeeded : Job → ℕ
@@ -132,11 +195,16 @@ separatorsNeeded job = suc (processors job)
 abbrev pub measureInputs : Job → List ℕ → Inputs
 measureInputs job s = lending (separatorsNeeded job) (length s) (withDivision s nothing)
 
--- The tests of a call by lists, in order: 1; 5, 6, 7, 8; 9; 10; 11.
+-- The tests of a plan file, in order.
+unfoldable pub planTests : Job → PlanRecords → List Test
+planTests job plan = planLengthTest plan ∷ joinedTest job plan ∷ trueTest job plan ∷ []
+
+-- The tests of a call by lists, in order: 1; 5, 6, 7, 8; 9; 10; 12; 11; 13.
 unfoldable pub callTests : Job → Inputs → List Test
 callTests job inputs =
     map methodTest (inputs .methods) ++ jobTests job ++ map (λ l. lengthTest (l .needed) (l .given)) (inputs .lists)
-    ++ map boundTest (inputs .bounds) ++ map (partitionTest job) (inputs .divisions)
+    ++ map boundTest (inputs .bounds) ++ map planLengthTest (inputs .plans) ++ map (partitionTest job) (inputs .divisions)
+    ++ map (joinedTest job) (inputs .plans) ++ map (trueTest job) (inputs .plans)
 
 -- The number that a call by lists is refused with, 0 where it is accepted.
 unfoldable pub refusal : Job → Inputs → ℕ

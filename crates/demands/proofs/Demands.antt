@@ -47,7 +47,7 @@ use Rattle.planner.proofs.Promises.{plan-said, plan-number, plan-accepted, plan
 use Rattle.planner.proofs.Numbers.{plan-numbers, host-numbers, host-plan, host-keeps, host-valid}
 use Rattle.listing.specs.Answers.{listTests, listRefusal}
 use Rattle.listing.proofs.Promises.{list-said, list-numbers, list-keeps}
-use Rattle.planner.proofs.Reading.{Taken, read-taken, taken-job}
+use Rattle.jobs.proofs.Taken.{Taken, read-taken, taken-job}
 use Rattle.demands.specs.Call.{Call, TestJob, ReadJob, WriteJob, Measure, Probe, Heuristic, Plan, WritePlan, ListJob, PlanJob, said, values, tests, numbers, recordsOrder, fileOrder, order, lent, Leaves}
 use Rattle.demands.specs.Demands.{number, Accepts, DemandOne, front, SomeWithin, Trial, QuickPlan, WrittenBack, DemandTwo, PlanLeft, HostLeft, DemandThree}
 

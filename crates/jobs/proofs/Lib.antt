@@ -8,5 +8,6 @@ pub mod Reading
 pub mod Bytes
 pub mod RoundTrip
 pub mod Calls
+pub mod Taken
 pub mod Promises
 pub mod Cases

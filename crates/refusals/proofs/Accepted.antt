@@ -7,14 +7,14 @@ use native.Mathlib.Omega.{arith}
 use lib.Dec.{leb, leb→le}
 use lib.ListN.{take}
 use Rattle.chain.specs.Job.{Job, Valid, processors, Partition}
-use Rattle.chain.specs.Refusal.{Test, methodTest, lengthTest, boundTest, partitionTest, jobTests, Inputs, callTests, refusal}
+use Rattle.chain.specs.Refusal.{Test, methodTest, lengthTest, boundTest, partitionTest, planLengthTest, joinedTest, trueTest, jobTests, Inputs, callTests, refusal}
 use Rattle.chain.specs.Ranges.{Lendable}
 use Rattle.chain.proofs.Ranges.{lendable-test}
 use Rattle.chain.proofs.Refusals.{Numbered, numbered-append, numbered-map, job-numbered, append-accepted, Each, map-accepted, job-accepted, partition-test}
 use Rattle.chain.proofs.Tests.{and-left, and-right}
 
 -- Its method is one of the four, its job valid, its lists long enough, its bound within the limits, its list a division: of each
--- kind, what the call takes.
+-- kind, what the call takes. (What a plan file has: `plan-accepted` of `chain`.)
 pub record Accepted (job : Job) (inputs : Inputs) : Type 0 where
   pub methods : Each (λ m. (1 ≤ m) × (m ≤ 4)) (inputs .methods)
   pub valid : Valid job
@@ -23,10 +23,13 @@ pub record Accepted (job : Job) (inputs : Inputs) : Type 0 where
   pub divisions : Each (λ s. Partition job (take (suc (processors job)) s)) (inputs .divisions)
 
 pub accepted : {job : Job} {inputs : Inputs} → refusal job inputs ≡ 0 → Accepted job inputs
-unfolding refusal callTests methodTest lengthTest boundTest partitionTest
+unfolding refusal callTests methodTest lengthTest boundTest planLengthTest partitionTest joinedTest
 accepted {job} {inputs} e =
-    let d = append-accepted (((ms ++ jobTests job) ++ ls) ++ bs) (map (partitionTest job) (inputs .divisions)) (numbered-append (numbered-append (numbered-append ms-numbered (job-numbered job)) ls-numbered) bs-numbered) e in
-    let b = append-accepted ((ms ++ jobTests job) ++ ls) bs (numbered-append (numbered-append ms-numbered (job-numbered job)) ls-numbered) (d .0) in
+    let t = append-accepted (((((((ms ++ jobTests job) ++ ls) ++ bs) ++ ns) ++ ds) ++ js)) (map (trueTest job) (inputs .plans)) (numbered-append (numbered-append (numbered-append bs-before ns-numbered) ds-numbered) js-numbered) e in
+    let j = append-accepted ((((((ms ++ jobTests job) ++ ls) ++ bs) ++ ns) ++ ds)) js (numbered-append (numbered-append bs-before ns-numbered) ds-numbered) (t .0) in
+    let d = append-accepted ((((ms ++ jobTests job) ++ ls) ++ bs) ++ ns) ds (numbered-append bs-before ns-numbered) (j .0) in
+    let n = append-accepted (((ms ++ jobTests job) ++ ls) ++ bs) ns bs-before (d .0) in
+    let b = append-accepted ((ms ++ jobTests job) ++ ls) bs (numbered-append (numbered-append ms-numbered (job-numbered job)) ls-numbered) (n .0) in
     let l = append-accepted (ms ++ jobTests job) ls (numbered-append ms-numbered (job-numbered job)) (b .0) in
     let m = append-accepted ms (jobTests job) ms-numbered (l .0) in
     record {
@@ -54,6 +57,27 @@ accepted {job} {inputs} e =
 
     bs-numbered : Numbered bs
     bs-numbered = numbered-map boundTest (λ B. omega arith) (inputs .bounds)
+
+    bs-before : Numbered (((ms ++ jobTests job) ++ ls) ++ bs)
+    bs-before = numbered-append (numbered-append (numbered-append ms-numbered (job-numbered job)) ls-numbered) bs-numbered
+
+    ns : List Test
+    ns = map planLengthTest (inputs .plans)
+
+    ns-numbered : Numbered ns
+    ns-numbered = numbered-map planLengthTest (λ s. omega arith) (inputs .plans)
+
+    ds : List Test
+    ds = map (partitionTest job) (inputs .divisions)
+
+    ds-numbered : Numbered ds
+    ds-numbered = numbered-map (partitionTest job) (λ s. omega arith) (inputs .divisions)
+
+    js : List Test
+    js = map (joinedTest job) (inputs .plans)
+
+    js-numbered : Numbered js
+    js-numbered = numbered-map (joinedTest job) (λ s. omega arith) (inputs .plans)
 
 -- From a number that a call's tests gave, and that is 0.
 pub passed : {job : Job} {inputs : Inputs} {n : ℕ} → n ≡ refusal job inputs → n ≡ 0 → Accepted job inputs

@@ -1,8 +1,8 @@
 -- The test of a division, as the code makes it: the first separator, each pair, the last.
 -- Assumes nothing.
 use Prim.Native.Nat.{ℕ, suc, _+_, _≤_, _<_}
-use mathlib.Core.Path.{_≡_, refl, sym, subst, _∙_}
-use mathlib.Core.Bool.{Bool, true, false}
+use mathlib.Core.Path.{_≡_, sym, subst, _∙_}
+use mathlib.Core.Bool.{Bool, false}
 use mathlib.Core.List.{List}
 use native.Mathlib.Omega.{arith}
 use native.Mathlib.Decide.{decLe}
@@ -14,13 +14,7 @@ use lib.Seq.{length-take-le, getD-take}
 use Rattle.chain.specs.Job.{Job, tasks, processors, at, Partition}
 use Rattle.chain.specs.Refusal.{isPartition}
 use Rattle.chain.proofs.Refusals.{partition-test}
-
--- Two tests that pass together are equal.
-pub same-test : (x y : Bool) → (T x → T y) → (T y → T x) → x ≡ y
-same-test true true f g = refl
-same-test true false f g = absurd (f tt)
-same-test false true f g = absurd (g tt)
-same-test false false f g = refl
+use Rattle.chain.proofs.Tests.{same-test}
 
 module _ (job : Job) (s : List ℕ) (long : processors job < length s) where
   front : List ℕ

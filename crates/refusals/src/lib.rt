@@ -107,7 +107,7 @@ pub fn test_job(speeds: &[u32], weights: &[u32]) -> u32
 }
 
 // Inner. Whether the first P + 1 separators are a partition of the job.
-fn is_partition(speeds: &[u32], weights: &[u32], separators: &[u32]) -> bool
+pub fn is_partition(speeds: &[u32], weights: &[u32], separators: &[u32]) -> bool
     ghost { Job }
     requires { λ job. ⌜ jobOf (now speeds) (now weights) ≡ job ⌝ }
     requires { λ job. ⌜ processors job < length (now separators) ⌝ }

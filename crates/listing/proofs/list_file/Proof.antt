@@ -6,7 +6,7 @@ use native.Mathlib.Omega.{arith}
 use lib.ListN.{replicate, length-replicate}
 use lib.Seq.{length-take-le}
 use Rattle.chain.specs.Limits.{maxProcessors, maxTasks}
-use Rattle.planner.proofs.Reading.{read-taken, read-rejected, taken-job, taken-valid}
+use Rattle.jobs.proofs.Taken.{read-taken, read-rejected, taken-job, taken-valid}
 use Rattle.listing.proofs.Laws.{put-as}
 use Rattle.listing.proofs.Listings.{listed-read, listed-refused}
 use borrow.Author.Needs.{needs}

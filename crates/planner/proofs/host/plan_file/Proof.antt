@@ -7,7 +7,8 @@ use lib.ListN.{length, replicate, length-replicate}
 use lib.Seq.{length-take-le}
 use Rattle.chain.specs.Limits.{maxProcessors, maxTasks}
 use Rattle.planner.specs.HostCall.{fileWrites}
-use Rattle.planner.proofs.Reading.{file-refused, bytes-stay, read-taken, read-rejected, taken-valid, file-done}
+use Rattle.jobs.proofs.Taken.{read-taken, read-rejected, taken-valid}
+use Rattle.planner.proofs.Reading.{file-refused, bytes-stay, file-done}
 use borrow.Author.Needs.{needs}
 use Rattle.planner.proofs.host.plan_file.Statement.{statement}
 use Rattle.planner.proofs.host.plan_file.Tie as tie
