@@ -105,6 +105,12 @@ first-refusal-before (t ∷ ts) us h = go (t .passes) h (first-refusal-before ts
     go true k below = below k
     go false k below = refl
 
+-- What follows counts by the number that it gives.
+pub first-refusal-same : (ts us vs : List Test) → firstRefusal us ≡ firstRefusal vs → firstRefusal (ts ++ us) ≡ firstRefusal (ts ++ vs)
+unfolding firstRefusal
+first-refusal-same [] us vs e = e
+first-refusal-same (t ∷ ts) us vs e = ap (λ (n : ℕ). cond (t .passes) n (t .number)) (first-refusal-same ts us vs e)
+
 -- A test that fails after others that pass gives its number.
 pub refused-first : (ts : List Test) (t : Test) (us : List Test) → Numbered ts → firstRefusal ts ≡ 0 → t .passes ≡ false
     → firstRefusal (ts ++ t ∷ us) ≡ t .number
@@ -190,6 +196,22 @@ numbers-more m ns (t ∷ ts) h =
     go : (b : Bool) → T (oneOf ns (t .number)) → T (b || oneOf ns (t .number))
     go true x = tt
     go false x = x
+
+-- Numbers more, behind them.
+one-behind : (ns ms : List ℕ) (n : ℕ) → T (oneOf ns n) → T (oneOf (ns ++ ms) n)
+one-behind [] ms n h = absurd h
+one-behind (k ∷ ks) ms n h = go (eqb n k) h (one-behind ks ms n)
+  where
+    go : (b : Bool) → T (b || oneOf ks n) → (T (oneOf ks n) → T (oneOf (ks ++ ms) n)) → T (b || oneOf (ks ++ ms) n)
+    go true x below = tt
+    go false x below = below x
+
+pub numbers-behind : (ns ms : List ℕ) (ts : List Test) → T (numbersIn ns ts) → T (numbersIn (ns ++ ms) ts)
+numbers-behind ns ms [] h = tt
+numbers-behind ns ms (t ∷ ts) h =
+    and-both (oneOf (ns ++ ms) (t .number)) (numbersIn (ns ++ ms) ts)
+    (one-behind ns ms (t .number) (and-left (oneOf ns (t .number)) (numbersIn ns ts) h))
+    (numbers-behind ns ms ts (and-right (oneOf ns (t .number)) (numbersIn ns ts) h))
 
 -- The tests of a job have numbers above 0.
 pub job-numbered : (job : Job) → Numbered (jobTests job)

@@ -14,10 +14,10 @@ use Rattle.chain.specs.Job.{Job, jobOf, bottleneck}
 use Rattle.chain.specs.Plan.{planOf, Best}
 use Rattle.chain.specs.Probe as probing
 use Rattle.chain.specs.Heuristic as guessing
-use Rattle.chain.specs.Refusal.{Test, eachBetween, methodTest, speedsTest, weightsTest, processorsTest, tasksTest, lengthTest, boundTest, partitionTest, firstRefusal, jobTests, callTests, refusal, measureInputs}
+use Rattle.chain.specs.Refusal.{Test, eachBetween, methodTest, speedsTest, weightsTest, processorsTest, tasksTest, lengthTest, boundTest, partitionTest, planLengthTest, joinedTest, trueTest, firstRefusal, jobTests, planTests, callTests, refusal, measureInputs}
 use Rattle.chain.proofs.Demand.{plan-of-best}
 use Rattle.chain.proofs.Parts.{valid-plannable}
-use Rattle.chain.proofs.Refusals.{Numbered, numbered-nil, numbered-cons, numbered-append, job-numbered, call-numbered, accepted-passes, passes-accepted, gives}
+use Rattle.chain.proofs.Refusals.{Numbered, numbered-nil, numbered-cons, numbered-append, job-numbered, call-numbered, plan-numbered, accepted-passes, passes-accepted, gives}
 use Rattle.fields.specs.Field.{Bytes}
 use Rattle.refusals.specs.declared.Written.{Written}
 use Rattle.refusals.specs.Inputs.{planNeeded, probeInputs, heuristicInputs, planInputs, writeInputs, writePlanInputs}
@@ -36,9 +36,11 @@ use Rattle.calls.specs.declared.Probed.the-variants.{Answered}
 use Rattle.calls.specs.declared.Measured.the-variants.{Bottleneck}
 use Rattle.calls.specs.Answers.{measuredOf, probedOf, probeAnswer, heuristicAnswer}
 use Rattle.calls.proofs.Promises.{measure-said, measure-numbers, heuristic-said, heuristic-number, heuristic-numbers, heuristic-keeps, heuristic-promise, probe-said, probe-number, probe-numbers, probe-keeps, probe-fits-exactly, probe-fitted}
-use Rattle.planfile.specs.PlanFile.{planBytes}
+use Rattle.planfile.specs.PlanFile.{planBytes, planRead, gradeInputs}
 use Rattle.planfile.specs.Answers.{writePlanBytes}
 use Rattle.planfile.proofs.Promises.{write-plan-said, write-plan-numbers}
+use Rattle.grading.specs.Files.{gradeTests, gradeRefusal, hostGrade}
+use Rattle.grading.proofs.Promises.{grade-said, grade-numbers, host-grade-numbers, host-grade-keeps}
 use Rattle.planner.specs.declared.Figures.{Figures}
 use Rattle.planner.specs.declared.Planned.the-variants.{Accepted}
 use Rattle.planner.specs.Answers.{planRefusal, planAnswer, planWrites}
@@ -48,12 +50,12 @@ use Rattle.planner.proofs.Numbers.{plan-numbers, host-numbers, host-plan, host-
 use Rattle.listing.specs.Answers.{listTests, listRefusal}
 use Rattle.listing.proofs.Promises.{list-said, list-numbers, list-keeps}
 use Rattle.jobs.proofs.Taken.{Taken, read-taken, taken-job}
-use Rattle.demands.specs.Call.{Call, TestJob, ReadJob, WriteJob, Measure, Probe, Heuristic, Plan, WritePlan, ListJob, PlanJob, said, values, tests, numbers, recordsOrder, fileOrder, order, lent, Leaves}
+use Rattle.demands.specs.Call.{Call, TestJob, ReadJob, WriteJob, Measure, Probe, Heuristic, Plan, WritePlan, Grade, ListJob, PlanJob, GradePlan, said, values, tests, numbers, recordsOrder, fileOrder, order, lent, Leaves}
 use Rattle.demands.specs.Demands.{number, Accepts, DemandOne, front, SomeWithin, Trial, QuickPlan, WrittenBack, DemandTwo, PlanLeft, HostLeft, DemandThree}
 
 -- Demand 1. What each call says;
 says : (call : Call) → said call ≡ saidBy (firstRefusal (tests call)) (values call)
-unfolding readRefusal refusal planRefusal hostAnswer listRefusal
+unfolding readRefusal refusal planRefusal hostAnswer listRefusal hostGrade gradeRefusal
 says (TestJob es ws) = said-nothing (firstRefusal (jobTests (jobOf es ws)))
 says (ReadJob file es ws) = read-said file (length es) (length ws)
 says (WriteJob es ws file) = write-said (jobOf es ws) (length file)
@@ -62,8 +64,10 @@ says (Probe es ws B s) = probe-said (jobOf es ws) B s
 says (Heuristic es ws s) = heuristic-said (jobOf es ws) s
 says (Plan m es ws s t) = plan-said (jobOf es ws) m s t
 says (WritePlan es ws s plan) = write-plan-said (jobOf es ws) s (length plan)
+says (Grade es ws plan) = grade-said (jobOf es ws) plan
 says (ListJob file out) = list-said file out
 says (PlanJob file m plan) = said-nothing (firstRefusal (hostTests file m (length plan)))
+says (GradePlan file plan grade) = said-nothing (firstRefusal (gradeTests file plan (length grade ∷ [])))
 
 -- its number is then that of the tests.
 tested : (call : Call) → number call ≡ firstRefusal (tests call)
@@ -91,7 +95,7 @@ file-ordered file =
     ∙ ap (λ (ns : List ℕ). ns ++ 7 ∷ 8 ∷ []) (records-ordered file (recordCount file)))
 
 ordered : (call : Call) → numbersOf (tests call) ≡ order call
-unfolding readTests hostTests hostFileTests listTests callTests jobTests methodTest speedsTest weightsTest processorsTest tasksTest lengthTest boundTest partitionTest
+unfolding readTests hostTests hostFileTests listTests gradeTests planTests callTests jobTests methodTest speedsTest weightsTest processorsTest tasksTest lengthTest boundTest partitionTest planLengthTest joinedTest trueTest
 ordered (TestJob es ws) = refl
 ordered (ReadJob file es ws) =
     numbers-after (fileTests file) (lengthTest (length (weightsOf file)) (length ws) ∷ lengthTest (length (speedsOf file)) (length es) ∷ [])
@@ -102,12 +106,16 @@ ordered (Probe es ws B s) = refl
 ordered (Heuristic es ws s) = refl
 ordered (Plan m es ws s t) = refl
 ordered (WritePlan es ws s plan) = refl
+ordered (Grade es ws plan) = refl
 ordered (ListJob file out) = refl
 ordered (PlanJob file m plan) =
     ap (λ (ns : List ℕ). 1 ∷ ns)
     (numbers-after (fileTests file) (lengthTest (planNeeded (jobIn file)) (length plan) ∷ []) ∙ ap (λ (ns : List ℕ). ns ++ 9 ∷ []) (file-ordered file))
+ordered (GradePlan file plan grade) =
+    numbers-after (fileTests file) (lengthTest 1 (length grade) ∷ planTests (jobIn file) (planRead (jobIn file) plan))
+    ∙ ap (λ (ns : List ℕ). ns ++ 9 ∷ 12 ∷ 11 ∷ 13 ∷ []) (file-ordered file)
 
--- It is one of the row, which are from 1 to 11.
+-- It is one of the row, which are from 1 to 13.
 listed : (call : Call) → List·Memᴰ (number call) (0 ∷ numbers call)
 listed (TestJob es ws) = job-numbers (jobOf es ws)
 listed (ReadJob file es ws) = read-numbers file (length es) (length ws)
@@ -117,10 +125,12 @@ listed (Probe es ws B s) = probe-numbers (jobOf es ws) B s
 listed (Heuristic es ws s) = heuristic-numbers (jobOf es ws) s
 listed (Plan m es ws s t) = plan-numbers (jobOf es ws) m s t
 listed (WritePlan es ws s plan) = write-plan-numbers (jobOf es ws) s (length plan)
+listed (Grade es ws plan) = grade-numbers (jobOf es ws) plan
 listed (ListJob file out) = list-numbers file out
 listed (PlanJob file m plan) = host-numbers file m (length plan)
+listed (GradePlan file plan grade) = host-grade-numbers file plan (length grade)
 
-ranged : (call : Call) → T (eachBetween 1 11 (numbers call))
+ranged : (call : Call) → T (eachBetween 1 13 (numbers call))
 unfolding eachBetween
 ranged (TestJob es ws) = tt
 ranged (ReadJob file es ws) = tt
@@ -130,12 +140,14 @@ ranged (Probe es ws B s) = tt
 ranged (Heuristic es ws s) = tt
 ranged (Plan m es ws s t) = tt
 ranged (WritePlan es ws s plan) = tt
+ranged (Grade es ws plan) = tt
 ranged (ListJob file out) = tt
 ranged (PlanJob file m plan) = tt
+ranged (GradePlan file plan grade) = tt
 
 -- No test has the number 0.
 numbered : (call : Call) → Numbered (tests call)
-unfolding hostTests hostFileTests listTests methodTest lengthTest
+unfolding hostTests hostFileTests listTests gradeTests methodTest lengthTest
 numbered (TestJob es ws) = job-numbered (jobOf es ws)
 numbered (ReadJob file es ws) = read-numbered file (length es) (length ws)
 numbered (WriteJob es ws file) = call-numbered (jobOf es ws) (writeInputs (jobOf es ws) (length file))
@@ -144,12 +156,15 @@ numbered (Probe es ws B s) = call-numbered (jobOf es ws) (probeInputs (jobOf es 
 numbered (Heuristic es ws s) = call-numbered (jobOf es ws) (heuristicInputs (jobOf es ws) (length s))
 numbered (Plan m es ws s t) = call-numbered (jobOf es ws) (planInputs (jobOf es ws) m (length s) (length t))
 numbered (WritePlan es ws s plan) = call-numbered (jobOf es ws) (writePlanInputs (jobOf es ws) s (length plan))
+numbered (Grade es ws plan) = call-numbered (jobOf es ws) (gradeInputs (jobOf es ws) plan)
 numbered (ListJob file out) = numbered-cons (omega arith) numbered-nil
 numbered (PlanJob file m plan) =
     numbered-cons (omega arith) (numbered-append (file-numbered file) (numbered-cons (omega arith) numbered-nil))
+numbered (GradePlan file plan grade) =
+    numbered-append (file-numbered file) (numbered-cons (omega arith) (plan-numbered (jobIn file) (planRead (jobIn file) plan)))
 
 kept : (call : Call) → firstRefusal (tests call) ≢ 0 → (left : List (List ℕ)) → Leaves call left → left ≡ lent call
-unfolding readRefusal refusal planRefusal hostAnswer listRefusal readSpeeds readWeights writeBytes writePlanBytes
+unfolding readRefusal refusal planRefusal hostAnswer listRefusal hostGrade gradeRefusal readSpeeds readWeights writeBytes writePlanBytes
 kept (TestJob es ws) h left e = e
 kept (ReadJob file es ws) h left e = e ∙ ap₂ (λ (x y : List ℕ). x ∷ y ∷ []) (lent-refused h (speedsOf file) es) (lent-refused h (weightsOf file) ws)
 kept (WriteJob es ws file) h left e = e ∙ ap (λ (x : List ℕ). x ∷ []) (lent-refused h (jobBytes (jobOf es ws)) file)
@@ -160,8 +175,10 @@ kept (Plan m es ws s t) h left (t′, a, e) =
     e ∙ ap₂ (λ (x y : List ℕ). x ∷ y ∷ []) (plan-keeps (jobOf es ws) m s t h) (a .refused h)
 kept (WritePlan es ws s plan) h left e =
     e ∙ ap (λ (x : List ℕ). x ∷ []) (lent-refused h (planBytes (jobOf es ws) (front (jobOf es ws) s)) plan)
+kept (Grade es ws plan) h left e = e
 kept (ListJob file out) h left e = e ∙ ap (λ (x : List ℕ). x ∷ []) (list-keeps file out h)
 kept (PlanJob file m plan) h left e = e ∙ ap (λ (x : List ℕ). x ∷ []) (host-keeps file plan m h)
+kept (GradePlan file plan grade) h left e = e ∙ ap (λ (x : List ℕ). x ∷ []) (host-grade-keeps file plan grade h)
 
 pub demand-one : (call : Call) → DemandOne call
 demand-one call =
@@ -240,7 +257,7 @@ module _ (m : ℕ) (es ws s t : List ℕ) (e : Accepts (Plan m es ws s t)) where
   figured : (f : Figures) × (planAnswer (jobOf es ws) m s t ≡ Accepted f)
   figured = plan-accepted (jobOf es ws) m s t (sym (plan-number (jobOf es ws) m s t) ∙ e)
 
-  left : front (jobOf es ws) (planWrites (jobOf es ws) m s t) ≡ planOf (jobOf es ws)
+  pub left : front (jobOf es ws) (planWrites (jobOf es ws) m s t) ≡ planOf (jobOf es ws)
   left = accepted-separators (jobOf es ws) m s t (figured .1)
 
   planned : PlanLeft (jobOf es ws) m s t

@@ -66,13 +66,16 @@ pub host-keeps : (file plan : List ℕ) (m : ℕ) → hostAnswer file m (length 
 unfolding hostWrites bytesAfter
 host-keeps file plan m h = lent-refused h (planBytes (jobIn file) (planOf (jobIn file))) plan
 
--- Where nothing refuses it, the file holds a valid job.
-pub host-valid : (file : List ℕ) (m lent : ℕ) → hostAnswer file m lent ≡ 0 → Valid (jobIn file)
+-- Where nothing refuses it, the file is accepted, and holds a valid job.
+pub host-file : (file : List ℕ) (m lent : ℕ) → hostAnswer file m lent ≡ 0 → fileRefusal file ≡ 0
 unfolding hostAnswer hostTests hostFileTests fileRefusal methodTest
-host-valid file m lent e =
+host-file file m lent e =
     let numbered : Numbered (methodTest m ∷ []) = numbered-cons (omega arith) numbered-nil in
     let front = append-accepted (methodTest m ∷ fileTests file) (lengthTest (planNeeded (jobIn file)) lent ∷ []) (numbered-append numbered (file-numbered file)) e .0 in
-    accepted-valid file (append-accepted (methodTest m ∷ []) (fileTests file) numbered front .1)
+    append-accepted (methodTest m ∷ []) (fileTests file) numbered front .1
+
+pub host-valid : (file : List ℕ) (m lent : ℕ) → hostAnswer file m lent ≡ 0 → Valid (jobIn file)
+host-valid file m lent e = accepted-valid file (host-file file m lent e)
 
 -- Scope 7.8: "The loads of a plan file add up to Wtot." As they are read from the buffer after the C call.
 pub host-loads-add-up : (file plan : List ℕ) (m : ℕ) → hostAnswer file m (length plan) ≡ 0

@@ -1,4 +1,4 @@
-// The call for hosts in C.
+// The calls for hosts in C.
 ghost use Prim.Native.Nat.{_≤_};
 ghost use mathlib.Core.Path.{_≡_};
 ghost use mathlib.Core.List.{_++_};
@@ -7,8 +7,10 @@ ghost use Rattle.chain.specs.Job.{Job, jobOf, Valid};
 ghost use Rattle.chain.specs.Plan.{planOf};
 ghost use Rattle.refusals.specs.Inputs.{planNeeded};
 ghost use Rattle.planfile.specs.PlanFile.{planBytes};
+ghost use Rattle.grading.specs.Files.{hostGrade, hostGrades};
 ghost use Rattle.planner.specs.HostCall.{Host, fileAnswer, fileWrites, hostAnswer, hostWrites};
 use chain::Method;
+use grading::grade_into;
 use jobs::JobRead;
 use jobs::read_job;
 use planfile::put_plan;
@@ -74,4 +76,15 @@ pub extern "C" fn plan_job(job: &[u8], method: u32, plan: &mut [u8]) -> u32
         Chosen::Unknown => 1,
         Chosen::Known(known) => plan_file(known, job, plan),
     }
+}
+
+// Grades the plan file beside its job file, 1 best, 2 valid, in the buffer's first byte: 0, or the refusal: 2 to 8 on the job file,
+// then 9, 12, 11 or 13.
+// In C: uint32_t grade_plan(const uint8_t *job, size_t job_len, const uint8_t *plan, size_t plan_len, uint8_t *grade, size_t grade_len).
+#[no_mangle]
+pub extern "C" fn grade_plan(job: &[u8], plan: &[u8], grade: &mut [u8]) -> u32
+    ensures answer { λ r. ⌜ r ≡ hostGrade (now (job .entry)) (now (plan .entry)) (length (now (grade .entry))) ⌝ }
+    ensures bytes { λ _. ⌜ now (grade .exit) ≡ hostGrades (now (job .entry)) (now (plan .entry)) (now (grade .entry)) ⌝ }
+{
+    grade_into(job, plan, grade)
 }

@@ -23,6 +23,7 @@ use bisection::bisection_in;
 use bound::Bound;
 use chain::Method;
 use dynamic::table_in;
+pub use host::grade_plan;
 pub use host::plan_job;
 use imbalance::imbalance_of;
 use nicol::nicol_in;

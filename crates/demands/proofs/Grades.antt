@@ -1,0 +1,141 @@
+-- What the grade of a plan file means holds: `grades`.
+-- Assumes nothing.
+use Prim.Native.Nat.{ℕ, suc, _≤_}
+use mathlib.Core.Path.{_≡_, refl, sym, ap, subst, _∙_}
+use mathlib.Core.List.{List, [], _∷_, _++_}
+use mathlib.Core.Logic.{_↔_}
+use lib.ListN.{length, take, drop}
+use lib.Seq.{take-at}
+use Rattle.bound.specs.Order.{_≼_, _≺_}
+use Rattle.chain.specs.Job.{Job, jobOf, Valid, processors, Partition, bottleneck}
+use Rattle.chain.specs.Plan.{planOf}
+use Rattle.chain.specs.Refusal.{separatorsOf, firstRefusal, planTests, refusal}
+use Rattle.chain.proofs.Demand.{plan-of-best}
+use Rattle.chain.proofs.Parts.{valid-plannable}
+use Rattle.chain.proofs.Refusals.{Told, plan-accepted, job-accepted}
+use Rattle.fields.specs.Field.{Bytes}
+use Rattle.refusals.specs.Inputs.{planNeeded, writePlanInputs}
+use Rattle.refusals.proofs.Accepted.{Accepted, accepted}
+use Rattle.refusals.proofs.Lent.{lent-front}
+use Rattle.jobs.specs.Parse.{speedsOf, weightsOf, jobIn, fileRefusal}
+use Rattle.planfile.specs.PlanFile.{planBytes, TruePlan, planRead, gradeInputs}
+use Rattle.planfile.specs.Answers.{writePlanBytes}
+use Rattle.planfile.proofs.Records.{length-plan}
+use Rattle.planfile.proofs.Reading.{told-bytes}
+use Rattle.planfile.proofs.Promises.{write-plan-number}
+use Rattle.grading.specs.declared.Graded.{Graded}
+use Rattle.grading.specs.Answers.{gradedSaid, gradeOf, gradeAnswer}
+use Rattle.grading.specs.Files.{hostGrade, hostGrades}
+use Rattle.grading.proofs.Promises.{grade-number, grade-parts, grade-accepts, grade-accepted, best-exactly, valid-exactly, division-accepted, plan-graded, host-parts, host-grade-takes, host-grade-same, host-grade-writes}
+use Rattle.planner.specs.Answers.{planWrites}
+use Rattle.planner.specs.HostCall.{hostWrites}
+use Rattle.planner.proofs.Numbers.{host-plan, host-valid, host-file}
+use Rattle.demands.specs.Call.{TestJob, Plan, WritePlan, Grade, PlanJob, GradePlan, said}
+use Rattle.demands.specs.Demands.{Accepts}
+use Rattle.demands.specs.Grades.{GradeLeft, planIn, Grades}
+use Rattle.demands.proofs.Demands.{left}
+
+-- By lists.
+module _ (es ws plan : List ℕ) where
+  abbrev job : Job
+  job = jobOf es ws
+
+  none : Accepts (Grade es ws plan) → refusal job (gradeInputs job plan) ≡ 0
+  none e = sym (grade-number job plan) ∙ e
+
+  accepts : Bytes plan → Accepts (Grade es ws plan) ↔ (Accepts (TestJob es ws) × TruePlan job plan)
+  accepts b = (
+    λ e. let a = grade-accepts job plan b .0 (none e) in (job-accepted .1 (a .0), a .1),
+    λ (e, t). grade-number job plan ∙ grade-accepts job plan b .1 (job-accepted .0 e, t),
+  )
+
+  graded : Bytes plan → Accepts (Grade es ws plan) → GradeLeft job plan
+  graded b e =
+      let z = none e in
+      let v : Valid job = job-accepted .0 (grade-parts job plan .0 z .0) in
+      let t : Told job (planRead job plan) = plan-accepted job (planRead job plan) .0 (grade-parts job plan .0 z .1) in
+      let s : List ℕ = separatorsOf job (planRead job plan) in
+      let is : gradeAnswer job plan ≡ gradeOf job s = grade-accepted job plan z in
+      record {
+        told = record { separators = s; division = t .division; bytes = told-bytes job plan b t };
+        best = (λ h. best-exactly v s .0 (sym is ∙ h), λ h. is ∙ best-exactly v s .1 h);
+        valid = (λ h. valid-exactly v s .0 (sym is ∙ h), λ h. is ∙ valid-exactly v s .1 h);
+      }
+
+-- What the writer leaves in its buffer, of an accepted call.
+module _ (es ws s buffer : List ℕ) (e : Accepts (WritePlan es ws s buffer)) where
+  abbrev row : Job
+  row = jobOf es ws
+
+  written : refusal row (writePlanInputs row s (length buffer)) ≡ 0
+  written = sym (write-plan-number row s (length buffer)) ∙ e
+
+  took : Accepted row (writePlanInputs row s (length buffer))
+  took = accepted written
+
+  bytes : planIn row (writePlanBytes row s buffer) ≡ planBytes row (take (suc (processors row)) s)
+  unfolding writePlanBytes
+  bytes =
+      let front : List ℕ = take (suc (processors row)) s in
+      ap (planIn row) (lent-front (planBytes row front) buffer written (length-plan row front))
+      ∙ take-at (planBytes row front) (drop (planNeeded row) buffer) (planNeeded row) (length-plan row front)
+
+  division : Accepts (Grade es ws (planIn row (writePlanBytes row s buffer)))
+  division =
+      subst (λ (l : List ℕ). Accepts (Grade es ws l)) (sym bytes)
+      (grade-number row (planBytes row (take (suc (processors row)) s)) ∙ division-accepted (took .valid) (took .divisions .0))
+
+own : (m : ℕ) (es ws s t buffer : List ℕ) → Accepts (Plan m es ws s t) → Accepts (WritePlan es ws (planWrites (jobOf es ws) m s t) buffer)
+    → gradeAnswer (jobOf es ws) (planIn (jobOf es ws) (writePlanBytes (jobOf es ws) (planWrites (jobOf es ws) m s t) buffer)) ≡ Graded.Best
+own m es ws s t buffer e f =
+    ap (gradeAnswer (jobOf es ws)) (bytes es ws (planWrites (jobOf es ws) m s t) buffer f ∙ ap (planBytes (jobOf es ws)) (left m es ws s t e))
+    ∙ plan-graded ((took es ws (planWrites (jobOf es ws) m s t) buffer f) .valid)
+
+-- By files.
+host-own : (file plan grade : List ℕ) (m : ℕ) → Accepts (PlanJob file m plan) → 1 ≤ length grade
+    → Accepts (GradePlan file (planIn (jobIn file) (hostWrites file m plan)) grade)
+    × (hostGrades file (planIn (jobIn file) (hostWrites file m plan)) grade ≡ 1 ∷ drop 1 grade)
+host-own file plan grade m e h = (
+  takes,
+  host-grade-writes file mine grade takes ∙ ap (λ (g : Graded). (gradedSaid g) .values ++ drop 1 grade) (ap (gradeAnswer (jobIn file)) is ∙ plan-graded v),
+)
+  where
+    v : Valid (jobIn file)
+    v = host-valid file m (length plan) e
+
+    best : Partition (jobIn file) (planOf (jobIn file))
+    best = (plan-of-best (valid-plannable v)) .partition
+
+    mine : List ℕ
+    mine = planIn (jobIn file) (hostWrites file m plan)
+
+    is : mine ≡ planBytes (jobIn file) (planOf (jobIn file))
+    is =
+        ap (planIn (jobIn file)) (host-plan file plan m e)
+        ∙ take-at (planBytes (jobIn file) (planOf (jobIn file))) (drop (planNeeded (jobIn file)) plan) (planNeeded (jobIn file)) (length-plan (jobIn file) (planOf (jobIn file)))
+
+    takes : hostGrade file mine (length grade) ≡ 0
+    takes =
+        host-grade-takes file mine (length grade) (host-file file m (length plan) e) h
+        (subst (λ (l : List ℕ). refusal (jobIn file) (gradeInputs (jobIn file) l) ≡ 0) (sym is) (division-accepted v best))
+
+host : (file plan grade : List ℕ) → Accepts (GradePlan file plan grade)
+    ↔ ((fileRefusal file ≡ 0) × (1 ≤ length grade) × Accepts (Grade (speedsOf file) (weightsOf file) plan))
+host file plan grade = (
+  λ e.
+      let p = host-parts file plan (length grade) .0 e in
+      (p .0, p .1, grade-number (jobIn file) plan ∙ host-grade-same file plan (length grade) e),
+  λ (e, h, f). host-grade-takes file plan (length grade) e h (sym (grade-number (jobIn file) plan) ∙ f),
+)
+
+pub grades : Grades
+grades =
+    record {
+      accepted = accepts;
+      graded = graded;
+      division = division;
+      own = own;
+      host-own = host-own;
+      host = host;
+      host-same = λ file plan grade e. host-grade-writes file plan grade e;
+    }
