@@ -8,8 +8,10 @@ ghost use Rattle.chain.specs.Job.{jobOf};
 ghost use Rattle.refusals.specs.Answers.{writtenSaid};
 ghost use Rattle.jobs.specs.Answers.{readSaid};
 ghost use Rattle.calls.specs.Answers.{measuredSaid, probedSaid, probeAnswer};
+ghost use Rattle.grading.specs.Answers.{gradedSaid};
 ghost use Rattle.planner.specs.Answers.{plannedSaid};
-ghost use Rattle.demands.specs.Call.{TestJob, ReadJob, WriteJob, Measure, Probe, Heuristic, Plan, WritePlan, ListJob, PlanJob};
+ghost use Rattle.demands.specs.Call.{TestJob, ReadJob, WriteJob, Measure, Probe, Heuristic, Plan, WritePlan, Grade, ListJob, PlanJob};
+ghost use Rattle.demands.specs.Call.{GradePlan};
 ghost use Rattle.demands.specs.Call.{said, Leaves};
 ghost use Rattle.demands.specs.Demands.{number};
 ghost use Rattle.test_exports.specs.Answer.{boundPut, saidPut, outcomePut, probedPut};
@@ -20,6 +22,8 @@ use calls::heuristic;
 use calls::measure;
 use calls::probe;
 use chain::Outcome;
+use grading::Graded;
+use grading::grade;
 use jobs::JobRead;
 use jobs::read_job;
 use jobs::write_job;
@@ -27,6 +31,7 @@ use listing::list;
 use parts::wide;
 use planfile::write_plan;
 use planner::Planned;
+use planner::grade_plan;
 use planner::plan;
 use planner::plan_job;
 use refusals::Written;
@@ -133,6 +138,24 @@ fn put_measured(answer: &mut [u64], measured: Measured) -> u32
         Measured::Refused(number) => number,
         Measured::Bottleneck(bound) => {
             put_bound(answer, 0, 1, bound);
+            0
+        }
+    }
+}
+
+// Inner. What grading answers.
+fn put_graded(answer: &mut [u64], graded: Graded) -> u32
+    ensures number { λ r. ⌜ r ≡ (gradedSaid graded) .number ⌝ }
+    ensures answer { λ _. ⌜ now (answer .exit) ≡ saidPut (gradedSaid graded) (now (answer .entry)) ⌝ }
+{
+    match graded {
+        Graded::Refused(number) => number,
+        Graded::Best => {
+            put(answer, 0, 1);
+            0
+        }
+        Graded::Valid => {
+            put(answer, 0, 2);
             0
         }
     }
@@ -332,4 +355,36 @@ pub extern "C" fn exported_plan_job(job: &[u8], method: u32, plan: &mut [u8]) ->
         ⌜ Leaves call (now (plan .exit) ∷ []) ⌝ }
 {
     plan_job(job, method, plan)
+}
+
+// The answer: 1 best, 2 valid.
+#[no_mangle]
+pub extern "C" fn exported_grade(
+    speeds: &[u32],
+    weights: &[u32],
+    plan: &[u8],
+    answer: &mut [u64],
+) -> u32
+    ensures number { λ r.
+        let call = Grade (now (speeds .entry)) (now (weights .entry)) (now (plan .entry)) in
+        ⌜ r ≡ number call ⌝ }
+    ensures answer { λ _.
+        let call = Grade (now (speeds .entry)) (now (weights .entry)) (now (plan .entry)) in
+        ⌜ now (answer .exit) ≡ saidPut (said call) (now (answer .entry)) ⌝ }
+{
+    let graded = grade(speeds, weights, plan);
+    put_graded(answer, graded)
+}
+
+// The other call for C, by its line among the calls: nothing more.
+#[no_mangle]
+pub extern "C" fn exported_grade_plan(job: &[u8], plan: &[u8], grade: &mut [u8]) -> u32
+    ensures number { λ r.
+        let call = GradePlan (now (job .entry)) (now (plan .entry)) (now (grade .entry)) in
+        ⌜ r ≡ number call ⌝ }
+    ensures left { λ _.
+        let call = GradePlan (now (job .entry)) (now (plan .entry)) (now (grade .entry)) in
+        ⌜ Leaves call (now (grade .exit) ∷ []) ⌝ }
+{
+    grade_plan(job, plan, grade)
 }
