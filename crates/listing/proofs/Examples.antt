@@ -23,7 +23,8 @@ use Rattle.jobs.specs.JobFile.{recordBytes, recordsBytes, jobBytes}
 use Rattle.jobs.specs.Parse.{byteAt, kindAt, valueAt, isKind, taskBefore, multipleTest, blank, formTest, orderTest, speedTest, weightTest, recordTests, recordsTests, valuesOf, speedsOf, weightsOf, fileTests, fileRefusal}
 use Rattle.planner.specs.Answers.{planFigures}
 use Rattle.listing.specs.Room.{listingRoom}
-use Rattle.listing.specs.Listing.{text, width, decimal, field, fields, labelled, countsLine, figuresText, planLine, methodLine, jobListing, refusalLine, listingOf, intake, listing}
+use Rattle.texts.specs.Text.{text, width, decimal, field, labelled, refusalLine}
+use Rattle.listing.specs.Listing.{fields, countsLine, figuresText, planLine, methodLine, jobListing, listingOf, intake, listing}
 
 -- Job A's file gives, Scope 11.9, the five lines.
 abbrev fileA : List ℕ

@@ -23,10 +23,12 @@ use Rattle.parts.proofs.Front.{taken}
 use Rattle.planner.specs.declared.Figures.{Figures}
 use Rattle.planner.specs.Answers.{planFigures}
 use Rattle.planner.proofs.Laws.{plan-length}
-use Rattle.listing.specs.Listing.{planLine, methodLine, jobListing, refusalLine, listingOf, intake, listing}
-use Rattle.listing.specs.Room.{listingRoom, Put}
+use Rattle.texts.specs.Text.{refusalLine}
+use Rattle.listing.specs.Listing.{planLine, methodLine, jobListing, listingOf, intake, listing}
+use Rattle.texts.specs.Room.{Put}
+use Rattle.listing.specs.Room.{listingRoom}
 use Rattle.listing.specs.Answers.{listTests, listRefusal, listAnswer, listWrites}
-use Rattle.listing.proofs.Laws.{put-as, put-front}
+use Rattle.texts.proofs.Laws.{put-as, put-front}
 
 -- The line of a method, from its plan's figures and a list with the plan's separators in front.
 pub method-put : (method : Method) {job : Job} (v : Valid job) {m : ℕ} {f : Figures} (l : List ℕ) {s o o₁ : List ℕ} {a n : ℕ} → m ≡ numberOf method

@@ -1,16 +1,12 @@
 -- What `strips` writes: from the bytes of a job file to the bytes of its listing. Scope, section 9.
-use Prim.Native.Nat.{ℕ, _+_, _*_, _^_}
-use Prim.Native.Char.{code}
-use Prim.Native.String.{String, [] as []ᵗ, _∷_ as _∷ᵗ_}
+use Prim.Native.Nat.{ℕ, _+_, _*_}
 use mathlib.Core.Bool.{cond}
 use mathlib.Core.List.{List, [], _∷_, _++_}
-use lib.Dec.{eqb, ltb}
+use lib.Dec.{eqb}
 use lib.ListN.{take}
-use Rattle.io.specs.Digits.{digits}
 use Rattle.chain.specs.declared.Method.{Method}
 use Rattle.chain.specs.declared.Method.the-variants.{Table, Bidding, Bisection, Nicol}
 use Rattle.chain.specs.Limits.{maxProcessors, maxTasks}
-use Rattle.chain.specs.Lists.{smallestFrom}
 use Rattle.chain.specs.Job.{Job, tasks, processors, totalWeight}
 use Rattle.chain.specs.Plan.{planOf}
 use Rattle.refusals.specs.Inputs.{recordSize}
@@ -18,32 +14,12 @@ use Rattle.refusals.specs.Methods.{numberOf}
 use Rattle.jobs.specs.Parse.{jobIn, fileRefusal}
 use Rattle.planner.specs.declared.Figures.{Figures}
 use Rattle.planner.specs.Answers.{planFigures}
-
--- The bytes of a text, in ASCII.
-unfoldable pub text : String → List ℕ
-text []ᵗ = []
-text (c ∷ᵗ t) = code c ∷ text t
-
--- How many digits a number has in decimal: the fewest that hold it, and at least one. Scope 9.7: "no zero in front of another digit"
-unfoldable pub width : ℕ → ℕ
-width n = smallestFrom (λ k. ltb n (10 ^ k)) 1 n
-
--- A number in decimal.
-unfoldable pub decimal : ℕ → List ℕ
-decimal n = digits 10 (width n) n
-
--- Scope 9.4: "One space stands between two fields": a field that follows another.
-unfoldable pub field : ℕ → List ℕ
-field n = text " " ++ decimal n
+use Rattle.texts.specs.Text.{text, decimal, field, labelled, refusalLine}
 
 -- The fields of a list, each behind its space.
 unfoldable pub fields : List ℕ → List ℕ
 fields [] = []
 fields (n ∷ ns) = field n ++ fields ns
-
--- A word, and the number that it is of.
-unfoldable pub labelled : String → ℕ → List ℕ
-labelled word n = text word ++ field n
 
 -- Scope 9.2: "The first line is `tiles`, N, `machines`, P, `total`, Wtot." Scope 9.4: "each line ends with one line feed".
 unfoldable pub countsLine : Job → List ℕ
@@ -68,10 +44,6 @@ methodLine method job = planLine (numberOf method) (planFigures method job) (pla
 unfoldable pub jobListing : Job → List ℕ
 jobListing job =
     countsLine job ++ methodLine Table job ++ methodLine Bidding job ++ methodLine Bisection job ++ methodLine Nicol job
-
--- Scope 9.5: "the one line `refused`, a space, the number"
-unfoldable pub refusalLine : ℕ → List ℕ
-refusalLine number = labelled "refused" number ++ text "\n"
 
 -- By the number that the file is refused with: the listing of its job, or that number. Reading is all that can be refused: a job
 -- that was read is planned by every method (`read-planned`).

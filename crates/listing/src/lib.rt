@@ -2,15 +2,13 @@
 // with. What stands in it is a definition, `listing`, and `list` puts exactly these bytes.
 ghost use Prim.Native.Nat.{_+_, _*_, _≤_, _<_};
 ghost use mathlib.Core.Path.{_≡_};
-ghost use mathlib.Core.List.{_++_};
 ghost use lib.ListN.{length};
 ghost use Rattle.chain.specs.Job.{Job, jobOf, Valid, processors};
 ghost use Rattle.jobs.specs.Parse.{fileRefusal};
 ghost use Rattle.listing.specs.Listing as says;
-ghost use Rattle.listing.specs.Listing.{decimal, field, fields, countsLine, figuresText, planLine, methodLine, jobListing, refusalLine};
-ghost use Rattle.listing.specs.Listing.{listingOf};
-ghost use Rattle.listing.specs.Room.{numberRoom, fieldRoom, figuresRoom, planRoom, countsRoom, listingRoom};
-ghost use Rattle.listing.specs.Room.{Put};
+ghost use Rattle.texts.specs.Room.{fieldRoom, Put};
+ghost use Rattle.listing.specs.Listing.{fields, countsLine, figuresText, planLine, methodLine, jobListing, listingOf};
+ghost use Rattle.listing.specs.Room.{figuresRoom, planRoom, countsRoom, listingRoom};
 ghost use Rattle.listing.specs.Answers.{listAnswer, listWrites};
 use chain::Method;
 use jobs::JobRead;
@@ -27,55 +25,22 @@ use refusals::RECORD;
 use refusals::Written;
 use refusals::method_number;
 use refusals::test_length;
+use texts::FIELD_ROOM;
+use texts::put_field;
+use texts::put_labelled;
+use texts::put_number;
+use texts::put_refusal_line;
+use texts::put_text;
 
 // One record more than the longest job: a longer file is judged by that much.
 pub const INTAKE: usize = RECORD * (MAX_PROCESSORS + MAX_TASKS + 1);
 
-// Room for each: a number of 64 bits, one with its space, the line of a plan, the first line, the listing.
-const NUMBER_ROOM: usize = 20;
-
-const FIELD_ROOM: usize = 1 + NUMBER_ROOM;
-
+// Room for each: the line of a plan, the first line, the listing.
 const PLAN_ROOM: usize = 6 * FIELD_ROOM + FIELD_ROOM * SEPARATORS;
 
 const COUNTS_ROOM: usize = 21 + 3 * FIELD_ROOM;
 
 pub const LISTING_ROOM: usize = COUNTS_ROOM + 4 * PLAN_ROOM;
-
-// Inner. Puts the text at index `at`, and answers the index behind it.
-fn put_text(text: &[u8], at: usize, out: &mut [u8]) -> usize
-    requires { ⌜ at + length (now text) ≤ length (now out) ⌝ }
-    ensures { λ r. ⌜ Put (now (text .entry)) at (now (out .entry)) (now (out .exit)) r ⌝ }
-    ensures { λ r. ⌜ r ≡ at + length (now (text .entry)) ⌝ }
-{
-    let mut i = 0;
-    while i < text.len() {
-        out[at + i] = text[i];
-        i += 1;
-    }
-    at + i
-}
-
-// Inner. Puts the number in decimal.
-fn put_number(n: u64, at: usize, out: &mut [u8]) -> usize
-    requires { ⌜ at + numberRoom ≤ length (now out) ⌝ }
-    ensures { λ r. ⌜ Put (decimal n) at (now (out .entry)) (now (out .exit)) r ⌝ }
-    ensures { λ r. ⌜ r ≤ at + numberRoom ⌝ }
-{
-    let mut text = [0u8; NUMBER_ROOM];
-    let count = io::decimal(n, &mut text);
-    put_text(&text[..count], at, out)
-}
-
-// Inner. Puts a space and the number.
-fn put_field(n: u64, at: usize, out: &mut [u8]) -> usize
-    requires { ⌜ at + fieldRoom ≤ length (now out) ⌝ }
-    ensures { λ r. ⌜ Put (field n) at (now (out .entry)) (now (out .exit)) r ⌝ }
-    ensures { λ r. ⌜ r ≤ at + fieldRoom ⌝ }
-{
-    let next = put_text(b" ", at, out);
-    put_number(n, next, out)
-}
 
 // Inner. Puts a space and the number, for each number of the list.
 fn put_fields(numbers: &[u32], at: usize, out: &mut [u8]) -> usize
@@ -90,26 +55,6 @@ fn put_fields(numbers: &[u32], at: usize, out: &mut [u8]) -> usize
         i += 1;
     }
     next
-}
-
-// Inner. Puts a word and the number that it is of.
-fn put_labelled(word: &[u8], n: u64, at: usize, out: &mut [u8]) -> usize
-    requires { ⌜ at + length (now word) + fieldRoom ≤ length (now out) ⌝ }
-    ensures { λ r. ⌜ Put (now (word .entry) ++ field n) at (now (out .entry)) (now (out .exit)) r ⌝ }
-    ensures { λ r. ⌜ r ≤ at + length (now (word .entry)) + fieldRoom ⌝ }
-{
-    let next = put_text(word, at, out);
-    put_field(n, next, out)
-}
-
-// Inner. Puts the line of a refusal.
-fn put_refusal_line(number: u32, out: &mut [u8]) -> usize
-    requires { ⌜ listingRoom ≤ length (now out) ⌝ }
-    ensures { λ r. ⌜ Put (refusalLine number) 0 (now (out .entry)) (now (out .exit)) r ⌝ }
-    ensures { λ r. ⌜ r ≤ listingRoom ⌝ }
-{
-    let next = put_labelled(b"refused", wide(number), 0, out);
-    put_text(b"\n", next, out)
 }
 
 // Inner. Puts the numbers of a plan's line before its separators.

@@ -7,7 +7,8 @@ use lib.ListN.{replicate, length-replicate}
 use lib.Seq.{length-take-le}
 use Rattle.chain.specs.Limits.{maxProcessors, maxTasks}
 use Rattle.jobs.proofs.Taken.{read-taken, read-rejected, taken-job, taken-valid}
-use Rattle.listing.proofs.Laws.{put-as}
+use Rattle.texts.proofs.Laws.{put-as}
+use Rattle.listing.specs.Room.{listingRoom}
 use Rattle.listing.proofs.Listings.{listed-read, listed-refused}
 use borrow.Author.Needs.{needs}
 use Rattle.listing.proofs.list_file.Statement.{statement}
@@ -59,7 +60,8 @@ enum-known-read-2 : tie.Need-enum-known-read-2
 enum-known-read-2 c = search needs
 
 put-refusal-line-requires : tie.Need-put-refusal-line-requires
-put-refusal-line-requires c κs = search needs
+unfolding listingRoom
+put-refusal-line-requires c κs = omega arith
 
 same-length : tie.Need-same-length
 same-length c = search needs
@@ -74,7 +76,7 @@ same-length-2 : tie.Need-same-length-2
 same-length-2 c = search needs
 
 returns-2 : tie.Need-returns-2
-unfolding maxProcessors maxTasks
+unfolding maxProcessors maxTasks listingRoom
 returns-2 c =
     let file = c .before .before .before .before .before .before .before .before .before .before .before .before .before .before .args .file .now in
     let k =

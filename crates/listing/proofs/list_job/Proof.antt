@@ -3,7 +3,7 @@
 use native.Mathlib.Omega.{arith}
 use Rattle.listing.specs.Listing.{jobListing}
 use Rattle.listing.specs.Room.{listingRoom}
-use Rattle.listing.proofs.Laws.{put-then}
+use Rattle.texts.proofs.Laws.{put-then}
 use borrow.Author.Needs.{needs}
 use Rattle.listing.proofs.list_job.Statement.{statement}
 use Rattle.listing.proofs.list_job.Tie as tie

@@ -5,7 +5,7 @@ use native.Mathlib.Omega.{arith}
 use lib.Seq.{length-take-le}
 use Rattle.chain.specs.Limits.{maxProcessors, maxTasks}
 use Rattle.listing.specs.Listing.{intake, listing}
-use Rattle.listing.proofs.Laws.{put-as}
+use Rattle.texts.proofs.Laws.{put-as}
 use Rattle.listing.proofs.Listings.{listed-whole}
 use borrow.Author.Needs.{needs}
 use Rattle.listing.proofs.list_taken.Statement.{statement}

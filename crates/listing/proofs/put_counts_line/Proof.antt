@@ -4,8 +4,9 @@ use mathlib.Core.Path.{ap}
 use native.Mathlib.Omega.{arith}
 use native.Mathlib.Nat.{lt-of-le-of-lt}
 use Rattle.chain.proofs.Ranges.{loads-fit, total-weight-limit}
-use Rattle.listing.specs.Listing.{text, labelled, countsLine}
-use Rattle.listing.proofs.Laws.{put-then, put-as}
+use Rattle.texts.specs.Text.{text, labelled}
+use Rattle.listing.specs.Listing.{countsLine}
+use Rattle.texts.proofs.Laws.{put-then, put-as}
 use borrow.Author.Needs.{needs}
 use Rattle.listing.proofs.put_counts_line.Statement.{statement}
 use Rattle.listing.proofs.put_counts_line.Tie as tie

@@ -5,9 +5,11 @@ use mathlib.Core.Path.{_≡_, refl, ap}
 use native.Mathlib.Omega.{arith}
 use lib.ListN.{length, take}
 use lib.Seq.{take-all}
-use Rattle.listing.specs.Listing.{field, fields}
-use Rattle.listing.specs.Room.{fieldRoom, Put}
-use Rattle.listing.proofs.Laws.{put-none, put-then, put-as, fields-next}
+use Rattle.texts.specs.Text.{field}
+use Rattle.listing.specs.Listing.{fields}
+use Rattle.texts.specs.Room.{fieldRoom, Put}
+use Rattle.texts.proofs.Laws.{put-none, put-then, put-as}
+use Rattle.listing.proofs.Laws.{fields-next}
 use Rattle.listing.proofs.put_fields.Statement.{statement}
 use Rattle.listing.proofs.put_fields.Tie as tie
 

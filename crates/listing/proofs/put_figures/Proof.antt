@@ -2,8 +2,9 @@
 -- Assumes nothing.
 use mathlib.Core.Path.{ap}
 use native.Mathlib.Omega.{arith}
-use Rattle.listing.specs.Listing.{decimal, field, figuresText}
-use Rattle.listing.proofs.Laws.{put-then, put-as}
+use Rattle.texts.specs.Text.{decimal, field}
+use Rattle.listing.specs.Listing.{figuresText}
+use Rattle.texts.proofs.Laws.{put-then, put-as}
 use borrow.Author.Needs.{needs}
 use Rattle.listing.proofs.put_figures.Statement.{statement}
 use Rattle.listing.proofs.put_figures.Tie as tie

@@ -1,8 +1,9 @@
 -- `put_plan_line` meets its contract: the figures, the separators and the line feed.
 -- Assumes nothing.
 use native.Mathlib.Omega.{arith}
-use Rattle.listing.specs.Listing.{text, planLine}
-use Rattle.listing.proofs.Laws.{put-then}
+use Rattle.texts.specs.Text.{text}
+use Rattle.listing.specs.Listing.{planLine}
+use Rattle.texts.proofs.Laws.{put-then}
 use borrow.Author.Needs.{needs}
 use Rattle.listing.proofs.put_plan_line.Statement.{statement}
 use Rattle.listing.proofs.put_plan_line.Tie as tie

@@ -1,11 +1,11 @@
 -- `put_field` meets its contract: a space, then the number.
 -- Assumes nothing.
 use native.Mathlib.Omega.{arith}
-use Rattle.listing.specs.Listing.{text, field}
-use Rattle.listing.proofs.Laws.{put-then}
+use Rattle.texts.specs.Text.{text, field}
+use Rattle.texts.proofs.Laws.{put-then}
 use borrow.Author.Needs.{needs}
-use Rattle.listing.proofs.put_field.Statement.{statement}
-use Rattle.listing.proofs.put_field.Tie as tie
+use Rattle.texts.proofs.put_field.Statement.{statement}
+use Rattle.texts.proofs.put_field.Tie as tie
 
 slice-aggregate-put-text : tie.Need-slice-aggregate-put-text
 slice-aggregate-put-text c = search needs

@@ -1,10 +1,10 @@
 -- `put_labelled` meets its contract: the word, then its field.
 -- Assumes nothing.
 use native.Mathlib.Omega.{arith}
-use Rattle.listing.proofs.Laws.{put-then}
+use Rattle.texts.proofs.Laws.{put-then}
 use borrow.Author.Needs.{needs}
-use Rattle.listing.proofs.put_labelled.Statement.{statement}
-use Rattle.listing.proofs.put_labelled.Tie as tie
+use Rattle.texts.proofs.put_labelled.Statement.{statement}
+use Rattle.texts.proofs.put_labelled.Tie as tie
 
 put-text-requires : tie.Need-put-text-requires
 put-text-requires c κs = search needs

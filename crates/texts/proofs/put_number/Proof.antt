@@ -1,10 +1,10 @@
 -- `put_number` meets its contract: the digits are those of the definition, and few.
 -- Assumes nothing.
 use borrow.Author.Needs.{needs}
-use Rattle.listing.proofs.put_number.Statement.{statement}
-use Rattle.listing.proofs.put_number.Tie as tie
+use Rattle.texts.proofs.put_number.Statement.{statement}
+use Rattle.texts.proofs.put_number.Tie as tie
 use native.Mathlib.Omega.{arith}
-use Rattle.listing.proofs.Laws.{number-text, put-as, digits-few}
+use Rattle.texts.proofs.Laws.{number-text, put-as, digits-few}
 
 decimal-requires : tie.Need-decimal-requires
 decimal-requires c κs = search needs
