@@ -13,10 +13,10 @@ use Rattle.chain.specs.Bidding.{bidding}
 use Rattle.chain.specs.Bisection.{firstEnds, nextEnds, ends, meet}
 use Rattle.chain.specs.Nicol.{fitsAt, firstFit, startOn, candidateOn, leastCandidate, emptyFits, nextRange, rangeAfter, single, settled}
 use Rattle.chain.specs.Plan.{spread, onward, partitions, leastBound, leastBottleneck, planOf, difference, allowance, biddingFailures, bisectionRounds, nicolTrials, nicolStop, countBy, foundBy, imbalance}
-use Rattle.chain.specs.Refusal.{eachBetween, methodTest, speedsTest, weightsTest, processorsTest, tasksTest, lengthTest, boundTest, isPartition, partitionTest, firstRefusal, jobTests, callTests, refusal}
+use Rattle.chain.specs.Refusal.{eachBetween, methodTest, speedsTest, weightsTest, processorsTest, tasksTest, lengthTest, boundTest, isPartition, partitionTest, separatorsOf, planLengthTest, joined, joinedTest, trueAt, trueTest, firstRefusal, jobTests, planTests, callTests, refusal}
 use Rattle.chain.specs.Grade.{every, unbeaten}
-use Rattle.chain.specs.Marked.{sameList, samePair, figuresAre, walksAre, isFailing, isFitting, holds, everyHolds, marked, worked}
+use Rattle.chain.specs.Marked.{sameList, samePair, figuresAre, walksAre, rowAt, isFailing, isFitting, holds, everyHolds, marked, worked}
 
 pub marked-jobs : T (everyHolds (marked ++ worked))
-unfolding le greater lesser leastTo roundedUp maxTasks maxWeight maxProcessors maxSpeed maxBoundLoad maxBoundSpeed sum greatestOf leastOf tabulate sumTo all greatestFrom smallestFrom smallestLeast digitsWithin digits speedOf partOf partWeight partLoad slowestOf partBound within offer boundAt bottleneckTo bottleneck ideal reach separator walk fits bid nextBid probe miss nearest heuristic startOf candidate crossingOf lesserAt tableValue crossing movesTo moves bidding firstEnds nextEnds ends meet fitsAt firstFit startOn candidateOn leastCandidate emptyFits nextRange rangeAfter single settled spread onward partitions leastBound leastBottleneck planOf difference allowance biddingFailures bisectionRounds nicolTrials nicolStop countBy foundBy imbalance eachBetween methodTest speedsTest weightsTest processorsTest tasksTest lengthTest boundTest isPartition partitionTest firstRefusal jobTests callTests refusal every unbeaten sameList samePair figuresAre walksAre isFailing isFitting holds everyHolds marked worked
+unfolding le greater lesser leastTo roundedUp maxTasks maxWeight maxProcessors maxSpeed maxBoundLoad maxBoundSpeed sum greatestOf leastOf tabulate sumTo all greatestFrom smallestFrom smallestLeast digitsWithin digits speedOf partOf partWeight partLoad slowestOf partBound within offer boundAt bottleneckTo bottleneck ideal reach separator walk fits bid nextBid probe miss nearest heuristic startOf candidate crossingOf lesserAt tableValue crossing movesTo moves bidding firstEnds nextEnds ends meet fitsAt firstFit startOn candidateOn leastCandidate emptyFits nextRange rangeAfter single settled spread onward partitions leastBound leastBottleneck planOf difference allowance biddingFailures bisectionRounds nicolTrials nicolStop countBy foundBy imbalance eachBetween methodTest speedsTest weightsTest processorsTest tasksTest lengthTest boundTest isPartition partitionTest separatorsOf planLengthTest joined joinedTest trueAt trueTest firstRefusal jobTests planTests callTests refusal every unbeaten sameList samePair figuresAre walksAre rowAt isFailing isFitting holds everyHolds marked worked
 marked-jobs = tt

@@ -1,20 +1,21 @@
 -- The worked jobs of the scope, section 11, as one table, and what it means that a row holds.
-use Prim.Native.Nat.{ℕ}
+use Prim.Native.Nat.{ℕ, zero, suc}
 use mathlib.Core.Bool.{Bool, true, false, not, _&&_}
 use mathlib.Core.List.{List, [], _∷_}
 use lib.Dec.{eqb}
+use lib.ListN.{length}
 use Rattle.bound.specs.declared.Bound.{Bound}
 use Rattle.bound.specs.Order.{over}
 use Rattle.chain.specs.declared.Method.{Method}
 use Rattle.chain.specs.declared.Method.the-variants.{Table, Bidding, Bisection, Nicol}
 use Rattle.chain.specs.declared.Outcome.{Outcome}
 use Rattle.chain.specs.declared.Outcome.the-variants.{Fits, Fails}
-use Rattle.chain.specs.Job.{Job, jobOf, bottleneck}
+use Rattle.chain.specs.Job.{Job, jobOf, processors, at, bottleneck}
 use Rattle.chain.specs.Probe.{walk, probe}
 use Rattle.chain.specs.Heuristic.{heuristic}
 use Rattle.chain.specs.Plan.{planOf, allowance, countBy, foundBy, imbalance}
 use Rattle.chain.specs.Grade.{unbeaten}
-use Rattle.chain.specs.Refusal.{isPartition, measureInputs, refusal}
+use Rattle.chain.specs.Refusal.{isPartition, PlanRecords, firstRefusal, measureInputs, planTests, refusal}
 
 -- The same list; the same pair, load and speed.
 unfoldable pub sameList : List ℕ → List ℕ → Bool
@@ -47,6 +48,27 @@ walksAre job s =
     sameList (walk job (foundBy Table job)) s && sameList (walk job (foundBy Bidding job)) s
     && sameList (walk job (foundBy Bisection job)) s && sameList (walk job (foundBy Nicol job)) s
 
+-- The list at an index, none past the last.
+unfoldable pub rowAt : List (List ℕ) → ℕ → List ℕ
+rowAt [] p = []
+rowAt (r ∷ rs) zero = r
+rowAt (r ∷ rs) (suc p) = rowAt rs p
+
+-- Records of a plan file, its length counted in records.
+abbrev pub recordsIn : Job → List (List ℕ) → PlanRecords
+recordsIn job rows =
+    record {
+      needed = processors job;
+      given = length rows;
+      from = λ p. at (rowAt rows p) 0;
+      to = λ p. at (rowAt rows p) 1;
+      load = λ p. at (rowAt rows p) 2;
+      speed = λ p. at (rowAt rows p) 3;
+    }
+
+abbrev pub fieldsOf : ℕ → ℕ → ℕ → ℕ → List ℕ
+fieldsOf a b c d = a ∷ b ∷ c ∷ d ∷ []
+
 -- A row of the table.
 pub data Row : Type 0 where
   -- a job's plan: separators, bottleneck, imbalance, counts, allowances
@@ -62,6 +84,8 @@ pub data Row : Type 0 where
   -- a division that is best; one that is beaten
   best : Job → List ℕ → Row
   beaten : Job → List ℕ → Row
+  -- the records of a plan file, four fields each, and the number that their tests give
+  filed : Job → List (List ℕ) → ℕ → Row
 
 unfoldable pub isFailing : Outcome → Bound → Bool
 isFailing Fits C = false
@@ -83,6 +107,7 @@ holds (measures job s B) = eqb (refusal job (measureInputs job s)) 0 && samePair
 holds (refused job s n) = eqb (refusal job (measureInputs job s)) n
 holds (best job s) = isPartition job s && unbeaten job s
 holds (beaten job s) = isPartition job s && not (unbeaten job s)
+holds (filed job rows n) = eqb (firstRefusal (planTests job (recordsIn job rows))) n
 
 unfoldable pub everyHolds : List Row → Bool
 everyHolds [] = true
@@ -126,7 +151,9 @@ marked =
 -- 0 on three processors, where it ends at the first; a single processor. Scope 11.14: "An imbalance that is rounded down is 0 for weights
 -- 1000 1001 on speeds 1 1, though their plan, 0 1 2, is half a unit above the ideal; rounded up it is 1." Scope 11.15: "Of A the
 -- division 0 1 3 is best, 0 2 3 and 0 3 3 are valid." Scope 11.16: "Other separators than the plan's can be best: 0 0 2 and 0 1 2 for D,
--- 0 0 1 for E, and 0 0 2 for weights 2 2 on speeds 1 2, where its bottleneck is 4/2 and the plan's, of 0 1 2, is 2/1."
+-- 0 0 1 for E, and 0 0 2 for weights 2 2 on speeds 1 2, where its bottleneck is 4/2 and the plan's, of 0 1 2, is 2/1." Plan files of A: its plan; a record too few, one too many; a gap, an
+-- overlap, a first record that does not begin at 0, a last one that does not end at N; an untrue load, an untrue speed; an untrue load
+-- before a gap.
 unfoldable pub worked : List Row
 worked =
     failsWith (jobOf (1 ∷ 2 ∷ []) (3 ∷ 3 ∷ [])) (over 0 1) (over 3 1)
@@ -137,6 +164,16 @@ worked =
     ∷ planned (jobOf (1 ∷ 1 ∷ 1 ∷ []) (0 ∷ 0 ∷ [])) (0 ∷ 2 ∷ 2 ∷ 2 ∷ []) (over 0 1) 0 (four 0 1 1 2) (four 4 5 1 4)
     ∷ planned (jobOf (3 ∷ []) (5 ∷ 2 ∷ [])) (0 ∷ 2 ∷ []) (over 7 3) 0 (four 0 1 1 0) (four 0 1 5 0)
     ∷ planned (jobOf (1 ∷ 1 ∷ []) (1000 ∷ 1001 ∷ [])) (0 ∷ 1 ∷ 2 ∷ []) (over 1001 1) 1 (four 2 2 1 1) (four 2 3 11 2)
+    ∷ filed jobA (fieldsOf 0 1 1 1 ∷ fieldsOf 1 3 11 3 ∷ []) 0
+    ∷ filed jobA (fieldsOf 0 1 1 1 ∷ []) 12
+    ∷ filed jobA (fieldsOf 0 1 1 1 ∷ fieldsOf 1 3 11 3 ∷ fieldsOf 3 3 0 1 ∷ []) 12
+    ∷ filed jobA (fieldsOf 0 1 1 1 ∷ fieldsOf 2 3 8 3 ∷ []) 11
+    ∷ filed jobA (fieldsOf 0 2 4 1 ∷ fieldsOf 1 3 11 3 ∷ []) 11
+    ∷ filed jobA (fieldsOf 1 1 0 1 ∷ fieldsOf 1 3 11 3 ∷ []) 11
+    ∷ filed jobA (fieldsOf 0 1 1 1 ∷ fieldsOf 1 2 3 3 ∷ []) 11
+    ∷ filed jobA (fieldsOf 0 1 2 1 ∷ fieldsOf 1 3 11 3 ∷ []) 13
+    ∷ filed jobA (fieldsOf 0 1 1 1 ∷ fieldsOf 1 3 11 1 ∷ []) 13
+    ∷ filed jobA (fieldsOf 0 1 2 1 ∷ fieldsOf 2 3 8 3 ∷ []) 11
     ∷ best jobA (0 ∷ 1 ∷ 3 ∷ [])
     ∷ beaten jobA (0 ∷ 2 ∷ 3 ∷ [])
     ∷ beaten jobA (0 ∷ 3 ∷ 3 ∷ [])

@@ -85,19 +85,19 @@ module _ (job : Job) (plan : List ℕ) where
       first (suc k) m = absurd (let z : ⊥ = omega arith in z)
 
   module _ {before now : List ℕ} {b : Bool} {p : ℕ} (t : Taking before now b p) where
-    pub taking-next : p < processors job → {x y v : ℕ} {c : Bool} → x ≡ fieldAt plan (16 * p) → y ≡ getD now p 0
-        → c ≡ (b && eqb x y) → v ≡ fieldAt plan (16 * p + 4) → Taking before (set now (p + 1) v) c (p + 1)
+    pub taking-next : p < processors job → (m n : ℕ) {x y v : ℕ} {c : Bool} → x ≡ fieldAt plan m → m ≡ 16 * p → y ≡ getD now p 0
+        → c ≡ (b && eqb x y) → v ≡ fieldAt plan n → n ≡ 16 * p + 4 → Taking before (set now (p + 1) v) c (p + 1)
     unfolding all
-    taking-next h {x} {y} {v} {c} ex ey ec ev =
+    taking-next h m n {x} {y} {v} {c} ex em ey ec ev en =
         record {
           done = omega arith;
           room = t .room;
           front =
               subst (λ (k : ℕ). Front (at (separatorsOf job file)) (suc k) before (set now k v)) (sym (add-one p))
               (subst (λ (k : ℕ). Front (at (separatorsOf job file)) k before (set now (suc p) v)) (add-one (suc p))
-              (front-next v (t .front) (omega (arith, t .room)) (ev ∙ sym (read-next job file p h))));
+              (front-next v (t .front) (omega (arith, t .room)) (ev ∙ ap (fieldAt plan) en ∙ sym (read-next job file p h))));
           begins =
-              ec ∙ ap₂ (λ (d : Bool) (z : ℕ). d && eqb z y) (t .begins) ex
+              ec ∙ ap₂ (λ (d : Bool) (z : ℕ). d && eqb z y) (t .begins) (ex ∙ ap (fieldAt plan) em)
               ∙ ap (λ (z : ℕ). all begun p && eqb (file .from p) z) (ey ∙ t .front .done p (omega arith))
               ∙ ap (all begun) (sym (add-one p));
         }
@@ -145,14 +145,14 @@ all-ends f n p h e = same-test false (all f n) (λ x. absurd x) (λ t. subst T e
 pub load-read : (job : Job) (s : List ℕ) (p : ℕ) {i j : ℕ} → i ≡ at s p → j ≡ at s (p + 1) → partLoad job i j ≡ partLoad job (at s p) (at s (suc p))
 load-read job s p e f = ap₂ (partLoad job) e (f ∙ ap (at s) (add-one p))
 
--- What is compared at processor p: the load of its part, then its speed.
-pub tells-read : (job : Job) (s plan : List ℕ) (p : ℕ) {x y v w : ℕ} {b c : Bool} → x ≡ fieldAt plan (16 * p + 8)
-    → v ≡ partLoad job (at s p) (at s (suc p)) → y ≡ fieldAt plan (16 * p + 12) → w ≡ speedOf job p → b ≡ (true && eqb x v) → c ≡ (b && eqb y w)
-    → c ≡ tellsAt job s plan p
+-- What is compared at processor p: the load of its part, then its speed. The fields are read at the places m and n.
+pub tells-read : (job : Job) (s plan : List ℕ) (p m n : ℕ) {x y v w : ℕ} {b c : Bool} → x ≡ fieldAt plan m → m ≡ 16 * p + 8
+    → v ≡ partLoad job (at s p) (at s (suc p)) → y ≡ fieldAt plan n → n ≡ 16 * p + 12 → w ≡ speedOf job p → b ≡ (true && eqb x v)
+    → c ≡ (b && eqb y w) → c ≡ tellsAt job s plan p
 unfolding tellsAt
-tells-read job s plan p {x} {y} {v} {w} ex ev ey ew eb ec =
-    ec ∙ ap (λ (d : Bool). d && eqb y w) (eb ∙ ap₂ (λ (i j : ℕ). eqb i j) ex ev)
-    ∙ ap₂ (λ (i j : ℕ). eqb (fieldAt plan (16 * p + 8)) (partLoad job (at s p) (at s (suc p))) && eqb i j) ey ew
+tells-read job s plan p m n {x} {y} {v} {w} ex em ev ey en ew eb ec =
+    ec ∙ ap (λ (d : Bool). d && eqb y w) (eb ∙ ap₂ (λ (i j : ℕ). eqb i j) (ex ∙ ap (fieldAt plan) em) ev)
+    ∙ ap₂ (λ (i j : ℕ). eqb (fieldAt plan (16 * p + 8)) (partLoad job (at s p) (at s (suc p))) && eqb i j) (ey ∙ ap (fieldAt plan) en) ew
 
 -- The grade of a partition: C is its bottleneck, B what bisection found.
 module _ {job : Job} (v : Valid job) (s : List ℕ) {n : ℕ} {B C : Bound} (is : C ≡ bottleneck job s) (ended : BisectionEnds job n B) where

@@ -93,9 +93,10 @@ fn tells_at(
     ensures { λ job r. ⌜ r ≡ tellsAt job (now (separators .entry)) (now (plan .entry)) p ⌝ }
 {
     let load = part_load(sums, index(separators[p]), index(separators[p + 1]));
-    let place = PLAN_RECORD * p;
-    let told = and_same(true, get_field(plan, place + 2 * FIELD), load);
-    and_same(told, get_field(plan, place + 3 * FIELD), speeds[p])
+    let speed = speeds[p];
+    let told_load = get_field(plan, PLAN_RECORD * p + 2 * FIELD);
+    let told_speed = get_field(plan, PLAN_RECORD * p + 3 * FIELD);
+    and_same(and_same(true, told_load, load), told_speed, speed)
 }
 
 // Inner. Whether every record has the load of its part and its speed.

@@ -67,8 +67,8 @@ loop-again : tie.Need-loop-again Inv-loop μ-loop
 loop-again c =
     let l = c .before .before .before .before .before in
     let s = l .before .before .before .before .before .before in
-    taking-next (jobOf (s .args .speeds .now) (s .args .weights .now)) (s .args .plan .now) (l .loop .inv) (c .before .before .before .before .loop-test .taken)
-    (c .before .before .before .get-field2 .ensures) refl (c .before .and-same .ensures) (c .get-field3 .ensures)
+    taking-next (jobOf (s .args .speeds .now) (s .args .weights .now)) (s .args .plan .now) (l .loop .inv) (c .before .before .before .before .loop-test .taken) _ _
+    (c .before .before .before .get-field2 .ensures) (omega arith) refl (c .before .and-same .ensures) (c .get-field3 .ensures) (omega arith)
 
 same-length : tie.Need-same-length Inv-loop μ-loop
 same-length c =

@@ -1,21 +1,14 @@
 -- `tells_at` meets its contract: the load of the part, then the speed.
 -- Assumes nothing.
-use mathlib.Core.Path.{ap₂, _∙_}
+use mathlib.Core.Path.{_∙_}
 use native.Mathlib.Omega.{arith}
-use Rattle.chain.specs.Job.{Job, jobOf, partLoad, at}
-use native.Mathlib.Numerals.{add-one}
+use Rattle.chain.specs.Job.{Job, jobOf}
 use Rattle.parts.proofs.Laws.{speed-read, prefix-to, prefix-load}
 use Rattle.parts.proofs.Measure.{front-length, front-part}
 use Rattle.grading.proofs.Laws.{load-read, tells-read}
 use borrow.Author.Needs.{needs}
 use Rattle.grading.proofs.tells_at.Statement.{statement}
 use Rattle.grading.proofs.tells_at.Tie as tie
-use Rattle.grading.proofs.tells_at.Reads as reads
-use Rattle.grading.proofs.tells_at.Lts as lts
-use Rattle.fields.proofs.get_field.Reads as get-field-reads
-use Rattle.grading.proofs.and_same.Reads as and-same-reads
-use Rattle.parts.proofs.index.Reads as index-reads
-use Rattle.parts.proofs.part_load.Reads as part-load-reads
 
 mul-index : tie.Need-mul-index
 mul-index c = search needs
@@ -48,11 +41,17 @@ part-load-requires c κs =
     let h = front-part (s .args .separators .now) (s .pre .1 .0) (s .pre .1 .1 .1) (c .before .before .index .ensures) (c .index2 .ensures) in
     (prefix-to (s .pre .0) (h .1), h .0)
 
-mul-place : tie.Need-mul-place
-mul-place c = search needs
+mul-speed : tie.Need-mul-speed
+mul-speed c = search needs
+
+shared-slice-read-speed : tie.Need-shared-slice-read-speed
+shared-slice-read-speed c = search needs
 
 mul-get-field : tie.Need-mul-get-field
 mul-get-field c = search needs
+
+mul-get-field-2 : tie.Need-mul-get-field-2
+mul-get-field-2 c = search needs
 
 add-get-field : tie.Need-add-get-field
 add-get-field c = search needs
@@ -60,11 +59,11 @@ add-get-field c = search needs
 get-field-requires : tie.Need-get-field-requires
 get-field-requires c κs = search needs
 
-and-same-requires : tie.Need-and-same-requires
-and-same-requires c κs = search needs
+mul-get-field-3 : tie.Need-mul-get-field-3
+mul-get-field-3 c = search needs
 
-mul-get-field-2 : tie.Need-mul-get-field-2
-mul-get-field-2 c = search needs
+mul-get-field-4 : tie.Need-mul-get-field-4
+mul-get-field-4 c = search needs
 
 add-get-field-2 : tie.Need-add-get-field-2
 add-get-field-2 c = search needs
@@ -72,11 +71,8 @@ add-get-field-2 c = search needs
 get-field-requires-2 : tie.Need-get-field-requires-2
 get-field-requires-2 c κs = search needs
 
-mul-and-same : tie.Need-mul-and-same
-mul-and-same c = search needs
-
-shared-slice-read-and-same : tie.Need-shared-slice-read-and-same
-shared-slice-read-and-same c = search needs
+and-same-requires : tie.Need-and-same-requires
+and-same-requires c κs = search needs
 
 and-same-requires-2 : tie.Need-and-same-requires-2
 and-same-requires-2 c κs = search needs
@@ -89,9 +85,9 @@ returns c =
     let i = load .before .before .before .index in
     let j = load .before .index2 in
     let h = front-part (s .args .separators .now) (s .pre .1 .0) (s .pre .1 .1 .1) (i .ensures) (j .ensures) in
-    tells-read job (s .args .separators .now) (s .args .plan .now) (s .args .p) (c .before .before .before .before .get-field .ensures)
+    tells-read job (s .args .separators .now) (s .args .plan .now) (s .args .p) _ _ (c .before .before .before .get-field .ensures) (omega arith)
     (load .part-load .ensures ∙ prefix-load (s .pre .0 .prefix) (i .result) (j .result) (h .0) (h .1) ∙ load-read job (s .args .separators .now) (s .args .p) (i .ensures) (j .ensures))
-    (c .before .before .get-field2 .ensures) (speed-read job (s .args .p) (s .pre .1 .1 .1)) (c .before .before .before .and-same .ensures) (c .and-same2 .ensures)
+    (c .before .before .get-field2 .ensures) (omega arith) (speed-read job (s .args .p) (s .pre .1 .1 .1)) (c .before .and-same .ensures) (c .and-same2 .ensures)
 
 pub tells-at-spec : {M : Type 1} → statement M
 tells-at-spec =
@@ -105,15 +101,16 @@ tells-at-spec =
     shared-slice-read-index-2
     index-requires-2
     part-load-requires
-    mul-place
+    mul-speed
+    shared-slice-read-speed
     mul-get-field
+    mul-get-field-2
     add-get-field
     get-field-requires
-    and-same-requires
-    mul-get-field-2
+    mul-get-field-3
+    mul-get-field-4
     add-get-field-2
     get-field-requires-2
-    mul-and-same
-    shared-slice-read-and-same
+    and-same-requires
     and-same-requires-2
     returns)
