@@ -1,3 +1,4 @@
 pub mod Laws
 pub mod Answering
 pub mod Promises
+pub mod Examples
