@@ -88,6 +88,13 @@ says "a plan beside another job" "refused 11" examples/B.job "$best"
 says "job and plan exchanged" "refused 3" "$best" "$a"
 says "a job for both" "refused 12" "$a" "$a"
 
+# the table of examples/README.md says the same of each, and of all
+awk -F ' *[|] *' '$2 ~ /[.]plan`$/ { gsub(/`/, ""); print $4, $2 }' examples/README.md >"$work/rows"
+for plan in examples/*.plan; do
+    name=$(basename "$plan")
+    equal "examples/README.md, $name" "$("$program" "examples/${name%%-*}.job" "$plan") $name" "$(grep " $name\$" "$work/rows" || :)"
+done
+
 # every division of A to E: each as it must be
 # divisions JOB LAST WORD..: the words of 0 0 LAST, 0 1 LAST and so on
 divisions() {
