@@ -106,7 +106,8 @@ static uint32_t judge_plan(const struct job *job, const uint8_t *plan, size_t le
 }
 
 /* Grades a plan beside a job file whose own number is known, and gives the grade, or 0. */
-static uint8_t grades(const struct job *job, const uint8_t *file, size_t len, uint32_t number, const uint8_t *plan, size_t plan_len, size_t room) {
+static uint8_t grades(const struct job *job, const uint8_t *file, size_t len, uint32_t number, const uint8_t *plan, size_t plan_len,
+                      size_t room) {
     uint8_t buffer[8], grade = 0;
     memset(buffer, 0xA5, sizeof buffer);
     if (number == 0) number = room == 0 ? 9 : judge_plan(job, plan, plan_len, &grade);

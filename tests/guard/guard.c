@@ -108,11 +108,15 @@ static void graded(const uint8_t *job, size_t job_len, const uint8_t *plan, size
     if (said != number) fail_grade("wrong number", job_len, plan_len, grade_len);
     if (!stays(jobs, job, job_len, -1)) fail_grade("the job or its guard was changed", job_len, plan_len, grade_len);
     if (!stays(plans, plan, plan_len, -1)) fail_grade("the plan or its guard was changed", job_len, plan_len, grade_len);
-    if (!stays(grades, NULL, grade_len, number == 0 ? grade : -1)) fail_grade("wrong grade, or a byte that must stay was changed", job_len, plan_len, grade_len);
+    if (!stays(grades, NULL, grade_len, number == 0 ? grade : -1)) {
+        fail_grade("wrong grade, or a byte that must stay was changed", job_len, plan_len, grade_len);
+    }
 
     uint8_t *own_job = job_len ? malloc(job_len) : NULL, *own_plan = plan_len ? malloc(plan_len) : NULL;
     uint8_t *own_grade = grade_len ? malloc(grade_len) : NULL;
-    if ((job_len && !own_job) || (plan_len && !own_plan) || (grade_len && !own_grade)) fail_grade("no memory", job_len, plan_len, grade_len);
+    if ((job_len && !own_job) || (plan_len && !own_plan) || (grade_len && !own_grade)) {
+        fail_grade("no memory", job_len, plan_len, grade_len);
+    }
     if (job_len) memcpy(own_job, job, job_len);
     if (plan_len) memcpy(own_plan, plan, plan_len);
     calls++;

@@ -75,7 +75,8 @@ const OF_A: [(&[[u32; 4]], Result<Grade, u32>); 26] = [
 fn both(c: &mut Check, s: &Solved, plan: &[u8], rule: Result<Grade, u32>) {
     let said = grading::grade(&s.job, plan, Some(s));
     if said != rule {
-        c.fail(&format!("the solver's grading says {:?}, the rule {:?}", said, rule), format!("  {:?}, plan {:?}", s.job, job::decode(plan)));
+        let what = format!("the solver's grading says {:?}, the rule {:?}", said, rule);
+        c.fail(&what, format!("  {:?}, plan {:?}", s.job, job::decode(plan)));
     }
     let (entries, room) = (c.rng.below(4), c.rng.pick(&[1, 1, 1, 2, 3, 17]));
     by_lists(c, s, plan, entries);
@@ -149,12 +150,26 @@ fn longest(c: &mut Check) {
 
 /// Every division of every job of small numbers; best or valid by every other division.
 fn every(c: &mut Check) {
-    for (tiles, machines, heaviest, fastest) in [(0, 3, 0, 3), (1, 3, 5, 4), (2, 3, 4, 3), (3, 3, 4, 3), (4, 3, 2, 2), (5, 3, 2, 2), (3, 4, 2, 2)] {
+    for (tiles, machines, heaviest, fastest) in
+        [(0, 3, 0, 3), (1, 3, 5, 4), (2, 3, 4, 3), (3, 3, 4, 3), (4, 3, 2, 2), (5, 3, 2, 2), (3, 4, 2, 2)]
+    {
         for m in 1..=machines {
             small::every_list(m, 1, fastest, &mut |speeds| {
                 small::every_list(tiles, 0, heaviest, &mut |weights| every_division(c, &Job::new(speeds, weights)));
             });
         }
+    }
+}
+
+/// Best or valid: of a tiny job by every other division, of any other by its solution.
+fn rule_of(s: &Solved, division: &[usize]) -> Grade {
+    if !is_tiny(&s.job) {
+        return grading::of(&s.job, division, Some(s));
+    }
+    if grading::beaten(&s.job, slow::bottleneck(&s.job, division)) {
+        Valid
+    } else {
+        Best
     }
 }
 
@@ -164,8 +179,7 @@ fn every_division(c: &mut Check, job: &Job) {
     let mut all: Vec<Vec<usize>> = Vec::new();
     slow::every_division(&mut vec![0], job.speeds.len(), job.weights.len(), &mut |division| all.push(division.to_vec()));
     for division in &all {
-        let rule = if grading::beaten(job, slow::bottleneck(job, division)) { Valid } else { Best };
-        of_division(c, &s, division, rule);
+        of_division(c, &s, division, rule_of(&s, division));
     }
 }
 
@@ -515,9 +529,12 @@ fn random(c: &mut Check, machines: usize, tiles: usize) {
     let job = some_job(&mut c.rng, machines, tiles);
     own(c, &job);
     let s = Solved::of(&job);
-    for division in [s.best.clone(), s.quick.clone(), grading::backwards(&job, s.bottleneck), some_division(&mut c.rng, machines, tiles)] {
-        let rule = if is_tiny(&job) && grading::beaten(&job, slow::bottleneck(&job, &division)) { Valid } else { grading::of(&job, &division, Some(&s)) };
-        of_division(c, &s, &division, rule);
+    let back = grading::backwards(&job, s.bottleneck);
+    if grading::of(&job, &back, Some(&s)) != Best {
+        c.fail("the division from the other end is not best", format!("  {:?}", job));
+    }
+    for division in [s.best.clone(), s.quick.clone(), back, some_division(&mut c.rng, machines, tiles)] {
+        of_division(c, &s, &division, rule_of(&s, &division));
     }
     let division = nudged(&mut c.rng, &s.best);
     damaged(c, &s, &division);
