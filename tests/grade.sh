@@ -477,6 +477,23 @@ if [ -n "$closed" ]; then
     wrong "a job that may not be read" ./grade "$work/closed.job" "$best"
     wrong "a plan that may not be read" ./grade "$a" "$work/closed.plan"
 fi
+got=$(./grade -- "$a" "$best") || got="status $?"
+equal "script, behind --" best "$got"
+# A copy whose program cannot be built, and one whose program says nothing, or something else.
+mkdir -p "$work/root/crates" "$work/root/bin" "$work/root/target/bin"
+cp -r grade scripts crates.txt "$work/root/"
+printf '#!/bin/sh\necho "no proof"\nexit 1\n' >"$work/root/bin/rt"
+chmod +x "$work/root/bin/rt"
+status "a build that fails" 3 env PATH="$work/root/bin:$PATH" "$work/root/grade" "$a" "$best"
+equal "script, a build that fails: nothing on standard output" "" "$(cat "$work/out")"
+equal "script, a build that fails: said so" 1 "$(grep -c 'no proof' "$work/said")"
+for word in '' good 'best best'; do
+    printf '#!/bin/sh\necho "%s"\n' "$word" >"$work/root/target/bin/grade"
+    chmod +x "$work/root/target/bin/grade"
+    status "a program that says '$word'" 3 "$work/root/grade" "$a" "$best"
+    equal "script, a program that says '$word': nothing on standard output" "" "$(cat "$work/out")"
+    equal "script, a program that says '$word': said so" "grade: " "$(begins)"
+done
 if [ -w /dev/full ]; then
     got=0
     ./grade "$a" "$best" >/dev/full 2>/dev/null || got=$?
