@@ -1,5 +1,6 @@
 #!/bin/sh
-# examples/make-job writes the example jobs, and nothing where its words are no job's numbers.
+# examples/make-job writes the example jobs and examples/make-plan the example plans, and nothing where their words are no job's numbers
+# or no division.
 set -eu
 cd "$(dirname "$0")/.."
 work=$(mktemp -d)
@@ -20,14 +21,32 @@ makes() {
     checks=$((checks + 1))
 }
 
-# refuses WORD..: exit 2, and no byte written
-refuses() {
+# plans NAME JOB WORD..: the words give the plan's bytes
+plans() {
+    name=$1
+    shift
+    examples/make-plan "$@" >"$work/plan" || fail "$name: refused"
+    cmp -s "$work/plan" "$name" || fail "$name: other bytes"
+    checks=$((checks + 1))
+}
+
+# stops COMMAND WORD..: exit 2, and no byte written
+stops() {
     status=0
-    examples/make-job "$@" >"$work/job" 2>"$work/said" || status=$?
+    "$@" >"$work/job" 2>"$work/said" || status=$?
     [ "$status" = 2 ] || fail "'$*': exit $status"
     [ ! -s "$work/job" ] || fail "'$*': bytes written"
     [ -s "$work/said" ] || fail "'$*': nothing said"
     checks=$((checks + 1))
+}
+
+refuses() {
+    stops examples/make-job "$@"
+}
+
+# undivided WORD..: no plan of job A
+undivided() {
+    stops examples/make-plan examples/A.job "$@"
 }
 
 makes A 1 3 : 1 3 8
@@ -45,4 +64,33 @@ refuses 1 : 12345678901
 refuses x : 1
 refuses 1 : 2:3
 refuses '' : 1
+
+plans examples/A-best.plan examples/A.job 0 1 3
+plans examples/A-valid.plan examples/A.job 0 2 3
+plans examples/D-other.plan examples/D.job 0 0 2
+examples/make-job 1 3 : 1 3 9 >"$work/older"
+plans examples/A-untrue.plan "$work/older" 0 1 3
+printf '\000\000\000\000\000\000\000\000\000\000\000\000\007\000\000\000\000\000\000\000\000\000\000\000\000\000\000\000\002\000\000\000' >"$work/of-c"
+plans "$work/of-c" examples/C.job 0 0 0
+# All four bytes of a load: 18 tiles of weight 1,000,000 are 0x0112A880.
+# shellcheck disable=SC2046
+examples/make-job 10000 : $(awk 'BEGIN { for (i = 0; i < 18; i++) print 1000000 }') >"$work/heavy"
+printf '\000\000\000\000\022\000\000\000\200\250\022\001\020\047\000\000' >"$work/of-heavy"
+plans "$work/of-heavy" "$work/heavy" 0 18
+stops examples/make-plan
+stops examples/make-plan examples/none.job 0 1 3
+stops examples/make-plan examples 0 1 3
+undivided
+undivided 0
+undivided 0 3
+undivided 0 1 2 3
+undivided 0 1 2
+undivided 0 1 4
+undivided 1 1 3
+undivided 0 4 3
+undivided 0 -1 3
+undivided 0 01 3
+undivided 0 x 3
+undivided 0 '' 3
+undivided 0 '1 1' 3
 echo "tests/examples.sh: $checks checks passed"

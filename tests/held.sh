@@ -11,6 +11,12 @@ for name in planner test_exports; do
         exit 1
     fi
 done
+for name in strips grade; do
+    if [ ! -x "$here/../target/bin/$name" ]; then
+        echo "tests/held: FAILED, no program: run 'rt check $name' first"
+        exit 1
+    fi
+done
 cd "$here/held" || exit 1
 CARGO_TARGET_DIR="$here/held/target"
 export CARGO_TARGET_DIR

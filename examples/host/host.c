@@ -1,4 +1,5 @@
-/* A scheduling host: plans job A of the documents by each method and prints the plan, then shows a refusal. */
+/* A scheduling host: plans job A of the documents by each method, prints the plan and its grade, grades a plan from elsewhere, then
+ * shows refusals. */
 #include <stdio.h>
 #include <string.h>
 
@@ -13,6 +14,17 @@ static size_t put(uint8_t *at, uint8_t kind, uint32_t value) {
 
 static uint32_t field(const uint8_t *at) {
     return (uint32_t)at[0] | (uint32_t)at[1] << 8 | (uint32_t)at[2] << 16 | (uint32_t)at[3] << 24;
+}
+
+/* Grades a plan and prints the answer. */
+static void print_grade(const char *name, const uint8_t *job, size_t job_len, const uint8_t *plan, size_t plan_len) {
+    uint8_t grade;
+    uint32_t number = grade_plan(job, job_len, plan, plan_len, &grade, 1);
+    if (number != 0) {
+        printf("%s: refused %u\n", name, number);
+    } else {
+        printf("%s: %s\n", name, grade == 1 ? "best" : "valid");
+    }
 }
 
 int main(void) {
@@ -35,7 +47,16 @@ int main(void) {
             printf("method %u machine %d tiles %u to %u load %u speed %u\n", method, p + 1, field(record) + 1, field(record + 4),
                    field(record + 8), field(record + 12));
         }
+        print_grade("its grade", job, n, plan, sizeof plan);
     }
+    /* A plan of another maker: the first machine takes two tiles, which weigh 4, the second one takes the third, which weighs 8. */
+    uint8_t other[2 * PELSHAQU_PLAN_RECORD] = {0, 0, 0, 0, 2, 0, 0, 0, 4, 0, 0, 0, 1, 0, 0, 0, 2, 0, 0, 0, 3, 0, 0, 0, 8, 0, 0, 0, 3, 0, 0, 0};
+    print_grade("a plan of another maker", job, n, other, sizeof other);
+    other[8] = 5;
+    print_grade("with an untrue load", job, n, other, sizeof other);
+    other[4] = 1;
+    print_grade("with a gap", job, n, other, sizeof other);
+    print_grade("cut off", job, n, other, sizeof other - 1);
     printf("a plan buffer one byte short: refused %u\n", plan_job(job, n, PELSHAQU_TABLE, plan, sizeof plan - 1));
     printf("a file of 7 bytes: refused %u\n", plan_job(job, 7, PELSHAQU_TABLE, plan, sizeof plan));
     return 0;

@@ -1,5 +1,7 @@
-/* A fuzz target of plan_job. The first two bytes choose the method and the plan buffer, the rest is the job file. The answer is
- * judged by the rules of the scope alone: the number by a reader of its own, a plan by what makes it the only best one. */
+/* A fuzz target of plan_job and grade_plan. The first two bytes choose the method and the buffers, the next two what is graded: the
+ * plan that plan_job wrote with a small change, or so many bytes from the end of the input; the rest is the job file. The answers are
+ * judged by the rules of the scope and of request M-102 alone: the numbers by a reader of its own, a plan by what makes it the only best
+ * one, a grade by whether a walk stays strictly below the plan's bottleneck. */
 #include <stdio.h>
 #include <stdlib.h>
 #include <string.h>
@@ -82,6 +84,76 @@ static void best(const struct job *job, const uint8_t *plan) {
     for (uint32_t p = 0; p < job->machines; p++) must(separators[p] == field(plan + 16 * p + 4), "not the furthest division");
 }
 
+/* What grading must give for an accepted job: the number, and on 0 the grade. */
+static uint32_t judge_plan(const struct job *job, const uint8_t *plan, size_t len, uint8_t *grade) {
+    uint32_t before = 0, separators[PELSHAQU_MAX_MACHINES];
+    unsigned __int128 load = 0, speed = 1;
+    if (len != 16 * (size_t)job->machines) return 12;
+    for (uint32_t p = 0; p < job->machines; p++) {
+        uint32_t from = field(plan + 16 * p), to = field(plan + 16 * p + 4);
+        if (from != before || to < from) return 11;
+        before = to;
+    }
+    if (before != job->tiles) return 11;
+    for (uint32_t p = 0; p < job->machines; p++) {
+        uint32_t sum = 0;
+        for (uint32_t i = field(plan + 16 * p); i < field(plan + 16 * p + 4); i++) sum += job->weights[i];
+        if (field(plan + 16 * p + 8) != sum || field(plan + 16 * p + 12) != job->speeds[p]) return 13;
+        if ((unsigned __int128)sum * speed > load * job->speeds[p]) load = sum, speed = job->speeds[p];
+    }
+    *grade = load == 0 || !walk(job, load, speed, 0, separators) ? 1 : 2;
+    return 0;
+}
+
+/* Grades a plan beside a job file whose own number is known, and gives the grade, or 0. */
+static uint8_t grades(const struct job *job, const uint8_t *file, size_t len, uint32_t number, const uint8_t *plan, size_t plan_len,
+                      size_t room) {
+    uint8_t buffer[8], grade = 0;
+    memset(buffer, 0xA5, sizeof buffer);
+    if (number == 0) number = room == 0 ? 9 : judge_plan(job, plan, plan_len, &grade);
+    must(grade_plan(file, len, plan, plan_len, room ? buffer : NULL, room) == number, "grading: a wrong number");
+    must(buffer[0] == (number == 0 ? grade : 0xA5), "grading: a wrong grade, or one on refusal");
+    for (size_t i = 1; i < sizeof buffer; i++) must(buffer[i] == 0xA5, "grading: a byte that must stay was changed");
+    return number == 0 ? grade : 0;
+}
+
+static void put(uint8_t *at, uint32_t value) {
+    for (int i = 0; i < 4; i++) at[i] = (uint8_t)(value >> (8 * i));
+}
+
+/* The separator after machine p moved by one, with true loads, where there is a tile to move. */
+static void move(const struct job *job, uint8_t *plan, uint32_t p, int on) {
+    if (p + 1 >= job->machines) return;
+    uint8_t *here = plan + 16 * p, *next = here + 16;
+    uint32_t at = field(here + 4);
+    if (on ? at == field(next + 4) : at == field(here)) return;
+    uint32_t weight = job->weights[on ? at : at - 1], to = on ? at + 1 : at - 1;
+    put(here + 4, to);
+    put(next, to);
+    put(here + 8, on ? field(here + 8) + weight : field(here + 8) - weight);
+    put(next + 8, on ? field(next + 8) - weight : field(next + 8) + weight);
+}
+
+/* A small change of a plan: gives its new length. There is room for a record more. */
+static size_t change(const struct job *job, uint8_t *plan, uint8_t place, uint8_t kind) {
+    size_t len = 16 * (size_t)job->machines, at = 4 * (place % (len / 4));
+    uint32_t p = place % job->machines;
+    switch (kind % 16) {
+    case 0: return len;
+    case 1: put(plan + at, field(plan + at) + 1); return len;
+    case 2: put(plan + at, field(plan + at) - 1); return len;
+    case 3: plan[place % len] ^= (uint8_t)(1 << kind / 32); return len;
+    case 4: return len - 1 - kind / 16;
+    case 5: return len + 1 + kind / 16;
+    case 6: put(plan + at, 0); return len;
+    case 7: put(plan + at, UINT32_MAX); return len;
+    case 8: plan[place % len] ^= 1; plan[(place + kind) % len] ^= 2; return len;
+    default:
+        for (int times = 0; times < 1 + kind / 64; times++) move(job, plan, p, kind % 2);
+        return len;
+    }
+}
+
 int LLVMFuzzerInitialize(int *argc, char ***argv) {
     (void)argc, (void)argv;
     blocks_watch();
@@ -91,10 +163,12 @@ int LLVMFuzzerInitialize(int *argc, char ***argv) {
 int LLVMFuzzerTestOneInput(const uint8_t *data, size_t size) {
     static struct job job;
     static uint8_t plan[PELSHAQU_MAX_PLAN + 256], before[sizeof plan];
-    if (size < 2) return 0;
+    if (size < 4) return 0;
     uint32_t method = data[0] % 6;
-    const uint8_t *file = data + 2;
-    size_t len = size - 2;
+    const uint8_t *file = data + 4;
+    size_t len = size - 4, tail = data[0] < 128 ? 0 : 16 * (size_t)data[2] + data[3] % 32;
+    if (tail > len) tail = len;
+    len -= tail;
     size_t records = len / 8 < PELSHAQU_MAX_MACHINES ? len / 8 : PELSHAQU_MAX_MACHINES;
     /* Room for any plan; about the room of a job without tiles; anything from none on. */
     size_t room = 16 * records + data[1] % 32;
@@ -108,6 +182,15 @@ int LLVMFuzzerTestOneInput(const uint8_t *data, size_t size) {
     must(plan_job(file, len, method, plan, room) == number, "a wrong number");
     size_t filled = number == 0 ? 16 * (size_t)job.machines : 0;
     must(memcmp(plan + filled, before + filled, sizeof plan - filled) == 0, "a byte that must stay was changed");
-    if (number == 0) best(&job, plan);
+    if (number == 0) {
+        best(&job, plan);
+        must(grades(&job, file, len, 0, plan, filled, 1) == 1, "the planner's own plan is not graded best");
+        size_t changed = change(&job, plan, data[2], data[3]);
+        grades(&job, file, len, 0, plan, changed, data[1] % 4);
+    }
+    /* A refusal of the plan buffer or the method is none of grading. */
+    job.machines = job.tiles = 0;
+    number = judge(&job, file, len, 1, SIZE_MAX);
+    grades(&job, file, len, number, file + len, tail, data[1] % 4);
     return 0;
 }

@@ -1,4 +1,4 @@
-/* A planner with one fault made on purpose, for tests/faults: linked in front of plan_job by --wrap. FAULT is its number. */
+/* A planner with one fault made on purpose, for tests/faults: linked in front of plan_job and grade_plan by --wrap. FAULT is its number. */
 #include <stdlib.h>
 
 #include "../../include/pelshaqu.h"
@@ -21,5 +21,23 @@ uint32_t __wrap_plan_job(const uint8_t *job, size_t job_len, uint32_t method, ui
     if (FAULT == 8 && number == 9 && plan_len % 16 == 15) return 0; /* a buffer one short taken */
     if (FAULT == 9 && number == 0) lost = calloc(1, 1);            /* memory asked for and lost */
     if (FAULT == 10 && number == 0) plan[8] ^= 1;                  /* a wrong load */
+    return number;
+}
+
+typedef uint32_t grading(const uint8_t *job, size_t job_len, const uint8_t *plan, size_t plan_len, uint8_t *grade, size_t grade_len);
+grading __real_grade_plan, __wrap_grade_plan;
+
+uint32_t __wrap_grade_plan(const uint8_t *job, size_t job_len, const uint8_t *plan, size_t plan_len, uint8_t *grade, size_t grade_len) {
+    uint32_t number = __real_grade_plan(job, job_len, plan, plan_len, grade, grade_len);
+    if (FAULT == 11 && number == 0) grade[grade_len] ^= 1;         /* grading: a byte past the grade buffer */
+    if (FAULT == 12 && number == 0) grade[-1] ^= 1;                /* grading: a byte before the grade buffer */
+    if (FAULT == 13 && number != 0 && grade_len) grade[0] = 2;     /* grading: a grade on refusal */
+    if (FAULT == 14 && number == 0 && grade_len > 1) grade[1] = 0; /* grading: a later byte of the grade buffer */
+    if (FAULT == 15 && plan_len) seen = plan[plan_len];            /* grading: a byte past the plan, read only */
+    if (FAULT == 16 && job_len) seen = job[job_len];               /* grading: a byte past the job, read only */
+    if (FAULT == 17) seen = plan[0];                               /* grading: the plan read where it may be null */
+    if (FAULT == 18 && number == 0) *(uint8_t *)plan ^= 1;         /* grading: the plan changed */
+    if (FAULT == 19 && number == 0) grade[0] ^= 3;                 /* grading: best and valid exchanged */
+    if (FAULT == 20 && number == 9) return 12;                     /* grading: 12 for a grade buffer of no bytes */
     return number;
 }

@@ -75,6 +75,80 @@ static void both(const uint8_t *job, size_t job_len, uint32_t method, size_t pla
     alone(job, job_len, method, plan_len, wanted);
 }
 
+static void fail_grade(const char *what, size_t job_len, size_t plan_len, size_t grade_len) {
+    printf("tests/guard: FAILED: grading: %s, job of %zu bytes, plan of %zu bytes, grade buffer of %zu\n", what, job_len, plan_len, grade_len);
+    exit(1);
+}
+
+/* Lends bytes between guard bytes. */
+static uint8_t *lend(uint8_t *all, const uint8_t *bytes, size_t len) {
+    for (size_t i = 0; i < len + 2 * GUARD; i++) all[i] = pattern(i);
+    if (bytes && len) memcpy(all + GUARD, bytes, len);
+    return all + GUARD;
+}
+
+/* Whether what was lent is as it was, but for a first byte that may have become another. */
+static int stays(const uint8_t *all, const uint8_t *bytes, size_t len, int first) {
+    for (size_t i = 0; i < len + 2 * GUARD; i++) {
+        int inside = bytes && i >= GUARD && i - GUARD < len;
+        uint8_t must = inside ? bytes[i - GUARD] : pattern(i);
+        if (i == GUARD && first >= 0) must = (uint8_t)first;
+        if (all[i] != must) return 0;
+    }
+    return 1;
+}
+
+/* Grading with guard bytes around all three buffers; on buffers of exactly the lengths said, null where a length is 0. The number is
+ * known, and the grade where the number is 0. */
+static void graded(const uint8_t *job, size_t job_len, const uint8_t *plan, size_t plan_len, size_t grade_len, uint32_t number, int grade) {
+    static uint8_t jobs[LARGEST + 2 * GUARD], plans[LARGEST + 2 * GUARD], grades[LARGEST + 2 * GUARD];
+    uint8_t *lent_job = lend(jobs, job, job_len), *lent_plan = lend(plans, plan, plan_len), *lent_grade = lend(grades, NULL, grade_len);
+    calls++;
+    uint32_t said = grade_plan(lent_job, job_len, lent_plan, plan_len, lent_grade, grade_len);
+    if (said != number) fail_grade("wrong number", job_len, plan_len, grade_len);
+    if (!stays(jobs, job, job_len, -1)) fail_grade("the job or its guard was changed", job_len, plan_len, grade_len);
+    if (!stays(plans, plan, plan_len, -1)) fail_grade("the plan or its guard was changed", job_len, plan_len, grade_len);
+    if (!stays(grades, NULL, grade_len, number == 0 ? grade : -1)) {
+        fail_grade("wrong grade, or a byte that must stay was changed", job_len, plan_len, grade_len);
+    }
+
+    uint8_t *own_job = job_len ? malloc(job_len) : NULL, *own_plan = plan_len ? malloc(plan_len) : NULL;
+    uint8_t *own_grade = grade_len ? malloc(grade_len) : NULL;
+    if ((job_len && !own_job) || (plan_len && !own_plan) || (grade_len && !own_grade)) {
+        fail_grade("no memory", job_len, plan_len, grade_len);
+    }
+    if (job_len) memcpy(own_job, job, job_len);
+    if (plan_len) memcpy(own_plan, plan, plan_len);
+    calls++;
+    said = grade_plan(own_job, job_len, own_plan, plan_len, own_grade, grade_len);
+    if (said != number) fail_grade("wrong number, buffers alone", job_len, plan_len, grade_len);
+    if (said == 0 && own_grade[0] != grade) fail_grade("wrong grade, buffers alone", job_len, plan_len, grade_len);
+    free(own_job);
+    free(own_plan);
+    free(own_grade);
+}
+
+/* A true plan: with every length of the plan and of the grade buffer, and with each field a little off. */
+static void graded_all(const uint8_t *job, size_t job_len, const uint8_t *plan, size_t plan_len, int grade) {
+    uint8_t other[128] = {0};
+    memcpy(other, plan, plan_len);
+    for (size_t len = 0; len <= plan_len + 17; len++) {
+        for (size_t room = 0; room <= 3; room++) {
+            graded(job, job_len, other, len, room, room == 0 ? 9 : len != plan_len ? 12 : 0, grade);
+        }
+    }
+    for (size_t at = 0; at < plan_len; at++) {
+        uint32_t number = at % 16 < 8 ? 11 : 13;
+        for (int bit = 0; bit < 8; bit += 7) {
+            other[at] ^= (uint8_t)(1 << bit);
+            graded(job, job_len, other, plan_len, 1, number, 0);
+            graded(job, job_len, other, plan_len, 0, 9, 0);
+            graded(job, job_len, other, plan_len - 1, 1, 12, 0);
+            other[at] = plan[at];
+        }
+    }
+}
+
 /* A job by each method, with a plan buffer of every length from 0 to a record more than it needs. */
 static void every_length(const uint8_t *job, size_t job_len, const uint8_t *plan, size_t needed) {
     for (uint32_t method = 0; method <= 5; method++) {
@@ -90,13 +164,22 @@ static size_t field(uint8_t *at, uint32_t value) {
     return 4;
 }
 
-/* Jobs A to E of the document, with their plans. */
+/* A record of a plan file. */
+static size_t part(uint8_t *at, uint32_t from, uint32_t to, uint32_t load, uint32_t speed) {
+    return field(at, from) + field(at + 4, to) + field(at + 8, load) + field(at + 12, speed);
+}
+
+/* Jobs A to E of the document, with their plans, and of the divisions 0 s N for s = 0 to N which are best (1) and which valid (2). */
 static void marked_jobs(void) {
     static const struct {
         uint32_t machines, tiles, speeds[2], weights[5], separators[3];
+        int grades[6];
     } jobs[] = {
-        {2, 3, {1, 3}, {1, 3, 8}, {0, 1, 3}},       {2, 5, {1, 2}, {4, 3, 2, 6, 1}, {0, 1, 5}}, {2, 0, {7, 2}, {0}, {0, 0, 0}},
-        {2, 2, {1, 1}, {0, 0}, {0, 2, 2}},          {2, 1, {1, 1}, {6}, {0, 1, 1}},
+        {2, 3, {1, 3}, {1, 3, 8}, {0, 1, 3}, {2, 1, 2, 2}},
+        {2, 5, {1, 2}, {4, 3, 2, 6, 1}, {0, 1, 5}, {2, 1, 2, 2, 2, 2}},
+        {2, 0, {7, 2}, {0}, {0, 0, 0}, {1}},
+        {2, 2, {1, 1}, {0, 0}, {0, 2, 2}, {1, 1, 1}},
+        {2, 1, {1, 1}, {6}, {0, 1, 1}, {1, 1}},
     };
     for (size_t k = 0; k < sizeof jobs / sizeof *jobs; k++) {
         uint8_t job[64], plan[32];
@@ -106,12 +189,16 @@ static void marked_jobs(void) {
         for (uint32_t p = 0; p < 2; p++) {
             uint32_t load = 0;
             for (uint32_t i = jobs[k].separators[p]; i < jobs[k].separators[p + 1]; i++) load += jobs[k].weights[i];
-            m += field(plan + m, jobs[k].separators[p]);
-            m += field(plan + m, jobs[k].separators[p + 1]);
-            m += field(plan + m, load);
-            m += field(plan + m, jobs[k].speeds[p]);
+            m += part(plan + m, jobs[k].separators[p], jobs[k].separators[p + 1], load, jobs[k].speeds[p]);
         }
         every_length(job, n, plan, m);
+        for (uint32_t s = 0; s <= jobs[k].tiles; s++) {
+            uint32_t left = 0, right = 0;
+            for (uint32_t i = 0; i < jobs[k].tiles; i++) *(i < s ? &left : &right) += jobs[k].weights[i];
+            part(plan, 0, s, left, jobs[k].speeds[0]);
+            part(plan + 16, s, jobs[k].tiles, right, jobs[k].speeds[1]);
+            graded_all(job, n, plan, m, jobs[k].grades[s]);
+        }
     }
 }
 
@@ -121,6 +208,11 @@ static void refused(const uint8_t *job, size_t job_len, uint32_t number) {
     }
     for (uint32_t method = 0; method <= 5; method += 5) both(job, job_len, method, 16, (struct wanted){1, NULL, 0});
     both(job, job_len, UINT32_MAX, 0, (struct wanted){1, NULL, 0});
+    uint8_t plan[48] = {0};
+    part(plan, 0, 0, 0, 1);
+    for (size_t len = 0; len <= 48; len += len < 15 ? 5 : 1) {
+        for (size_t room = 0; room <= 2; room++) graded(job, job_len, plan, len, room, number, 0);
+    }
 }
 
 /* The smallest file for each number, cut files, and no file. */
@@ -160,14 +252,25 @@ static void longest(void) {
     for (int p = 0; p < PELSHAQU_MAX_MACHINES; p++) n += put(job + n, 1, 10000);
     for (int i = 0; i < 2048; i++) n += put(job + n, 2, 1000000);
     for (uint32_t p = 0; p < PELSHAQU_MAX_MACHINES; p++) {
-        m += field(plan + m, 8 * p);
-        m += field(plan + m, 8 * p + 8);
-        m += field(plan + m, 8000000);
-        m += field(plan + m, 10000);
+        m += part(plan + m, 8 * p, 8 * p + 8, 8000000, 10000);
     }
     for (uint32_t method = 1; method <= 4; method++) {
         for (size_t len = m - 2; len <= m + 2; len++) both(job, n, method, len, (struct wanted){len < m ? 9 : 0, plan, m});
     }
+    static uint8_t longer[PELSHAQU_MAX_PLAN + 32];
+    memcpy(longer, plan, m);
+    for (size_t len = m - 17; len <= m + 17; len++) graded(job, n, longer, len, 1, len == m ? 0 : 12, 1);
+    graded(job, n, plan, m, 0, 9, 0);
+    /* All on the first machine, and on the last; a load one off in the last record, and a gap before it. */
+    for (uint32_t p = 0; p < PELSHAQU_MAX_MACHINES; p++) part(longer + 16 * p, p ? 2048 : 0, 2048, p ? 0 : 2048000000, 10000);
+    graded(job, n, longer, m, 2, 0, 2);
+    for (uint32_t p = 0; p < PELSHAQU_MAX_MACHINES; p++) part(longer + 16 * p, 0, p < 255 ? 0 : 2048, p < 255 ? 0 : 2048000000, 10000);
+    graded(job, n, longer, m, 2, 0, 2);
+    memcpy(longer, plan, m);
+    part(longer + m - 16, 2040, 2048, 8000001, 10000);
+    graded(job, n, longer, m, 1, 13, 0);
+    part(longer + m - 16, 2041, 2048, 7000000, 10000);
+    graded(job, n, longer, m, 1, 11, 0);
 }
 
 int main(void) {

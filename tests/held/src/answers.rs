@@ -4,7 +4,7 @@ use crate::job::{self, Job};
 use crate::methods::{self, Search, Tried};
 use crate::planner::Call;
 use crate::slow::{self, Bound};
-use crate::{damage, fast, listing};
+use crate::{damage, fast, grading, listing};
 
 /// What a lent list holds after a call: this in front, then `free` bytes with anything, then what it held.
 #[derive(Clone, Debug, Default)]
@@ -79,6 +79,7 @@ pub fn expected(call: Call, given: &[&[u8]], solved: Option<&Solved>) -> Result<
         Call::Read => read(given),
         Call::Host { method } => host(method, given, solved),
         Call::List => listed(given),
+        Call::HostGrade => host_graded(given, solved),
         Call::Plan { method } if !(1..=4).contains(&method) => Err(1),
         _ => {
             let (speeds, weights) = (words(given[0]), words(given[1]));
@@ -114,6 +115,16 @@ fn host(method: u32, given: &[&[u8]], solved: Option<&Solved>) -> Result<Vec<Aft
     Ok(vec![After::default(), After { front: plan, free: 0 }])
 }
 
+/// Grading by the C call: the file's tests, then those of the grade buffer, then those of the plan file.
+fn host_graded(given: &[&[u8]], solved: Option<&Solved>) -> Result<Vec<After>, u32> {
+    let job = job::read(given[0], 1, usize::MAX)?;
+    if given[2].is_empty() {
+        return Err(9);
+    }
+    let grade = grading::grade(&job, given[1], solved)?;
+    Ok(vec![After::default(), After::default(), After { front: vec![grade.number()], free: 0 }])
+}
+
 /// The listing, in a buffer with room for every one.
 fn listed(given: &[&[u8]]) -> Result<Vec<After>, u32> {
     if given[1].len() < listing::ROOM {
@@ -135,6 +146,10 @@ fn accepted(call: Call, job: Job, given: &[&[u8]], solved: Option<&Solved>) -> R
         Call::Write => {
             let file = After { front: job.file(), free: 0 };
             return Ok(vec![stays(), stays(), file, answer(given[3], &[file_bytes as u128])]);
+        }
+        Call::Grade => {
+            let grade = grading::grade(&job, given[2], solved)?;
+            return Ok(vec![stays(), stays(), stays(), answer(given[3], &[grade.number() as u128])]);
         }
         _ => {}
     }

@@ -24,16 +24,20 @@ pub struct Check {
     /// The part of the test that runs.
     pub part: &'static str,
     /// How often each call gave each number.
-    seen: [[u64; 13]; 10],
+    seen: [[u64; 15]; 12],
     pub fits: u64,
     /// How often a search ended early, and had its least candidate on the first machine, on one between, on the last.
     pub searches: [u64; 4],
     /// How many plans had nothing to weigh, met the ideal, were above it by less than a thousandth of it, and by as much or more.
     pub noughts: [u64; 4],
+    /// How often each of the two gradings said best, and valid.
+    grades: [[u64; 2]; 2],
+    /// How many best plans had other separators than the planner's, and of these how many had their bottleneck as another pair.
+    pub others: [u64; 2],
 }
 
 /// The calls, the name of each, and the numbers that it can give.
-pub const KINDS: [(&str, &[u32]); 10] = [
+pub const KINDS: [(&str, &[u32]); 12] = [
     ("testing", &[0, 5, 6, 7, 8]),
     ("reading", &[0, 2, 3, 4, 5, 6, 7, 8, 9]),
     ("writing", &[0, 5, 6, 7, 8, 9]),
@@ -44,7 +48,12 @@ pub const KINDS: [(&str, &[u32]); 10] = [
     ("plan file", &[0, 5, 6, 7, 8, 9, 11]),
     ("C call", &[0, 1, 2, 3, 4, 5, 6, 7, 8, 9]),
     ("listing", &[0, 9]),
+    ("grading", &[0, 5, 6, 7, 8, 11, 12, 13]),
+    ("C grading", &[0, 2, 3, 4, 5, 6, 7, 8, 9, 11, 12, 13]),
 ];
+
+/// Where the two gradings stand among the calls.
+const GRADING: usize = 10;
 
 fn kind(call: Call) -> usize {
     match call {
@@ -58,6 +67,8 @@ fn kind(call: Call) -> usize {
         Call::PlanFile => 7,
         Call::Host { .. } => 8,
         Call::List => 9,
+        Call::Grade => GRADING,
+        Call::HostGrade => GRADING + 1,
     }
 }
 
@@ -78,6 +89,7 @@ pub fn describe(call: Call, lists: &[&[u8]]) -> String {
             Slot::File if !matches!(call, Call::Write) => format!("\n  file: {}", describe_file(list)),
             Slot::Speeds | Slot::Weights if call == Call::Read => format!("\n  {:?}: {} entries", slot, list.len() / 4),
             Slot::Speeds | Slot::Weights | Slot::Separators => format!("\n  {:?}: {} entries {:?}", slot, list.len() / 4, answers::words(list)),
+            Slot::Plan if kind(call) >= GRADING => format!("\n  plan: {} bytes {:?}", list.len(), job::decode(&list[..list.len().min(16 * 300)])),
             _ => format!("\n  {:?}: {} entries", slot, list.len() / slot.width()),
         };
     }
@@ -101,10 +113,12 @@ impl Check {
             failures: 0,
             hasty: false,
             part: "",
-            seen: [[0; 13]; 10],
+            seen: [[0; 15]; 12],
             fits: 0,
             searches: [0; 4],
             noughts: [0; 4],
+            grades: [[0; 2]; 2],
+            others: [0; 2],
         }
     }
 
@@ -132,7 +146,7 @@ impl Check {
         guard::note(call, at);
         let code = unsafe { planner::call(call, at) };
         guard::done();
-        self.seen[kind(call)][(code as usize).min(12)] += 1;
+        self.seen[kind(call)][(code as usize).min(14)] += 1;
         let number = wanted.as_ref().err().copied().unwrap_or(0);
         if code != number {
             self.fail(&format!("answer {} instead of {}", code, number), describe(call, given));
@@ -150,6 +164,21 @@ impl Check {
                 return;
             }
         }
+        if code == 0 && kind(call) >= GRADING {
+            self.count_grade(kind(call) - GRADING, &wanted.as_ref().unwrap()[slots.len() - 1]);
+        }
+    }
+
+    /// A grade as it came, where there was room for it.
+    fn count_grade(&mut self, which: usize, came: &After) {
+        if let Some(&grade) = came.front.first() {
+            self.grades[which][grade as usize - 1] += 1;
+        }
+    }
+
+    /// What a list of the last call holds now.
+    pub fn after(&mut self, list: usize) -> Vec<u8> {
+        self.desk[list].now().to_vec()
     }
 
     /// Nought means nought, asked of the planner's own figures: with Wtot above 0 its imbalance is 0 exactly where its bottleneck meets
@@ -229,6 +258,9 @@ impl Check {
             for &n in numbers.iter().filter(|&&n| self.seen[k][n as usize] == 0) {
                 list.push(format!("{} {}", name, n));
             }
+        }
+        for (k, word) in (0..4).map(|k| (k, ["best", "valid"][k % 2])).filter(|(k, _)| self.grades[k / 2][k % 2] == 0) {
+            list.push(format!("{} {}", KINDS[GRADING + k / 2].0, word));
         }
         list
     }

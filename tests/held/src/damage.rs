@@ -3,14 +3,14 @@
 use crate::check::Check;
 use crate::job::{machine, tile, Job, Record};
 use crate::planner::Call;
-use crate::{every, small};
+use crate::{every, grades, small};
 
 /// Whether every division of the job can be tried.
 pub fn is_tiny(job: &Job) -> bool {
     job.speeds.len() <= 4 && job.weights.len() <= 9
 }
 
-/// The C call and reading, with lists of any length.
+/// The C call and reading, with lists of any length; now and then grading.
 fn judge(c: &mut Check, file: &[u8], method: u32, plan_len: usize) {
     c.jobs_seen += 1;
     let plan = c.rng.pattern(plan_len);
@@ -19,6 +19,9 @@ fn judge(c: &mut Check, file: &[u8], method: u32, plan_len: usize) {
     let (e, w) = (c.rng.below(records + 3), c.rng.below(records + 3));
     let (e, w) = if c.rng.once_in(3) { (records, records) } else { (e, w) };
     every::read_into(c, file, e, w);
+    if c.rng.once_in(3) {
+        grades::beside(c, file);
+    }
 }
 
 fn some_method(c: &mut Check) -> u32 {

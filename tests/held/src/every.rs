@@ -3,6 +3,7 @@
 use crate::answers::{bytes_of, Solved};
 use crate::check::Check;
 use crate::damage::is_tiny;
+use crate::grades;
 use crate::job::Job;
 use crate::methods::{self, Tried};
 use crate::planner::Call;
@@ -224,6 +225,15 @@ fn plans(c: &mut Check, s: &Solved, e: &[u8], w: &[u8], thorough: bool) {
     }
 }
 
+/// Grading of a true plan or of one that is a little off.
+fn grading(c: &mut Check, s: &Solved, e: &[u8], w: &[u8]) {
+    let plan = grades::some_plan(&mut c.rng, s);
+    let (entries, room) = (c.rng.below(3), c.rng.pick(&[0, 1, 1, 1, 2, 9]));
+    let (answer, grade) = (c.rng.pattern(8 * entries), c.rng.pattern(room));
+    c.judge(Call::Grade, &[e, w, &plan, &answer], Some(s));
+    c.judge(Call::HostGrade, &[&s.job.file(), &plan, &grade], Some(s));
+}
+
 /// Every call on an accepted job.
 pub fn job(c: &mut Check, s: &Solved, thorough: bool) {
     let (e, w) = (bytes_of(&s.job.speeds), bytes_of(&s.job.weights));
@@ -233,6 +243,7 @@ pub fn job(c: &mut Check, s: &Solved, thorough: bool) {
     measures(c, s, &e, &w, thorough);
     trials(c, s, &e, &w, thorough);
     plans(c, s, &e, &w, thorough);
+    grading(c, s, &e, &w);
 }
 
 /// A job that both solvers must agree on before the planner is asked.

@@ -4,6 +4,7 @@ use std::sync::atomic::{AtomicU64, Ordering::Relaxed};
 use std::sync::OnceLock;
 
 use crate::answers;
+use crate::grading;
 use crate::job::{self, Job};
 use crate::listing;
 use crate::methods::{self, Tried};
@@ -83,7 +84,7 @@ impl Lists<'_> {
 
     fn job(&self) -> Job {
         match self.call {
-            Call::Read | Call::List | Call::Host { .. } => job::read(self.bytes(Slot::File), 1, usize::MAX).unwrap(),
+            Call::Read | Call::List | Call::Host { .. } | Call::HostGrade => job::read(self.bytes(Slot::File), 1, usize::MAX).unwrap(),
             _ => Job::new(self.words(Slot::Speeds), self.words(Slot::Weights)),
         }
     }
@@ -175,7 +176,7 @@ impl Lists<'_> {
 
     /// Calls on lists with their tests in another order.
     fn ordered(&self, order: &[u32]) -> u32 {
-        if matches!(self.call, Call::Read | Call::Host { .. }) {
+        if matches!(self.call, Call::Read | Call::Host { .. } | Call::List | Call::Grade | Call::HostGrade) {
             return self.real();
         }
         let all = self.numbers();
@@ -234,10 +235,93 @@ impl Lists<'_> {
         self.with(Slot::File, &mut file)
     }
 
+    fn is_grading(&self) -> bool {
+        matches!(self.call, Call::Grade | Call::HostGrade)
+    }
+
+    /// The job of a grading, where it is one.
+    fn graded_job(&self) -> Option<Job> {
+        match self.call {
+            Call::HostGrade => job::read(self.bytes(Slot::File), 1, usize::MAX).ok(),
+            _ => {
+                let (speeds, weights) = (self.words(Slot::Speeds), self.words(Slot::Weights));
+                (answers::refuse_lists(speeds, weights) == 0).then(|| Job::new(speeds, weights))
+            }
+        }
+    }
+
+    /// Spoils the grade of an accepted plan, by its division.
+    fn regrade(&self, spoil: impl FnOnce(&Job, &[usize], u8) -> u8) -> u32 {
+        self.then(self.is_grading(), |job| {
+            let division = grading::read(job, self.bytes(Slot::Plan)).unwrap();
+            if let Some(v) = self.answer().first_mut() {
+                *v = spoil(job, &division, *v as u8) as u64;
+            } else if let Some(v) = self.bytes(Slot::Grade).first_mut() {
+                *v = spoil(job, &division, *v);
+            }
+        })
+    }
+
+    /// Best where the division's bottleneck is good enough.
+    fn best_if(&self, enough: fn(&Job, Bound) -> bool) -> u32 {
+        self.regrade(|job, division, _| if enough(job, slow::bottleneck(job, division)) { 1 } else { 2 })
+    }
+
+    /// A grading that sees another plan file, where the job itself is accepted.
+    fn seeing_plan(&self, change: fn(&Job, &mut Vec<u8>)) -> u32 {
+        let job = if self.is_grading() { self.graded_job() } else { None };
+        let Some(job) = job else { return self.real() };
+        let mut plan = self.bytes(Slot::Plan).to_vec();
+        change(&job, &mut plan);
+        self.with(Slot::Plan, &mut plan)
+    }
+
+    /// A grading that sees other records, where the length is right.
+    fn seeing_records(&self, change: fn(&Job, &mut Vec<[u32; 4]>)) -> u32 {
+        let job = if self.is_grading() { self.graded_job() } else { None };
+        match job {
+            Some(job) if self.bytes(Slot::Plan).len() == 16 * job.speeds.len() => {
+                let mut records = job::decode(self.bytes(Slot::Plan));
+                change(&job, &mut records);
+                self.with(Slot::Plan, &mut job::encode(&records))
+            }
+            _ => self.real(),
+        }
+    }
+
+    /// A grading that gives another number for a plan file that it refuses, by its records.
+    fn renumber(&self, rule: fn(&Job, &[[u32; 4]], u32) -> u32) -> u32 {
+        match (self.real(), self.is_grading()) {
+            (code @ 11..=13, true) => rule(&self.graded_job().unwrap(), &job::decode(self.bytes(Slot::Plan)), code),
+            (code, _) => code,
+        }
+    }
+
     /// Spoils each 16-byte record of an accepted plan file.
     fn records(&self, wanted: bool, spoil: fn(&mut [u8])) -> u32 {
         self.then(wanted, |job| self.bytes(Slot::Plan)[..16 * job.speeds.len()].chunks_mut(16).for_each(spoil))
     }
+}
+
+/// Whether a record's load and speed are those of the machine's tiles, as far as these are there.
+fn untrue(job: &Job, r: &[u32; 4], p: usize) -> bool {
+    let (a, b) = (r[0] as usize, r[1] as usize);
+    a <= b && b <= job.weights.len() && (job.weight(a, b) != r[2] as u128 || job.speeds[p] != r[3])
+}
+
+/// The first fault record by record: 11 for a record that does not begin where the one before ends, 13 for an untrue one.
+fn record_by_record(job: &Job, records: &[[u32; 4]], code: u32) -> u32 {
+    let mut before = 0;
+    for (p, r) in records.iter().enumerate().take(if code == 12 { 0 } else { usize::MAX }) {
+        if r[0] != before || r[1] < r[0] {
+            return 11;
+        }
+        if untrue(job, r, p) {
+            return 13;
+        }
+        before = r[1];
+    }
+    code
 }
 
 fn gcd(a: u128, b: u128) -> u128 {
@@ -498,6 +582,40 @@ const FAULTS: &[(&str, &str, Run)] = &[
     ("later-text", "listing: the byte after it changed", |l| l.listed(|l, n| if let Some(v) = l.bytes(Slot::Text).get_mut(n) { *v ^= 1 })),
     ("input-weights", "measuring: a weight changed", |l| l.then(l.call == Call::Measure, |_| if let Some(v) = l.words(Slot::Weights).first_mut() { *v ^= 1 })),
     ("input-separators", "plan file: a separator changed", |l| l.then(l.call == Call::PlanFile, |_| l.words(Slot::Separators)[0] ^= 1)),
+    // Grading, by lists and by the C call.
+    ("grading-own", "grading: best said of the planner's own separators only", |l| l.regrade(|j, d, v| if d == answers::Solved::of(j).best { v } else { 2 })),
+    ("grading-valid", "grading: valid always", |l| l.regrade(|_, _, _| 2)),
+    ("grading-best", "grading: best always", |l| l.regrade(|_, _, _| 1)),
+    ("grading-exchanged", "grading: 1 and 2 exchanged", |l| l.regrade(|_, _, v| 3 - v)),
+    ("grading-nought", "grading: 0 for valid", |l| l.regrade(|_, _, v| v % 2)),
+    ("grading-loads", "grading: loads compared, speeds left out", |l| l.best_if(|j, b| b.0 <= best_bound(j).0)),
+    ("grading-pair", "grading: best only with the bottleneck as the planner's pair", |l| l.best_if(|j, b| b == best_bound(j))),
+    ("grading-whole", "grading: bottlenecks compared in whole numbers", |l| l.best_if(|j, b| b.0 / b.1 <= best_bound(j).0 / best_bound(j).1)),
+    ("grading-quick", "grading: compared with the quick plan", |l| l.best_if(|j, b| !less(slow::bottleneck(j, &methods::quick(j)), b))),
+    ("grading-ideal", "grading: best only where the ideal is met", |l| l.best_if(|j, b| !less(methods::ideal(j), b))),
+    ("grading-many", "grading: best always with more than 200 machines", |l| l.regrade(|j, _, v| if j.speeds.len() > 200 { 1 } else { v })),
+    ("grading-13-11", "grading: 13 before 11", |l| l.renumber(|j, r, n| if n == 11 && r.iter().enumerate().any(|(p, r)| untrue(j, r, p)) { 13 } else { n })),
+    ("grading-record", "grading: 11 and 13 record by record", |l| l.renumber(record_by_record)),
+    ("grading-12-11", "grading: 12 after 11", |l| l.renumber(|j, r, n| if n == 12 && r.len() >= j.speeds.len() && grading::read(j, &job::encode(&r[..j.speeds.len()].to_vec())) == Err(11) { 11 } else { n })),
+    ("grading-12-9", "grading: 9 for a shorter plan", |l| l.renumber(|j, r, n| if n == 12 && r.len() < j.speeds.len() { 9 } else { n })),
+    ("grading-12-job", "grading: 12 before the job's tests", |l| if l.call == Call::Grade && l.at[2].1 != 16 * l.at[0].1 { 12 } else { l.real() }),
+    ("grading-9-early", "C grading: the grade buffer tested before the job", |l| if l.call == Call::HostGrade && l.at[2].1 == 0 { 9 } else { l.real() }),
+    ("grading-9-late", "C grading: the grade buffer tested after the plan's length", |l| if l.call == Call::HostGrade && l.real() == 9 && l.graded_job().is_some_and(|j| l.at[1].1 != 16 * j.speeds.len()) { 12 } else { l.real() }),
+    ("grading-longer", "grading: a longer plan taken", |l| l.seeing_plan(|j, f| f.truncate(16 * j.speeds.len()))),
+    ("grading-byte", "grading: a byte more taken", |l| l.seeing_plan(|_, f| if f.len() % 16 == 1 { f.pop(); })),
+    ("grading-speed", "grading: speeds not compared", |l| l.seeing_records(|j, r| for (r, &e) in r.iter_mut().zip(&j.speeds) { r[3] = e })),
+    ("grading-load", "grading: loads not compared", |l| l.seeing_records(|j, r| for r in r { let (a, b) = (r[0] as usize, r[1] as usize); if a <= b && b <= j.weights.len() { r[2] = j.weight(a, b) as u32 } })),
+    ("grading-sum", "grading: only the sum of the loads compared", |l| l.seeing_records(|j, r| if r.iter().map(|r| r[2] as u128).sum::<u128>() == methods::ideal(j).0 { for r in r { let (a, b) = (r[0] as usize, r[1] as usize); if a <= b && b <= j.weights.len() { r[2] = j.weight(a, b) as u32 } } })),
+    ("grading-high", "grading: a load's highest byte left out", |l| l.seeing_records(|_, r| for r in r { r[2] &= 0x00FF_FFFF })),
+    ("grading-gap", "grading: where a record begins not compared", |l| l.seeing_records(|_, r| for p in 1..r.len() { r[p][0] = r[p - 1][1] })),
+    ("grading-first", "grading: where the first record begins not compared", |l| l.seeing_records(|_, r| r[0][0] = 0)),
+    ("grading-last", "grading: the last record not looked at", |l| l.seeing_records(|j, r| { let k = r.len() - 1; let a = if k == 0 { 0 } else { r[k - 1][1] as usize }; if a <= j.weights.len() { r[k] = [a as u32, j.weights.len() as u32, j.weight(a, j.weights.len()) as u32, j.speeds[k]] } })),
+    ("grading-end", "grading: the last separator not compared with N", |l| l.renumber(|j, r, n| if n == 11 && r[0][0] == 0 && r.windows(2).all(|t| t[0][1] == t[1][0]) && r.iter().all(|r| r[0] <= r[1]) && r.last().unwrap()[1] > j.weights.len() as u32 { 13 } else { n })),
+    ("grading-refused", "C grading: a grade on refusal", |l| l.mark(l.call == Call::HostGrade, Slot::Grade)),
+    ("grading-answer", "grading: an answer on refusal", |l| l.mark(l.call == Call::Grade, Slot::Answer)),
+    ("grading-second", "C grading: the second byte of the buffer cleared", |l| l.then(l.call == Call::HostGrade, |_| if let Some(v) = l.bytes(Slot::Grade).get_mut(1) { *v = 0 })),
+    ("grading-past", "C grading: a byte written past the grade buffer", |l| l.stray(l.call == Call::HostGrade, Slot::Grade, true)),
+    ("grading-input", "grading: the plan changed", |l| l.then(l.is_grading(), |_| l.bytes(Slot::Plan)[8] ^= 1)),
     // Files.
     ("read-kind-3", "reading: kind 3 taken for a tile", |l| l.seeing(l.call == Call::Read, |f| f.chunks_exact_mut(8).for_each(|r| if r[0] == 3 { r[0] = 2 }))),
     ("read-byte-3", "reading: byte 3 not tested", |l| l.seeing(l.call == Call::Read, |f| f.chunks_exact_mut(8).for_each(|r| r[3] = 0))),

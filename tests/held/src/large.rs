@@ -107,7 +107,7 @@ fn weight_shapes(r: &mut Rng) -> Vec<Vec<u32>> {
     ]
 }
 
-/// Several threads at once, each with a small stack, as the header allows.
+/// Several threads at once, each with a small stack, as the header allows: each plans and grades its plan.
 fn threads(c: &mut Check) {
     let list: Vec<(Vec<u8>, Vec<u8>)> = (0..4)
         .map(|_| {
@@ -129,7 +129,9 @@ fn threads(c: &mut Check) {
                         let mut plan = vec![0xA5u8; 16 * P];
                         let at = [(file.as_ptr() as *mut u8, file.len()), (plan.as_mut_ptr(), plan.len())];
                         let code = unsafe { planner::call(Call::Host { method: 1 + k % 4 }, &at) };
-                        code == 0 && &plan == wanted
+                        let mut grade = [0xA5u8; 2];
+                        let at = [at[0], at[1], (grade.as_mut_ptr(), grade.len())];
+                        code == 0 && &plan == wanted && unsafe { planner::call(Call::HostGrade, &at) } == 0 && grade == [1, 0xA5]
                     })
                 };
                 std::thread::Builder::new().stack_size(96 << 10).spawn_scoped(scope, work).unwrap()
@@ -138,10 +140,10 @@ fn threads(c: &mut Check) {
         running.into_iter().map(|t| t.join().unwrap_or(false)).collect::<Vec<_>>()
     });
     guard::done();
-    c.calls += 8 * list.len() as u64;
+    c.calls += 2 * 8 * list.len() as u64;
     for (k, ok) in good.iter().enumerate() {
         if !ok {
-            c.fail("a wrong plan from several threads at once", crate::check::describe(Call::Host { method: 0 }, &[&list[k].0, &[]]));
+            c.fail("a wrong plan or grade from several threads at once", crate::check::describe(Call::Host { method: 0 }, &[&list[k].0, &[]]));
         }
     }
 }

@@ -80,7 +80,7 @@ const BAD_WEIGHT: [u32; 5] = [1_000_001, 1 << 20, 1 << 24, 1 << 31, u32::MAX];
 const BAD_METHOD: [u32; 7] = [0, 5, 255, 257, 260, 65_538, u32::MAX];
 
 /// Counts and values: the lists of a job with these faults of 5 to 8, and the numbers of those that could be made.
-fn job_with(r: &mut Rng, faults: &[u32]) -> (Vec<u32>, Vec<u32>, Vec<u32>) {
+pub fn job_with(r: &mut Rng, faults: &[u32]) -> (Vec<u32>, Vec<u32>, Vec<u32>) {
     let has = |n: u32| faults.contains(&n);
     let mut made: Vec<u32> = faults.iter().copied().filter(|n| (6..=8).contains(n)).collect();
     let machines = if has(7) { r.pick(&[0, 257, 258, 600]) } else { r.pick(&[1, 2, 3, 5, 255, 256]) };

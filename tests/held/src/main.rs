@@ -8,6 +8,8 @@ mod every;
 #[cfg(feature = "faults")]
 mod faults;
 mod fast;
+mod grades;
+mod grading;
 mod guard;
 mod job;
 mod known;
@@ -41,12 +43,13 @@ fn number(name: &str, otherwise: u64) -> u64 {
 fn whole(c: &mut Check) {
     let times = number("HELD_TIMES", 1) as usize;
     let talk = number("HELD_TALK", 0) != 0;
-    let parts: [(&'static str, &dyn Fn(&mut Check)); 7] = [
+    let parts: [(&'static str, &dyn Fn(&mut Check)); 8] = [
         ("known jobs", &known::run),
         ("refusals", &refusals::run),
         ("lists", &|c| lists::run(c, times)),
         ("damaged files", &|c| damage::run(c, times)),
         ("listings", &|c| listing::run(c, times)),
+        ("plan files", &|c| grades::run(c, times)),
         ("small jobs", &|c| small::run(c, times)),
         ("large jobs", &|c| large::run(c, times)),
     ];
@@ -61,8 +64,9 @@ fn whole(c: &mut Check) {
     }
     // A run in which some answer never came up would be no test of it.
     let unseen = c.unseen();
-    if !unseen.is_empty() || c.fits == 0 || c.searches.contains(&0) || c.noughts.contains(&0) {
-        let seen = format!("{} fits, searches {:?}, plans at and off the ideal {:?}", c.fits, c.searches, c.noughts);
+    if !unseen.is_empty() || c.fits == 0 || c.searches.contains(&0) || c.noughts.contains(&0) || c.others.contains(&0) {
+        let mut seen = format!("{} fits, searches {:?}, plans at and off the ideal {:?}", c.fits, c.searches, c.noughts);
+        seen += &format!(", best plans of other separators {:?}", c.others);
         c.fail(&format!("answers never seen: {:?}; {}", unseen, seen), String::new());
     }
 }

@@ -1,4 +1,4 @@
-//! The planner under test: the C call of its own archive, and every other call of the archive for tests.
+//! The planner under test: the two C calls of its own archive, and every other call of the archive for tests.
 
 /// A call with its plain numbers; its lists come beside it, in the order of `slots`.
 #[derive(Clone, Copy, Debug, PartialEq)]
@@ -13,6 +13,8 @@ pub enum Call {
     PlanFile,
     List,
     Host { method: u32 },
+    Grade,
+    HostGrade,
 }
 
 /// What a list or buffer of a call is.
@@ -25,6 +27,7 @@ pub enum Slot {
     File,
     Plan,
     Text,
+    Grade,
     Answer,
 }
 
@@ -32,7 +35,7 @@ impl Slot {
     /// The bytes of an entry.
     pub fn width(self) -> usize {
         match self {
-            Slot::File | Slot::Plan | Slot::Text => 1,
+            Slot::File | Slot::Plan | Slot::Text | Slot::Grade => 1,
             Slot::Answer => 8,
             _ => 4,
         }
@@ -52,6 +55,8 @@ impl Call {
             Call::PlanFile => &[Speeds, Weights, Separators, Plan, Answer],
             Call::List => &[File, Text, Answer],
             Call::Host { .. } => &[File, Plan],
+            Call::Grade => &[Speeds, Weights, Plan, Answer],
+            Call::HostGrade => &[File, Plan, Grade],
         }
     }
 }
@@ -65,10 +70,12 @@ type Longs = *mut u64;
 
 extern "C" {
     fn plan_job(job: Bytes, job_len: usize, method: u32, plan: Bytes, plan_len: usize) -> u32;
+    fn grade_plan(job: Bytes, job_len: usize, plan: Bytes, plan_len: usize, grade: Bytes, grade_len: usize) -> u32;
     fn exported_test_job(e: Words, e_len: usize, w: Words, w_len: usize) -> u32;
     fn exported_read_job(f: Bytes, f_len: usize, e: Words, e_len: usize, w: Words, w_len: usize, a: Longs, a_len: usize) -> u32;
     fn exported_write_job(e: Words, e_len: usize, w: Words, w_len: usize, f: Bytes, f_len: usize, a: Longs, a_len: usize) -> u32;
     fn exported_list(f: Bytes, f_len: usize, t: Bytes, t_len: usize, a: Longs, a_len: usize) -> u32;
+    fn exported_grade(e: Words, e_len: usize, w: Words, w_len: usize, f: Bytes, f_len: usize, a: Longs, a_len: usize) -> u32;
     fn exported_measure(e: Words, e_len: usize, w: Words, w_len: usize, s: Words, s_len: usize, a: Longs, a_len: usize) -> u32;
     fn exported_heuristic(e: Words, e_len: usize, w: Words, w_len: usize, s: Words, s_len: usize, a: Longs, a_len: usize) -> u32;
     #[rustfmt::skip]
@@ -97,6 +104,8 @@ pub unsafe fn real(call: Call, at: &[At]) -> u32 {
         Call::PlanFile => exported_write_plan(w(0), n(0), w(1), n(1), w(2), n(2), b(3), n(3), a(4), n(4)),
         Call::List => exported_list(b(0), n(0), b(1), n(1), a(2), n(2)),
         Call::Host { method } => plan_job(b(0), n(0), method, b(1), n(1)),
+        Call::Grade => exported_grade(w(0), n(0), w(1), n(1), b(2), n(2), a(3), n(3)),
+        Call::HostGrade => grade_plan(b(0), n(0), b(1), n(1), b(2), n(2)),
     }
 }
 

@@ -22,7 +22,8 @@ pub fn bottleneck(job: &Job, separators: &[usize]) -> Bound {
     greatest
 }
 
-fn every_division(separators: &mut Vec<usize>, machines: usize, tiles: usize, visit: &mut dyn FnMut(&[usize])) {
+/// Visits every division that begins with these separators.
+pub fn every_division(separators: &mut Vec<usize>, machines: usize, tiles: usize, visit: &mut dyn FnMut(&[usize])) {
     if separators.len() == machines {
         separators.push(tiles);
         visit(separators);

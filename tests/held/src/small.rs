@@ -70,7 +70,8 @@ fn every(c: &mut Check) {
     }
 }
 
-fn every_list(len: usize, least: u32, greatest: u32, visit: &mut dyn FnMut(&[u32])) {
+/// Every list of so many numbers, each from the least to the greatest.
+pub fn every_list(len: usize, least: u32, greatest: u32, visit: &mut dyn FnMut(&[u32])) {
     let mut list = vec![least; len];
     loop {
         visit(&list);
