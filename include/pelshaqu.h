@@ -24,6 +24,10 @@ extern "C" {
 #define PELSHAQU_PLAN_RECORD 16
 #define PELSHAQU_MAX_PLAN (PELSHAQU_PLAN_RECORD * PELSHAQU_MAX_MACHINES)
 
+/* The grades of a plan file. */
+#define PELSHAQU_BEST 1
+#define PELSHAQU_VALID 2
+
 /*
  * Plans a job file by a method and writes its plan file.
  *
@@ -52,6 +56,27 @@ extern "C" {
  * several threads at once. A pointer may be NULL where its length is 0. The job's bytes and the plan's must not overlap.
  */
 uint32_t plan_job(const uint8_t *job, size_t job_len, uint32_t method, uint8_t *plan, size_t plan_len);
+
+/*
+ * Grades a plan file of any maker beside its job file.
+ *
+ * job, job_len      a job file, as above.
+ * plan, plan_len    a plan file: as plan_job fills it, 16 bytes a machine and no byte more.
+ * grade, grade_len  a buffer of at least one byte. Its first byte becomes 1 (best) where no division of the job has a smaller
+ *                   bottleneck, 2 (valid) for every other true plan; later bytes stay.
+ *
+ * Returns 0, or the number of the refusal; a refusal changes nothing. 2 to 8 are tested first, on the job file, as above; then:
+ *    9  a lent list or buffer is too short
+ *       (here the buffer for the grade)
+ *   12  the plan file's length is not 16 bytes a machine
+ *   11  no division, or a record that does not begin where the one before ends
+ *   13  a load or a speed of the plan file is untrue
+ *
+ * A plan need not have the separators that plan_job gives to be best. What plan_job fills is graded best. The call needs no memory
+ * but some 20 KB of stack, keeps no state and may run in several threads at once. A pointer may be NULL where its length is 0. The
+ * grade's buffer must not overlap the job's bytes or the plan's.
+ */
+uint32_t grade_plan(const uint8_t *job, size_t job_len, const uint8_t *plan, size_t plan_len, uint8_t *grade, size_t grade_len);
 
 #ifdef __cplusplus
 }

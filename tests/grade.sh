@@ -500,6 +500,24 @@ if [ -w /dev/full ]; then
     equal "script, a full device" 3 "$got"
 fi
 
+# What the pages show is what the script says, and how much they say is read is what is.
+shown=0
+for page in README.md docs/grade.1; do
+    # A command, './grade JOB PLAN', and the line under it.
+    sed -n 's/^[ $]*\(\.\/grade examples\)/\1/;/^\.\/grade examples/{N;s/\n *\([^ ]\)/ says \1/p;}' "$page" >"$work/shown"
+    while read -r script job plan says line; do
+        [ "$says" = says ] || continue
+        got=$("$script" "$job" "$plan") || :
+        equal "$page, $job $plan" "$line" "$got"
+        shown=$((shown + 1))
+    done <"$work/shown"
+done
+equal "grades that the pages show" 4 "$shown"
+taken=$(printf '%s %s' $((8 * (256 + 2048 + 1))) $((16 * (256 + 1))) | sed 's/\([0-9]\)\([0-9]\{3\}\)\( \|$\)/\1,\2\3/g')
+equal "how much is read, ./grade --help" "$taken" "$(./grade --help | tr '\n' ' ' | sed -n 's/.*at most \([0-9,]*\) bytes are read and of the plan at most \([0-9,]*\),.*/\1 \2/p')"
+equal "how much is read, docs/grade.1" "$taken" "$(tr '\n' ' ' <docs/grade.1 | sed -n 's/.*at most \([0-9,]*\) bytes are read and of the plan at most \([0-9,]*\),.*/\1 \2/p')"
+equal "how much is read, docs/REFUSALS.md" "$taken" "$(tr '\n' ' ' <docs/REFUSALS.md | sed -n 's/.*take in at most \([0-9,]*\) bytes,.*takes in at most \([0-9,]*\) bytes.*/\1 \2/p')"
+
 if [ "$failed" -ne 0 ]; then
     echo "tests/grade.sh: $failed of $((passed + failed)) checks failed" >&2
     exit 1

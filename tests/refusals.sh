@@ -29,12 +29,13 @@ in_header() {
     awk '/^ \* +[0-9]+  / { sub(/^ \* +/, ""); sub(/ *[}].*/, ""); n = $1; sub(/^[0-9]+ +/, ""); print n ": " $0 }' include/pelshaqu.h
 }
 
+# in_help SCRIPT, in_manual PAGE
 in_help() {
-    sed -n '/^usage()/,/^END/p' strips | awk '/^  [0-9]+  / { n = $1; sub(/^ +[0-9]+ +/, ""); print n ": " $0 }'
+    sed -n '/^usage()/,/^END/p' "$1" | awk '/^  [0-9]+  / { n = $1; sub(/^ +[0-9]+ +/, ""); print n ": " $0 }'
 }
 
 in_manual() {
-    awk '/^\.SH/ { inside = $2 == "REFUSALS" } inside && /^[0-9]+$/ { n = $0; getline; print n ": " $0 }' docs/strips.1
+    awk '/^\.SH/ { inside = $2 == "REFUSALS" } inside && /^[0-9]+$/ { n = $0; getline; print n ": " $0 }' "$1"
 }
 
 # The numbers of definitions: 'test N (' under a comment that begins 'Refusal N: '. Each number once, in rising order.
@@ -57,13 +58,22 @@ of() {
     in_table | awk -v from="$1" -v to="$2" '$1 + 0 >= from && $1 + 0 <= to'
 }
 
+# What a plan file can give, in the order of the tests.
+of_plan() {
+    of 12 12
+    of 11 11
+    of 13 13
+}
+
 all=$(in_table)
 numbers=$(in_table | sed 's/:.*//')
 same "the table's numbers, which are to rise by one" "$(in_table | awk '{ print NR }')" "$numbers"
 same "the number of refusals in the table, which is not to be 0" yes "$([ -n "$all" ] && echo yes || echo no)"
-same "include/pelshaqu.h, what the C call can give" "$(of 1 9)" "$(in_header)"
-same "./strips --help, what a file can give" "$(of 2 8)" "$(in_help)"
-same "docs/strips.1, what a file can give" "$(of 2 8)" "$(in_manual)"
+same "include/pelshaqu.h, what the C calls can give" "$(of 1 9; of 9 9; of_plan)" "$(in_header)"
+same "./strips --help, what a file can give" "$(of 2 8)" "$(in_help strips)"
+same "docs/strips.1, what a file can give" "$(of 2 8)" "$(in_manual docs/strips.1)"
+same "./grade --help, what two files can give" "$(of 2 8; of_plan)" "$(in_help grade)"
+same "docs/grade.1, what two files can give" "$(of 2 8; of_plan)" "$(in_manual docs/grade.1)"
 same "the definitions' numbers" "$numbers" "$(in_definitions crates/chain/specs/Refusal.antt crates/jobs/specs/Parse.antt)"
 same "the definitions under their quotes" "" "$(misquoted crates/chain/specs/Refusal.antt crates/jobs/specs/Parse.antt)"
 

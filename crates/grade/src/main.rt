@@ -6,14 +6,38 @@ ghost use Rattle.gradeline.specs.Line.{gradeLine};
 use gradeline::LINE_ROOM;
 use gradeline::PLAN_INTAKE;
 use gradeline::put_grade;
-use intake::Input;
-use intake::take_in;
 use listing::INTAKE;
+
+// What came of a file: the number of bytes, and whether it could not be read to its end.
+struct Input {
+    bytes: usize,
+    failed: bool,
+}
 
 // Says on standard error that the file of this name cannot be read, and why.
 fn complain(name: &[u8]) {
     io::write_all(libc::STDERR_FILENO, b"grade: ");
     os::fail(name);
+}
+
+// Fills the buffer from an open file, however its bytes arrive, until it is full or the file ends. A read that fails looks like the end:
+// where there is room left, one read more tells the two apart.
+fn take_in(fd: i32, file: &mut [u8]) -> Input
+    ensures { λ r. ⌜ Counts (r .bytes) (now (file .exit)) ⌝ }
+{
+    let bytes = io::read_full(fd, file);
+    if bytes == file.len() {
+        return Input {
+            bytes,
+            failed: false,
+        };
+    }
+    let mut more = [0u8; 1];
+    let got = libc::read(fd, &mut more);
+    Input {
+        bytes,
+        failed: got < 0,
+    }
 }
 
 // Takes in the file with this name. Where it cannot be read, that is said.

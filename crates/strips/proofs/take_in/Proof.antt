@@ -4,16 +4,16 @@ use Prim.Native.Nat.{_-_, _≤_}
 use mathlib.Core.Path.{_≡_}
 use native.Mathlib.Omega.{arith}
 use lib.ListN.{length}
-use Rattle.intake.proofs.Laws.{counts}
+use Rattle.strips.proofs.Laws.{counts}
 use borrow.Author.Needs.{needs}
-use Rattle.intake.proofs.take_in.Statement.{statement}
-use Rattle.intake.proofs.take_in.Tie as tie
+use Rattle.strips.proofs.take_in.Statement.{statement}
+use Rattle.strips.proofs.take_in.Tie as tie
 
 abbrev Inv-loop : tie.InvT-loop
-Inv-loop fd file₀ bytes₀ file bytes = (bytes ≤ length file) × (length file ≡ length file₀)
+Inv-loop file₀ bytes₀ file bytes = (bytes ≤ length file) × (length file ≡ length file₀)
 
 abbrev μ-loop : tie.MeasureT-loop
-μ-loop fd file₀ bytes₀ file bytes = length file₀ - bytes
+μ-loop file₀ bytes₀ file bytes = length file₀ - bytes
 
 loop-holds : tie.Need-loop-holds Inv-loop μ-loop
 loop-holds c = omega arith
