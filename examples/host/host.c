@@ -23,7 +23,7 @@ static void print_grade(const char *name, const uint8_t *job, size_t job_len, co
     if (number != 0) {
         printf("%s: refused %u\n", name, number);
     } else {
-        printf("%s: %s\n", name, grade == 1 ? "best" : "valid");
+        printf("%s: %s\n", name, grade == PELSHAQU_BEST ? "best" : grade == PELSHAQU_VALID ? "valid" : "no grade");
     }
 }
 
