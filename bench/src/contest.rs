@@ -16,7 +16,7 @@ pub struct Contest {
     pub jobs: usize,
 }
 
-pub const CONTESTS: [Contest; 8] = [
+pub const CONTESTS: [Contest; 9] = [
     Contest {
         name: "table",
         sides: [("planner_table", sides::planner_table), ("plain_table", sides::plain_table)],
@@ -66,6 +66,12 @@ pub const CONTESTS: [Contest; 8] = [
         name: "trial",
         sides: [("planner_trial", sides::planner_trial), ("plain_trial", sides::plain_trial)],
         answers: 3,
+        jobs: 64,
+    },
+    Contest {
+        name: "grading",
+        sides: [("planner_grade", sides::planner_grade), ("plain_grade", sides::plain_grade)],
+        answers: 1,
         jobs: 64,
     },
 ];

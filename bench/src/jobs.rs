@@ -1,6 +1,6 @@
 //! The jobs that are measured: three families of weights, three ranges of speeds, from a seed.
-use crate::plain::{Bound, MAX_WEIGHT};
-use crate::sides::Job;
+use crate::plain::{self, Bound, Method, MAX_WEIGHT};
+use crate::sides::{Job, Room};
 
 const SEED: u64 = 1;
 
@@ -87,15 +87,15 @@ impl Shape {
         }
     }
 
-    /// The first jobs of the shape, always the same ones.
+    /// The first jobs of the shape, always the same ones. By turns the best plan and the quick plan are graded.
     pub fn jobs(&self, count: usize) -> Vec<Job> {
         let mut random = Random::new(SEED);
-        (0..count).map(|_| self.job(&mut random)).collect()
+        (0..count).map(|k| self.job(&mut random, k % 2 == 0)).collect()
     }
 
     /// A job, with a bound for its trial that lies near the least bottleneck: the ideal and a random part of the heaviest
     /// weight over the mean speed. Some trials fit, some fail.
-    fn job(&self, random: &mut Random) -> Job {
+    fn job(&self, random: &mut Random, best: bool) -> Job {
         let weights: Vec<u32> = (0..self.tasks).map(|_| self.family.weight(random)).collect();
         let speeds: Vec<u32> = (0..self.processors).map(|_| random.between(1, self.fastest)).collect();
         let total: u64 = weights.iter().map(|&w| w as u64).sum();
@@ -103,6 +103,19 @@ impl Shape {
         let speed: u64 = speeds.iter().map(|&e| e as u64).sum();
         let extra = heaviest * self.processors as u64 * random.between(0, 100) as u64 / 100;
         let trial = Bound { load: total + extra, speed };
-        Job { speeds, weights, trial }
+        let plan = plan_file(&speeds, &weights, best);
+        Job { speeds, weights, trial, plan }
     }
+}
+
+/// The plan file of the best plan or of the quick plan, by plain Rust.
+fn plan_file(speeds: &[u32], weights: &[u32], best: bool) -> Vec<u8> {
+    let mut room = Room::new();
+    let refused = if best {
+        plain::plan(Method::Bisection, speeds, weights, &mut room.separators, &mut room.scratch).err()
+    } else {
+        plain::heuristic(speeds, weights, &mut room.separators).err()
+    };
+    assert_eq!(refused, None, "refused");
+    plain::plan_file(speeds, weights, &room.separators)
 }

@@ -7,6 +7,7 @@ pub const MAX_PROCESSORS: usize = 256;
 pub const MAX_SPEED: u32 = 10_000;
 pub const MAX_BOUND_LOAD: u64 = 100_000_000_000_000;
 pub const MAX_BOUND_SPEED: u64 = 1_000_000_000;
+pub const PLAN_RECORD: usize = 16;
 
 /// Load over speed, compared by cross products.
 #[derive(Clone, Copy, Debug, PartialEq)]
@@ -61,6 +62,13 @@ pub enum Method {
     Bisection,
     Nicol,
     NicolByTrial,
+}
+
+/// What a plan file is beside its job.
+#[derive(Clone, Copy, Debug, PartialEq)]
+pub enum Grade {
+    Best,
+    Valid,
 }
 
 /// No early end, so that several are tested at once.
@@ -483,4 +491,73 @@ pub fn probe(
         separators[..=speeds.len()].copy_from_slice(&walked[..=speeds.len()]);
     }
     Ok(next)
+}
+
+/// The four fields of a record of a plan file: the separators before and behind its part, the part's load, the machine's speed.
+#[inline]
+fn fields(record: &[u8; PLAN_RECORD]) -> [u32; 4] {
+    let words = record.as_chunks::<4>().0;
+    [words[0], words[1], words[2], words[3]].map(u32::from_le_bytes)
+}
+
+/// Writes the separators that the records have; whether each record begins where the one before ends, the first one at 0.
+fn read_separators(records: &[[u8; PLAN_RECORD]], separators: &mut [u32]) -> bool {
+    let mut chained = true;
+    let mut before = 0;
+    separators[0] = 0;
+    for (record, slot) in records.iter().zip(&mut separators[1..]) {
+        let [start, end, _, _] = fields(record);
+        chained &= start == before;
+        before = end;
+        *slot = end;
+    }
+    chained
+}
+
+/// Whether separators that begin with 0 never fall and end with N.
+fn divides(separators: &[u32], tasks: usize) -> bool {
+    let rising = separators.windows(2).fold(true, |all, pair| all & (pair[0] <= pair[1]));
+    rising && separators[separators.len() - 1] as usize == tasks
+}
+
+/// Whether each record has the load of its part and the speed of its machine.
+fn records_true(speeds: &[u32], sums: &[u32], separators: &[u32], records: &[[u8; PLAN_RECORD]]) -> bool {
+    let parts = separators.windows(2).zip(speeds);
+    records.iter().zip(parts).fold(true, |all, (record, (pair, &machine))| {
+        let [_, _, load, speed] = fields(record);
+        all & (load == sums[pair[1] as usize] - sums[pair[0] as usize]) & (speed == machine)
+    })
+}
+
+/// The grade of a plan file: best where no division has a smaller bottleneck. The bisection writes over the plan's separators,
+/// which are its first hint.
+pub fn grade(speeds: &[u32], weights: &[u32], plan: &[u8]) -> Result<Grade, u32> {
+    test_job(speeds, weights)?;
+    if plan.len() != PLAN_RECORD * speeds.len() {
+        return Err(12);
+    }
+    let records = plan.as_chunks::<PLAN_RECORD>().0;
+    let mut list = [0; MAX_PROCESSORS + 1];
+    let separators = &mut list[..=speeds.len()];
+    if !read_separators(records, separators) || !divides(separators, weights.len()) {
+        return Err(11);
+    }
+    let mut room = [0; MAX_TASKS + 1];
+    let sums = prefix_sums(weights, &mut room);
+    if !records_true(speeds, sums, separators, records) {
+        return Err(13);
+    }
+    let measured = bottleneck(speeds, sums, separators);
+    let least = bisection(speeds, sums, separators).bound;
+    Ok(if measured.at_most(least) { Grade::Best } else { Grade::Valid })
+}
+
+/// The plan file of a division.
+pub fn plan_file(speeds: &[u32], weights: &[u32], separators: &[u32]) -> Vec<u8> {
+    let parts = separators.windows(2).zip(speeds);
+    let records = parts.map(|(pair, &speed)| {
+        let load = weights[pair[0] as usize..pair[1] as usize].iter().sum();
+        [pair[0], pair[1], load, speed]
+    });
+    records.flatten().flat_map(u32::to_le_bytes).collect()
 }

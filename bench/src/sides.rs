@@ -1,6 +1,6 @@
 //! The two sides of the comparison behind one signature each: the planner's archive and plain Rust. Every function is kept
 //! whole, under a name of its own, so that callgrind can count inside it.
-use crate::plain::{self, Bound, Method};
+use crate::plain::{self, Bound, Grade, Method};
 
 extern "C" {
     fn exported_heuristic(
@@ -40,7 +40,22 @@ extern "C" {
         answer: *mut u64,
         answer_len: usize,
     ) -> u32;
+
+    fn exported_grade(
+        speeds: *const u32,
+        speeds_len: usize,
+        weights: *const u32,
+        weights_len: usize,
+        plan: *const u8,
+        plan_len: usize,
+        answer: *mut u64,
+        answer_len: usize,
+    ) -> u32;
 }
+
+/// The grades as answers.
+pub const BEST: u64 = 1;
+pub const VALID: u64 = 2;
 
 /// The buffers that a call is lent, never cleared between calls.
 pub struct Room {
@@ -59,11 +74,12 @@ impl Room {
     }
 }
 
-/// A job by lists, and the bound at which its single trial is made.
+/// A job by lists, the bound at which its single trial is made, and the plan file that is graded.
 pub struct Job {
     pub speeds: Vec<u32>,
     pub weights: Vec<u32>,
     pub trial: Bound,
+    pub plan: Vec<u8>,
 }
 
 /// A call by one side: 0 or the refusal's number, the results in the room.
@@ -144,6 +160,24 @@ pub fn planner_trial(job: &Job, room: &mut Room) -> u32 {
             job.trial.speed,
             room.separators.as_mut_ptr(),
             room.separators.len(),
+            room.answer.as_mut_ptr(),
+            room.answer.len(),
+        )
+    }
+}
+
+#[no_mangle]
+#[inline(never)]
+pub fn planner_grade(job: &Job, room: &mut Room) -> u32 {
+    // SAFETY: as above.
+    unsafe {
+        exported_grade(
+            job.speeds.as_ptr(),
+            job.speeds.len(),
+            job.weights.as_ptr(),
+            job.weights.len(),
+            job.plan.as_ptr(),
+            job.plan.len(),
             room.answer.as_mut_ptr(),
             room.answer.len(),
         )
@@ -237,6 +271,21 @@ pub fn plain_trial(job: &Job, room: &mut Room) -> u32 {
             room.answer[0] = 0;
             room.answer[1] = next.load;
             room.answer[2] = next.speed;
+            0
+        }
+    }
+}
+
+#[no_mangle]
+#[inline(never)]
+pub fn plain_grade(job: &Job, room: &mut Room) -> u32 {
+    match plain::grade(&job.speeds, &job.weights, &job.plan) {
+        Err(number) => number,
+        Ok(grade) => {
+            room.answer[0] = match grade {
+                Grade::Best => BEST,
+                Grade::Valid => VALID,
+            };
             0
         }
     }

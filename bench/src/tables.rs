@@ -4,7 +4,7 @@ use crate::measure::{growth, FASTEST, GROWTH_PROCESSORS, GROWTH_TASKS, PLACEMENT
 use crate::records::{self, Records};
 
 /// A table of ratios: its title and the two sides.
-const RATIOS: [(&str, &str, &str); 8] = [
+const RATIOS: [(&str, &str, &str); 9] = [
     ("Table", "planner_table", "plain_table"),
     ("Bidding, plain Rust in the same resumed form", "planner_bidding", "plain_resumed"),
     ("Bidding, plain Rust with every walk from machine 1", "planner_bidding", "plain_bidding"),
@@ -13,16 +13,18 @@ const RATIOS: [(&str, &str, &str); 8] = [
     ("Nicol's search, plain Rust by a walk without bids", "planner_nicol", "plain_nicol"),
     ("Quick plan", "planner_quick", "plain_quick"),
     ("Single trial", "planner_trial", "plain_trial"),
+    ("Grading", "planner_grade", "plain_grade"),
 ];
 
 /// A side's name as a column's title, with the plain Rust beside it.
-const PAIRS: [(&str, &str, &str); 6] = [
+const PAIRS: [(&str, &str, &str); 7] = [
     ("table", "planner_table", "plain_table"),
     ("bidding", "planner_bidding", "plain_resumed"),
     ("bisection", "planner_bisection", "plain_bisection"),
     ("Nicol", "planner_nicol", "plain_nicol"),
     ("quick plan", "planner_quick", "plain_quick"),
     ("single trial", "planner_trial", "plain_trial"),
+    ("grading", "planner_grade", "plain_grade"),
 ];
 
 fn head(columns: &[String]) {
@@ -237,6 +239,33 @@ fn imbalances(records: &Records) {
     println!();
 }
 
+/// Grading beside planning by bisection: the planner alone.
+fn gradings(records: &Records) {
+    println!("## Grading against planning by bisection\n");
+    println!("The planner's time for grading over its time for a plan by bisection, on the same jobs (the least times of each; half of the plan");
+    println!("files are of the best plan, half of the quick plan), and how many of a hundred plan files are graded best; N = {TASKS}.\n");
+    let time = |side: &str, shape: Shape| records.get("time", side, shape);
+    let of_plan = |shape: Shape| time("planner_grade", shape) / time("planner_bisection", shape);
+    let mut columns = texts(&["weights", "speeds"]);
+    for processors in PROCESSORS {
+        columns.push(format!("N/P = {}: time", TASKS / processors));
+        columns.push("best".to_string());
+    }
+    head(&columns);
+    for shape in rows(0) {
+        let mut cells = label(shape);
+        for processors in PROCESSORS {
+            let shape = Shape { processors, ..shape };
+            cells.push(format!("{:.2}", of_plan(shape)));
+            cells.push(format!("{:.0}", 100.0 * records.get("fact", "grading best", shape)));
+        }
+        row(&cells);
+    }
+    let all: Vec<f64> = all_shapes().map(of_plan).collect();
+    let (mean, low, high) = (geometric_mean(&all), least(&all), greatest(&all));
+    println!("\nOver the 27 shapes: mean {mean:.2} (the geometric one), least {low:.2}, greatest {high:.2}.\n");
+}
+
 fn growth_table(records: &Records, shapes: &[Shape]) {
     let mut columns = texts(&["N", "P"]);
     columns.extend(PAIRS.iter().map(|pair| pair.0.to_string()));
@@ -269,6 +298,7 @@ pub fn print(files: &[String]) {
     ratios(&records);
     counts(&records);
     imbalances(&records);
+    gradings(&records);
     println!("## Growth with N and with P, in microseconds\n");
     println!("The planner; lognormal weights, speeds 1–4. The last columns are the time of bisection and of Nicol's search over their trials");
     println!("and the closing walk.\n");
