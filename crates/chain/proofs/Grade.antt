@@ -3,18 +3,18 @@
 -- Assumes nothing.
 use Prim.Native.Nat.{ℕ}
 use mathlib.Core.Path.{_≡_, refl, subst, sym}
-use mathlib.Core.Bool.{Bool, true, false, _&&_}
+use mathlib.Core.Bool.{Bool, true, false}
 use mathlib.Core.List.{List, [], _∷_, List·Memᴰ, List·Memᴰ·head, List·Memᴰ·tail, List·Memᴰ·not-nil, List·Memᴰ·cases-cons}
 use mathlib.Core.Logic.{_↔_, inl, inr}
 use lib.Dec.{T}
 use Rattle.bound.specs.declared.Bound.{Bound}
 use Rattle.bound.specs.Order.{le, _≼_, _≺_}
-use Rattle.bound.proofs.Order.{le-true, le-false, true-le, false-lt, le-trans, le-or-lt, not-both, finite-real}
+use Rattle.bound.proofs.Order.{le-true, true-le, le-trans, le-or-lt, not-both, finite-real}
 use Rattle.chain.specs.Job.{Job, bottleneck, Partition}
 use Rattle.chain.specs.Probe.{walk}
-use Rattle.chain.specs.Plan.{partitions, planOf, Best}
+use Rattle.chain.specs.Plan.{partitions, planOf}
 use Rattle.chain.specs.Grade.{every, unbeaten}
-use Rattle.chain.proofs.Tests.{T-of, T-true, T-false, and-left, and-right, and-both, same-test}
+use Rattle.chain.proofs.Tests.{T-of, T-true, and-left, and-right, and-both, same-test}
 use Rattle.chain.proofs.Parts.{Proper, Plannable}
 use Rattle.chain.proofs.Bottleneck.{bottleneck-real}
 use Rattle.chain.proofs.Walk.{walk-partition}

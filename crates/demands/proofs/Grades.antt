@@ -1,15 +1,14 @@
 -- What the grade of a plan file means holds: `grades`.
 -- Assumes nothing.
 use Prim.Native.Nat.{ℕ, suc, _≤_}
-use mathlib.Core.Path.{_≡_, refl, sym, ap, subst, _∙_}
-use mathlib.Core.List.{List, [], _∷_, _++_}
+use mathlib.Core.Path.{_≡_, sym, ap, subst, _∙_}
+use mathlib.Core.List.{List, _∷_, _++_}
 use mathlib.Core.Logic.{_↔_}
 use lib.ListN.{length, take, drop}
 use lib.Seq.{take-at}
-use Rattle.bound.specs.Order.{_≼_, _≺_}
-use Rattle.chain.specs.Job.{Job, jobOf, Valid, processors, Partition, bottleneck}
+use Rattle.chain.specs.Job.{Job, jobOf, Valid, processors, Partition}
 use Rattle.chain.specs.Plan.{planOf}
-use Rattle.chain.specs.Refusal.{separatorsOf, firstRefusal, planTests, refusal}
+use Rattle.chain.specs.Refusal.{separatorsOf, refusal}
 use Rattle.chain.proofs.Demand.{plan-of-best}
 use Rattle.chain.proofs.Parts.{valid-plannable}
 use Rattle.chain.proofs.Refusals.{Told, plan-accepted, job-accepted}
@@ -30,7 +29,7 @@ use Rattle.grading.proofs.Promises.{grade-number, grade-parts, grade-accepts, g
 use Rattle.planner.specs.Answers.{planWrites}
 use Rattle.planner.specs.HostCall.{hostWrites}
 use Rattle.planner.proofs.Numbers.{host-plan, host-valid, host-file}
-use Rattle.demands.specs.Call.{TestJob, Plan, WritePlan, Grade, PlanJob, GradePlan, said}
+use Rattle.demands.specs.Call.{TestJob, Plan, WritePlan, Grade, PlanJob, GradePlan}
 use Rattle.demands.specs.Demands.{Accepts}
 use Rattle.demands.specs.Grades.{GradeLeft, planIn, Grades}
 use Rattle.demands.proofs.Demands.{left}

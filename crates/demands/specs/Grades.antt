@@ -1,7 +1,7 @@
 -- What the grade of a plan file means, over the answers of the calls and over what they leave. Scope, section 14.
 use Prim.Native.Nat.{ℕ, _≤_}
 use mathlib.Core.Path.{_≡_}
-use mathlib.Core.List.{List, [], _∷_, _++_}
+use mathlib.Core.List.{List, _∷_, _++_}
 use mathlib.Core.Logic.{_↔_}
 use lib.ListN.{length, take, drop}
 use Rattle.bound.specs.Order.{_≼_, _≺_}

@@ -1,11 +1,9 @@
 // The line that `grade` writes, as text in a buffer. What stands in it is a definition, `gradeLine`. All functions here are inner: their
 // callers have room for the line.
 ghost use Prim.Native.Nat.{_≤_};
-ghost use mathlib.Core.Path.{_≡_};
 ghost use lib.ListN.{length, take};
 ghost use Rattle.grading.specs.Files.{fileGrade};
 ghost use Rattle.texts.specs.Room.{refusalRoom, Put};
-ghost use Rattle.listing.specs.Listing.{intake};
 ghost use Rattle.gradeline.specs.Line.{gradeText, planIntake, gradeLine};
 use grading::Graded;
 use grading::grade_files;

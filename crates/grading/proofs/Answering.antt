@@ -1,6 +1,6 @@
 -- What grading answers at each of its ends.
 -- Assumes nothing.
-use Prim.Native.Nat.{ℕ, zero, suc, _*_, _≤_, _<_}
+use Prim.Native.Nat.{ℕ, suc, _≤_, _<_}
 use mathlib.Core.Path.{_≡_, refl, sym, ap, ap₂, subst, _∙_}
 use mathlib.Core.Bool.{Bool, true, false, _&&_, cond}
 use mathlib.Core.List.{List, [], _∷_, _++_}
@@ -9,7 +9,7 @@ use native.Mathlib.Omega.{arith}
 use native.Mathlib.Decide.{decLe}
 use lib.Dec.{T, eqb, eqb→eq}
 use lib.ListN.{length, take, drop, set, List·getD-append}
-use borrow.Author.Tests.{ne-eqb, eq-eqb, leb-true}
+use borrow.Author.Tests.{ne-eqb, eq-eqb}
 use Rattle.chain.specs.Lists.{all}
 use Rattle.chain.specs.Job.{Job, jobOf, Valid, processors, speedOf, partLoad, at, Partition}
 use Rattle.chain.specs.Grade.{unbeaten}
@@ -19,14 +19,14 @@ use Rattle.chain.proofs.Indices.{all-at, all-same}
 use Rattle.chain.proofs.Refusals.{Numbered, numbered-nil, numbered-cons, job-numbered, partition-test, first-decide, others-decide, append-accepted}
 use Rattle.refusals.specs.Inputs.{planNeeded}
 use Rattle.refusals.specs.Answers.{lentAfter}
-use Rattle.refusals.proofs.Steps.{fails, passes, passed-all}
+use Rattle.refusals.proofs.Steps.{fails, passes}
 use Rattle.refusals.proofs.Tests.{length-short}
 use Rattle.refusals.proofs.Lent.{lent-kept, lent-accepted}
 use Rattle.parts.proofs.Front.{taken}
 use Rattle.jobs.specs.Parse.{jobIn, fileTests, fileRefusal}
 use Rattle.jobs.proofs.Calls.{file-numbered}
 use Rattle.jobs.proofs.Taken.{Taken, taken-job}
-use Rattle.planfile.specs.PlanFile.{planRead, gradeInputs}
+use Rattle.planfile.specs.PlanFile.{planRead}
 use Rattle.planfile.proofs.Reading.{read-length, read-next}
 use Rattle.grading.specs.declared.Graded.{Graded}
 use Rattle.grading.specs.Inner.{tellsAt, tells, toldGrade, roomGrade}

@@ -7,8 +7,8 @@ use mathlib.Core.List.{List, [], _∷_, _++_, append-nil}
 use native.Mathlib.Omega.{arith}
 use native.Mathlib.Numerals.{add-one}
 use lib.Dec.{T, eqb}
-use lib.ListN.{length, getD, take, drop, set, length-set}
-use lib.Seq.{ext-getD, getD-set-same, getD-set-other}
+use lib.ListN.{length, getD, drop, set, length-set}
+use lib.Seq.{ext-getD, getD-set-same}
 use borrow.Author.Tests.{ne-eqb, eq-eqb}
 use Rattle.bound.specs.declared.Bound.{Bound}
 use Rattle.bound.specs.Order.{le}
@@ -30,7 +30,7 @@ use Rattle.parts.proofs.Front.{Front, front-next, front-end}
 use Rattle.planfile.specs.PlanFile.{planRead}
 use Rattle.planfile.proofs.Reading.{read-length, read-first, read-next}
 use Rattle.grading.specs.declared.Graded.{Graded}
-use Rattle.grading.specs.Inner.{tellsAt, tells}
+use Rattle.grading.specs.Inner.{tellsAt}
 use Rattle.grading.specs.Answers.{gradeOf}
 
 -- One comparison more.

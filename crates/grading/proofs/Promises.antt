@@ -1,16 +1,16 @@
 -- What a caller may read off a grade: who is accepted, what best and valid mean, and what our own files get.
 -- Assumes nothing.
 use Prim.Native.Nat.{ℕ, _≤_}
-use mathlib.Core.Path.{_≡_, refl, sym, ap, subst, _∙_}
+use mathlib.Core.Path.{_≡_, refl, sym, ap, _∙_}
 use mathlib.Core.Bool.{Bool, true, false, cond}
-use mathlib.Core.List.{List, [], _∷_, _++_, map, List·Memᴰ}
+use mathlib.Core.List.{List, [], _∷_, _++_, List·Memᴰ}
 use mathlib.Core.Logic.{_≢_, _↔_}
 use native.Mathlib.Omega.{arith}
 use native.Mathlib.Decide.{decLe}
 use lib.Dec.{eqb}
 use lib.ListN.{length, drop}
 use Rattle.bound.specs.Order.{_≼_, _≺_}
-use Rattle.chain.specs.Job.{Job, Valid, processors, Partition, bottleneck}
+use Rattle.chain.specs.Job.{Job, Valid, Partition, bottleneck}
 use Rattle.chain.specs.Plan.{planOf}
 use Rattle.chain.specs.Grade.{unbeaten}
 use Rattle.chain.specs.Refusal.{Test, separatorsOf, speedsTest, weightsTest, processorsTest, tasksTest, lengthTest, planLengthTest, joinedTest, trueTest, firstRefusal, FirstFailing, jobTests, planTests, callTests, refusal}
@@ -18,9 +18,9 @@ use Rattle.chain.proofs.Tests.{T-of, T-true}
 use Rattle.chain.proofs.Parts.{valid-proper, valid-plannable}
 use Rattle.chain.proofs.Demand.{plan-of-best}
 use Rattle.chain.proofs.Grade.{unbeaten-exactly, plan-unbeaten, beaten-exactly}
-use Rattle.chain.proofs.Refusals.{Numbered, numbered-nil, numbered-cons, numbered-append, job-numbered, plan-numbered, plan-accepted, job-accepted, append-accepted, others-decide, gives, given-number, numbers-append, numbers-behind, first-refusal-same}
+use Rattle.chain.proofs.Refusals.{Numbered, numbered-nil, numbered-cons, job-numbered, plan-accepted, job-accepted, append-accepted, others-decide, gives, given-number, numbers-append, numbers-behind, first-refusal-same}
 use Rattle.fields.specs.Field.{Bytes}
-use Rattle.refusals.specs.Answers.{Said, accepting, alone, saidBy, lentAfter}
+use Rattle.refusals.specs.Answers.{Said, accepting, alone, saidBy}
 use Rattle.refusals.proofs.Answering.{said-choice, number-of}
 use Rattle.refusals.proofs.Tests.{length-short, length-enough}
 use Rattle.refusals.proofs.Steps.{passes}

@@ -1,7 +1,7 @@
 -- What the inner functions of grading compare and answer: a plan file's loads and speeds are held against a list of separators.
 use Prim.Native.Nat.{ℕ, suc}
 use mathlib.Core.Bool.{Bool, _&&_, cond}
-use mathlib.Core.List.{List, [], _∷_}
+use mathlib.Core.List.{List, _∷_}
 use lib.Dec.{eqb}
 use lib.ListN.{take}
 use Rattle.chain.specs.Lists.{all}

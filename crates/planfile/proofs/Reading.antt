@@ -3,13 +3,13 @@
 -- Assumes nothing.
 use Prim.Native.Nat.{ℕ, zero, suc, _+_, _*_, _≤_, _<_}
 use mathlib.Core.Path.{_≡_, refl, sym, ap, ap₂, subst, _∙_}
-use mathlib.Core.List.{List, [], _∷_, _++_, append-assoc, append-nil}
+use mathlib.Core.List.{List, [], _++_, append-nil}
 use mathlib.Core.Logic.{_↔_}
 use native.Mathlib.Omega.{arith}
-use lib.ListN.{length, getD, take, drop, length-drop}
+use lib.ListN.{length, getD, take, drop}
 use lib.Seq.{take-all, take-add, drop-drop, ext-getD}
 use Rattle.chain.specs.Lists.{tabulate}
-use Rattle.chain.specs.Job.{Job, Valid, processors, speedOf, partLoad, at, Partition}
+use Rattle.chain.specs.Job.{Job, Valid, processors, partLoad, at, Partition}
 use Rattle.chain.specs.Refusal.{PlanRecords, separatorsOf, firstRefusal, planTests}
 use Rattle.chain.proofs.Indices.{length-tabulate, at-tabulate}
 use Rattle.chain.proofs.Refusals.{Told, plan-accepted}
@@ -17,7 +17,7 @@ use Rattle.fields.specs.Field.{Bytes, fieldBytes, fieldAt}
 use Rattle.fields.proofs.Laws.{field-taken}
 use Rattle.planfile.specs.PlanFile.{planRecord, planBytesTo, planBytes, TruePlan, planRead}
 use Rattle.planfile.proofs.Records.{length-plan}
-use Rattle.planfile.proofs.Fields.{PlanReads, plan-reads}
+use Rattle.planfile.proofs.Fields.{plan-reads}
 
 -- The separators that are read, one by one.
 module _ (job : Job) (plan : PlanRecords) where

@@ -1,20 +1,19 @@
 -- Laws for the C call: the order of its tests, and the bytes.
 -- Assumes nothing.
-use Prim.Native.Nat.{ℕ, zero, suc, _+_, _-_, _≤_, _<_}
-use mathlib.Core.Path.{_≡_, refl, sym, ap, ap₂, subst, _∙_}
+use Prim.Native.Nat.{ℕ, suc, _+_, _-_, _≤_, _<_}
+use mathlib.Core.Path.{_≡_, refl, sym, ap, subst, _∙_}
 use mathlib.Core.Bool.{Bool, cond}
 use mathlib.Core.List.{List, [], _∷_, _++_}
 use mathlib.Core.Logic.{_≢_}
 use native.Mathlib.Omega.{arith}
-use lib.Dec.{leb}
 use borrow.Author.Tests.{le-leb, lt-leb}
-use lib.ListN.{length, take, drop, length-append}
+use lib.ListN.{length, take, drop}
 use Rattle.chain.specs.declared.Method.{Method}
-use Rattle.chain.specs.Job.{Job, jobOf, Valid, processors}
+use Rattle.chain.specs.Job.{Job, jobOf, processors}
 use Rattle.chain.specs.Plan.{planOf}
-use Rattle.chain.specs.Refusal.{Test, methodTest, lengthTest, firstRefusal}
-use Rattle.chain.proofs.Refusals.{numbered-nil, numbered-cons, first-refusal-append, first-refusal-before, first-decide, others-decide}
-use Rattle.jobs.specs.Parse.{speedsOf, weightsOf, jobIn, fileTests, fileRefusal}
+use Rattle.chain.specs.Refusal.{methodTest, lengthTest, firstRefusal}
+use Rattle.chain.proofs.Refusals.{numbered-nil, numbered-cons, first-decide, others-decide}
+use Rattle.jobs.specs.Parse.{jobIn, fileTests, fileRefusal}
 use Rattle.refusals.specs.Answers.{lentAfter}
 use Rattle.jobs.proofs.Calls.{file-numbered}
 use Rattle.jobs.proofs.Taken.{Taken, taken-job}

@@ -6,7 +6,7 @@ use lib.Seq.{length-take-le}
 use Rattle.chain.specs.Limits.{maxProcessors, maxTasks}
 use Rattle.texts.proofs.Laws.{put-as}
 use Rattle.listing.specs.Listing.{intake}
-use Rattle.gradeline.specs.Line.{planIntake, gradeLine}
+use Rattle.gradeline.specs.Line.{gradeLine}
 use Rattle.gradeline.proofs.Laws.{job-whole}
 use borrow.Author.Needs.{needs}
 use Rattle.gradeline.proofs.put_grade.Statement.{statement}

@@ -5,8 +5,7 @@ use native.Mathlib.Omega.{arith}
 use lib.Seq.{length-take-le}
 use Rattle.chain.specs.Limits.{maxProcessors, maxTasks}
 use Rattle.texts.proofs.Laws.{put-as}
-use Rattle.listing.specs.Listing.{intake}
-use Rattle.gradeline.specs.Line.{planIntake, gradeLine}
+use Rattle.gradeline.specs.Line.{planIntake}
 use Rattle.gradeline.proofs.Laws.{plan-whole}
 use borrow.Author.Needs.{needs}
 use Rattle.gradeline.proofs.put_plan_taken.Statement.{statement}

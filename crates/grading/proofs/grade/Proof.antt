@@ -1,16 +1,12 @@
 -- `grade` meets its contract: the job, then the plan file.
 -- Assumes nothing.
 use mathlib.Core.Path.{sym, _∙_}
-use Rattle.chain.specs.Job.{Job, jobOf}
+use Rattle.chain.specs.Job.{jobOf}
 use Rattle.chain.proofs.Refusals.{job-accepted}
 use Rattle.grading.proofs.Answering.{lists-refused, lists-graded}
 use borrow.Author.Needs.{needs}
 use Rattle.grading.proofs.grade.Statement.{statement}
 use Rattle.grading.proofs.grade.Tie as tie
-use Rattle.grading.proofs.grade.Reads as reads
-use Rattle.grading.proofs.grade.Lts as lts
-use Rattle.grading.proofs.grade_in.Reads as grade-in-reads
-use Rattle.refusals.proofs.test_job.Reads as test-job-reads
 
 test-job-requires : tie.Need-test-job-requires
 test-job-requires c κs = search needs

@@ -1,9 +1,9 @@
 -- `grade_files` meets its contract: the job file, then the plan file.
 -- Assumes nothing.
 use Prim.Native.Nat.{zero}
-use mathlib.Core.Path.{sym, _∙_}
+use mathlib.Core.Path.{sym}
 use native.Mathlib.Omega.{arith}
-use lib.ListN.{length, replicate, length-replicate}
+use lib.ListN.{replicate, length-replicate}
 use lib.Seq.{length-take-le}
 use Rattle.chain.specs.Limits.{maxProcessors, maxTasks}
 use Rattle.jobs.proofs.Taken.{read-taken, read-rejected, taken-valid}
@@ -11,10 +11,6 @@ use Rattle.grading.proofs.Answering.{files-refused, files-graded}
 use borrow.Author.Needs.{needs}
 use Rattle.grading.proofs.grade_files.Statement.{statement}
 use Rattle.grading.proofs.grade_files.Tie as tie
-use Rattle.grading.proofs.grade_files.Reads as reads
-use Rattle.grading.proofs.grade_files.Lts as lts
-use Rattle.grading.proofs.grade_read.Reads as grade-read-reads
-use Rattle.jobs.proofs.read_job.Reads as read-job-reads
 
 slice-aggregate-read-job : tie.Need-slice-aggregate-read-job
 slice-aggregate-read-job c = search needs

@@ -1,19 +1,13 @@
 -- `grade_in` meets its contract: the length, the separators, the records.
 -- Assumes nothing.
-use mathlib.Core.Path.{sym, _∙_}
 use native.Mathlib.Omega.{arith}
 use Rattle.chain.specs.Limits.{maxProcessors}
-use Rattle.chain.specs.Job.{Job, jobOf}
+use Rattle.chain.specs.Job.{jobOf}
 use Rattle.grading.proofs.Answering.{grade-length, grade-gap, grade-no-division, front-division, grade-told}
 use borrow.Author.Tests.{not-true, not-false}
 use borrow.Author.Needs.{needs}
 use Rattle.grading.proofs.grade_in.Statement.{statement}
 use Rattle.grading.proofs.grade_in.Tie as tie
-use Rattle.grading.proofs.grade_in.Reads as reads
-use Rattle.grading.proofs.grade_in.Lts as lts
-use Rattle.grading.proofs.grade_told.Reads as grade-told-reads
-use Rattle.grading.proofs.take_separators.Reads as take-separators-reads
-use Rattle.refusals.proofs.is_partition.Reads as is-partition-reads
 
 mul-if1 : tie.Need-mul-if1
 unfolding maxProcessors

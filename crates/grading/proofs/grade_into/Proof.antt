@@ -5,9 +5,6 @@ use Rattle.grading.proofs.Answering.{into-refused, best-room, valid-roo
 use borrow.Author.Needs.{needs}
 use Rattle.grading.proofs.grade_into.Statement.{statement}
 use Rattle.grading.proofs.grade_into.Tie as tie
-use Rattle.grading.proofs.grade_into.Reads as reads
-use Rattle.grading.proofs.grade_into.Lts as lts
-use Rattle.grading.proofs.grade_files.Reads as grade-files-reads
 
 grade-files-requires : tie.Need-grade-files-requires
 grade-files-requires c κs = search needs

@@ -3,17 +3,11 @@
 use Prim.Native.Nat.{ℕ, suc}
 use mathlib.Core.List.{List}
 use lib.ListN.{length, take}
-use Rattle.chain.specs.Job.{Job, jobOf}
 use Rattle.parts.proofs.Measure.{front-length}
 use Rattle.grading.proofs.Laws.{measured-products, graded-best, graded-valid}
 use borrow.Author.Needs.{needs}
 use Rattle.grading.proofs.grade_partition.Statement.{statement}
 use Rattle.grading.proofs.grade_partition.Tie as tie
-use Rattle.grading.proofs.grade_partition.Reads as reads
-use Rattle.grading.proofs.grade_partition.Lts as lts
-use Rattle.bisection.proofs.bisection_in.Reads as bisection-in-reads
-use Rattle.bound.proofs.Bound.at_most.Reads as at-most-reads
-use Rattle.parts.proofs.measure_in.Reads as measure-in-reads
 
 -- The separators that are graded.
 abbrev front : tie.Start → List ℕ

@@ -1,14 +1,10 @@
 -- `grade_read` meets its contract: the buffer, then the plan file.
 -- Assumes nothing.
-use Rattle.chain.specs.Job.{Job, jobOf}
+use Rattle.chain.specs.Job.{jobOf}
 use Rattle.grading.proofs.Answering.{room-refused, room-graded}
 use borrow.Author.Needs.{needs}
 use Rattle.grading.proofs.grade_read.Statement.{statement}
 use Rattle.grading.proofs.grade_read.Tie as tie
-use Rattle.grading.proofs.grade_read.Reads as reads
-use Rattle.grading.proofs.grade_read.Lts as lts
-use Rattle.grading.proofs.grade_in.Reads as grade-in-reads
-use Rattle.refusals.proofs.test_length.Reads as test-length-reads
 
 test-length-requires : tie.Need-test-length-requires
 test-length-requires c κs = search needs

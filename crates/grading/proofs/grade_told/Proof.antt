@@ -9,11 +9,6 @@ use borrow.Author.Tests.{not-true, not-false}
 use borrow.Author.Needs.{needs}
 use Rattle.grading.proofs.grade_told.Statement.{statement}
 use Rattle.grading.proofs.grade_told.Tie as tie
-use Rattle.grading.proofs.grade_told.Reads as reads
-use Rattle.grading.proofs.grade_told.Lts as lts
-use Rattle.grading.proofs.grade_partition.Reads as grade-partition-reads
-use Rattle.grading.proofs.tells_all.Reads as tells-all-reads
-use Rattle.parts.proofs.prefix_sums.Reads as prefix-sums-reads
 
 slice-aggregate-prefix-sums : tie.Need-slice-aggregate-prefix-sums
 slice-aggregate-prefix-sums c = search needs

@@ -1,17 +1,13 @@
 -- `take_separators` meets its contract: after p turns the first p + 1 separators are taken.
 -- Assumes nothing.
-use Prim.Native.Nat.{_-_, _≤_}
-use mathlib.Core.Path.{_≡_, refl}
+use Prim.Native.Nat.{_-_}
+use mathlib.Core.Path.{refl}
 use native.Mathlib.Omega.{arith}
 use lib.ListN.{length}
 use Rattle.chain.specs.Job.{jobOf}
 use Rattle.grading.proofs.Laws.{Taking, taking-none, taking-next, taking-length, taken-all}
 use Rattle.grading.proofs.take_separators.Statement.{statement}
 use Rattle.grading.proofs.take_separators.Tie as tie
-use Rattle.grading.proofs.take_separators.Reads as reads
-use Rattle.grading.proofs.take_separators.Lts as lts
-use Rattle.fields.proofs.get_field.Reads as get-field-reads
-use Rattle.grading.proofs.and_same.Reads as and-same-reads
 
 abbrev Inv-loop : tie.InvT-loop
 Inv-loop speeds weights plan separators₀ all₀ p₀ separators all p = Taking (jobOf speeds weights) plan separators₀ separators all p

@@ -1,7 +1,7 @@
 -- `tells_all` meets its contract: after p turns the first p records tell what is so.
 -- Assumes nothing.
 use Prim.Native.Nat.{_-_, _≤_}
-use mathlib.Core.Path.{_≡_, refl, sym, ap, _∙_}
+use mathlib.Core.Path.{_≡_, sym, ap, _∙_}
 use mathlib.Core.Bool.{true}
 use native.Mathlib.Omega.{arith}
 use lib.ListN.{length}
@@ -12,9 +12,6 @@ use Rattle.grading.proofs.Laws.{all-none, all-more, all-ends}
 use borrow.Author.Tests.{not-true, not-false}
 use Rattle.grading.proofs.tells_all.Statement.{statement}
 use Rattle.grading.proofs.tells_all.Tie as tie
-use Rattle.grading.proofs.tells_all.Reads as reads
-use Rattle.grading.proofs.tells_all.Lts as lts
-use Rattle.grading.proofs.tells_at.Reads as tells-at-reads
 
 abbrev Inv-loop : tie.InvT-loop
 Inv-loop speeds weights sums separators plan p₀ p = (p ≤ length speeds) × (all (tellsAt (jobOf speeds weights) separators plan) p ≡ true)
