@@ -2,7 +2,8 @@
 # Every quote in a comment of crates/ stands in docs/SCOPE.md: behind 'Scope 3.4:' in that sentence, behind 'Refusal 7:' in that row of
 # the table, else anywhere on the page. ' .. ' in a quote leaves words out. The page's worked jobs have the figures of their listings in
 # examples/, which are those that the program writes (tests/strips.sh) and that the prover computes (crates/listing/proofs/Examples.antt);
-# so have README.md, docs/strips.1, docs/WHY.md (the imbalance) and examples/README.md (bottlenecks and imbalances).
+# so have README.md, docs/strips.1, docs/WHY.md (the imbalance of A, the plan of D) and examples/README.md (bottlenecks and imbalances). The bytes
+# that docs/FORMATS.md shows are those of the example files.
 set -eu
 cd "$(dirname "$0")/.."
 find crates -name '*.antt' -o -name '*.rt' | grep -v /declared/ | LC_ALL=C sort | xargs awk '
@@ -93,6 +94,14 @@ for text in examples/*.txt; do
     same "examples/README.md, $job" "$(awk -F ' *[|] *' -v job="\`$job\`" '$2 == job { print $5, $6 }' examples/README.md)" \
         "$(awk 'NR == 2 { print $4 "/" $5, $6 }' "$text")"
 done
+same docs/WHY.md "$(tr '\n' ' ' <docs/WHY.md | sed -n 's/.*our plan is \([0-9 ]*\), and [0-9 ]* and [0-9 ]* are best as well.*/\1/p')" \
+    "$(awk 'NR == 2 { print $7, $8, $9 }' examples/D.txt)"
+# The bytes that FORMATS.md shows of job A and of its plan, one dump behind the other.
+shown() { awk -v which="$1" '/^    [0-9a-f]+  [0-9a-f][0-9a-f] / { if ($1 == "00000000") dump++
+    if (dump == which) for (i = 2; i <= NF && $i ~ /^[0-9a-f][0-9a-f]$/; i++) printf "%s ", $i }' docs/FORMATS.md; }
+held() { od -An -v -tx1 "$1" | tr '\n' ' ' | sed 's/  */ /g;s/^ //'; }
+same "docs/FORMATS.md, job A" "$(shown 1)" "$(held examples/A.job)"
+same "docs/FORMATS.md, the plan of A" "$(shown 2)" "$(held examples/A-best.plan)"
 # The listings that the prover computes from the definitions, with \n for a line feed, are those of the examples.
 for job in A B C D E; do
     text=$(awk '{ printf "%s\\n", $0 }' "examples/$job.txt")
