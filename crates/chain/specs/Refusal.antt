@@ -1,4 +1,4 @@
--- The refusals that lists can cause, by number, and the order of their tests. Scope, section 8.
+-- The refusals that lists and a plan file can cause, by number, and the order of their tests. Scope, section 8.
 use Prim.Native.Nat.{ℕ, suc, _+_}
 use mathlib.Core.Path.{_≡_}
 use mathlib.Core.Bool.{Bool, true, false, _&&_, cond}

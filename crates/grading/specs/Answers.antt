@@ -1,4 +1,5 @@
--- What grading answers, on the whole input, refusals included. Scope, section 14.
+-- What grading answers, on the whole input, refusals included. Scope 14.1: "A plan file of any maker is read beside its job and is
+-- graded, or it is refused."
 use Prim.Native.Nat.{ℕ}
 use mathlib.Core.Bool.{cond}
 use mathlib.Core.List.{List, [], _∷_}
