@@ -13,9 +13,9 @@ maxWeight = 1000000
 unfoldable pub maxLoad : ℕ
 maxLoad = maxTasks * maxWeight
 
--- Scope 1.3: "P machines, 1 to 256"
+-- Scope 1.3: "P machines, 1 to 96"
 unfoldable pub maxProcessors : ℕ
-maxProcessors = 256
+maxProcessors = 96
 
 -- Scope 1.4: "a speed e, 1 to 10,000"
 unfoldable pub maxSpeed : ℕ

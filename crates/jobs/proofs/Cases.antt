@@ -31,7 +31,7 @@ abbrev pub taskRecord : ℕ → List ℕ
 taskRecord v = recordBytes 2 v
 
 -- Scope 11.4: "Speed 10,000 is taken; speeds 0 and 10,001 are refused with 5." Scope 11.5: "Weight 1,000,001 is refused with 6." Scope 11.6:
--- "An empty file and 257 machines are refused with 7." Scope 11.8: "A file of 7 bytes is refused with 2."
+-- "An empty file and 97 machines are refused with 7." Scope 11.8: "A file of 7 bytes is refused with 2."
 unfoldable pub files : List Case
 unfolding recordBytes fieldBytes recordsBytes
 files =
@@ -65,7 +65,7 @@ files-give = refl
 pub lists-give :
     (firstRefusal (jobTests (jobOf (0 ∷ []) (1000001 ∷ []))) ≡ 5) × (firstRefusal (jobTests (jobOf [] (1000001 ∷ []))) ≡ 6)
     × (firstRefusal (jobTests (jobOf [] (replicate 2049 0))) ≡ 7) × (firstRefusal (jobTests (jobOf (1 ∷ []) (replicate 2049 0))) ≡ 8)
-    × (firstRefusal (jobTests (jobOf (replicate 257 1) [])) ≡ 7)
+    × (firstRefusal (jobTests (jobOf (replicate 97 1) [])) ≡ 7)
 unfolding firstRefusal jobTests speedsTest weightsTest processorsTest tasksTest eachBetween maxTasks maxWeight maxProcessors maxSpeed
 lists-give = (refl, refl, refl, refl, refl)
 

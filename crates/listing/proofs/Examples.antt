@@ -50,7 +50,7 @@ pub listings : lists fileA "tiles 3 machines 2 total 12\n1 2 3 11 3 223 0 1 3\n2
 unfolding le greater lesser leastTo roundedUp maxTasks maxWeight maxProcessors maxSpeed sum greatestOf leastOf tabulate sumTo all greatestFrom smallestFrom smallestLeast digitsWithin digits speedOf partOf partWeight partLoad slowestOf partBound within offer boundAt bottleneckTo bottleneck ideal reach separator walk fits bid nextBid miss nearest heuristic startOf candidate crossingOf lesserAt tableValue crossing movesTo moves bidding firstEnds nextEnds ends meet fitsAt firstFit startOn candidateOn leastCandidate emptyFits nextRange rangeAfter single settled spread onward partitions leastBound leastBottleneck planOf difference allowance biddingFailures bisectionRounds nicolTrials nicolStop countBy imbalance processorsTest tasksTest firstRefusal fieldBytes fieldAt numberOf recordBytes recordsBytes jobBytes byteAt kindAt valueAt isKind taskBefore multipleTest blank formTest orderTest speedTest weightTest recordTests recordsTests valuesOf speedsOf weightsOf fileTests fileRefusal planFigures text width decimal field fields labelled countsLine figuresText planLine methodLine jobListing refusalLine listingOf intake listing
 listings = (refl, refl, refl, refl, refl, refl, refl)
 
--- Scope 8.7: "22,176 bytes for a listing"
-pub room : listingRoom ≡ 22176
+-- Scope 8.7: "8,736 bytes for a listing"
+pub room : listingRoom ≡ 8736
 unfolding listingRoom maxProcessors
 room = refl

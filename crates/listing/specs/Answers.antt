@@ -8,7 +8,7 @@ use Rattle.refusals.specs.declared.Written.{Written}
 use Rattle.listing.specs.Listing.{listing}
 use Rattle.listing.specs.Room.{listingRoom}
 
--- The one test is that of the buffer. Scope 8.7: "22,176 bytes for a listing", enough for every one. The file is not refused: its
+-- The one test is that of the buffer. Scope 8.7: "8,736 bytes for a listing", enough for every one. The file is not refused: its
 -- number stands in the listing.
 unfoldable pub listTests : ℕ → List Test
 listTests lent = lengthTest listingRoom lent ∷ []

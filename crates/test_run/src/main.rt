@@ -125,8 +125,8 @@ fn two_records() {
 
 // With no separators, so that counts that pass give 9.
 fn counts() {
-    measure(11, &[1; MAX_PROCESSORS], &[], &[]); // 256 machines pass
-    measure(12, &[1; MAX_PROCESSORS + 1], &[], &[]); // 257 machines: 7
+    measure(11, &[1; MAX_PROCESSORS], &[], &[]); // the most machines pass
+    measure(12, &[1; MAX_PROCESSORS + 1], &[], &[]); // one more: 7
     measure(13, &[1], &[0; MAX_TASKS], &[]); // 2,048 tiles pass
     measure(14, &[1], &[0; MAX_TASKS + 1], &[]); // 2,049 tiles: 8
 }
