@@ -14,6 +14,7 @@ pub mod Heuristic
 pub mod Ideal
 pub mod Imbalance
 pub mod Indices
+pub mod Limits
 pub mod Marked
 pub mod NextBid
 pub mod Parts

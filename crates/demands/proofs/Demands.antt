@@ -70,7 +70,7 @@ says (PlanJob file m plan) = said-nothing (firstRefusal (hostTests file m (lengt
 says (GradePlan file plan grade) = said-nothing (firstRefusal (gradeTests file plan (length grade ∷ [])))
 
 -- its number is then that of the tests.
-tested : (call : Call) → number call ≡ firstRefusal (tests call)
+pub tested : (call : Call) → number call ≡ firstRefusal (tests call)
 tested call = number-of (values call) (says call)
 
 -- The numbers of tests one after the other.

@@ -1,3 +1,4 @@
 pub mod Call
 pub mod Demands
 pub mod Grades
+pub mod Limit

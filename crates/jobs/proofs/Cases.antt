@@ -1,4 +1,4 @@
--- The scope's numbers for small files and for lists (11.4 to 11.8), by computing the definitions. The long files are run by a program.
+-- The scope's numbers for small files (11.4 to 11.6, 11.8), by computing the definitions. The long files are run by a program.
 -- Assumes nothing.
 use Prim.Native.Nat.{ℕ}
 use mathlib.Core.Path.{_≡_, refl}
@@ -7,8 +7,7 @@ use mathlib.Core.List.{List, [], _∷_, _++_}
 use lib.Dec.{eqb}
 use lib.ListN.{replicate}
 use Rattle.chain.specs.Limits.{maxTasks, maxWeight, maxProcessors, maxSpeed}
-use Rattle.chain.specs.Job.{jobOf}
-use Rattle.chain.specs.Refusal.{eachBetween, speedsTest, weightsTest, processorsTest, tasksTest, lengthTest, firstRefusal, jobTests}
+use Rattle.chain.specs.Refusal.{processorsTest, tasksTest, lengthTest, firstRefusal}
 use Rattle.fields.specs.Field.{fieldBytes, fieldAt}
 use Rattle.jobs.specs.JobFile.{recordBytes, recordsBytes}
 use Rattle.jobs.specs.Parse.{byteAt, kindAt, valueAt, isKind, taskBefore, multipleTest, blank, formTest, orderTest, speedTest, weightTest, recordTests, recordsTests, valuesOf, speedsOf, weightsOf, fileTests, fileRefusal}
@@ -30,8 +29,8 @@ processorRecord v = recordBytes 1 v
 abbrev pub taskRecord : ℕ → List ℕ
 taskRecord v = recordBytes 2 v
 
--- Scope 11.4: "Speed 10,000 is taken; speeds 0 and 10,001 are refused with 5." Scope 11.5: "Weight 1,000,001 is refused with 6." Scope 11.6:
--- "An empty file and 97 machines are refused with 7." Scope 11.8: "A file of 7 bytes is refused with 2."
+-- Scope 11.4: "Speed 10,000 is taken; speeds 0 and 10,001 are refused with 5." Scope 11.5: "Weight 1,000,000 is taken; weight 1,000,001 is
+-- refused with 6." Scope 11.6: "96 machines are taken; none and 97 are refused with 7". Scope 11.8: "A file of 7 bytes is refused with 2."
 unfoldable pub files : List Case
 unfolding recordBytes fieldBytes recordsBytes
 files =
@@ -43,6 +42,8 @@ files =
     ∷ ((processorRecord 1 ++ taskRecord 1000000) gives 0)
     ∷ ((processorRecord 1 ++ taskRecord 1000001) gives 6)
     ∷ (taskRecord 5 gives 7)
+    ∷ (recordsBytes 1 (replicate 96 1) gives 0)
+    ∷ (recordsBytes 1 (replicate 97 1) gives 7)
     ∷ (recordBytes 3 1 gives 3)
     ∷ ((1 ∷ 0 ∷ 0 ∷ 1 ∷ 1 ∷ 0 ∷ 0 ∷ 0 ∷ []) gives 3)
     ∷ ((taskRecord 5 ++ processorRecord 1) gives 4)
@@ -60,14 +61,6 @@ everyGives (c ∷ cs) = eqb (fileRefusal (c .file)) (c .number) && everyGives cs
 pub files-give : everyGives files ≡ true
 unfolding files everyGives fileRefusal fileTests firstRefusal multipleTest recordsTests recordTests formTest orderTest speedTest weightTest valuesOf speedsOf weightsOf processorsTest tasksTest byteAt kindAt valueAt fieldAt isKind taskBefore blank maxTasks maxWeight maxProcessors maxSpeed
 files-give = refl
-
--- By lists: all speeds, all weights, then the counts. Scope 11.7: "2,049 tiles are refused with 8."
-pub lists-give :
-    (firstRefusal (jobTests (jobOf (0 ∷ []) (1000001 ∷ []))) ≡ 5) × (firstRefusal (jobTests (jobOf [] (1000001 ∷ []))) ≡ 6)
-    × (firstRefusal (jobTests (jobOf [] (replicate 2049 0))) ≡ 7) × (firstRefusal (jobTests (jobOf (1 ∷ []) (replicate 2049 0))) ≡ 8)
-    × (firstRefusal (jobTests (jobOf (replicate 97 1) [])) ≡ 7)
-unfolding firstRefusal jobTests speedsTest weightsTest processorsTest tasksTest eachBetween maxTasks maxWeight maxProcessors maxSpeed
-lists-give = (refl, refl, refl, refl, refl)
 
 -- 9 comes last: a file that gives 7 gives it with lists of no length too.
 pub lent-gives :

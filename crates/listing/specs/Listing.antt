@@ -50,9 +50,13 @@ jobListing job =
 unfoldable pub listingOf : ℕ → List ℕ → List ℕ
 listingOf number file = cond (eqb number 0) (jobListing (jobIn file)) (refusalLine number)
 
--- Scope 9.6: "at most one record more than the longest job has"
+-- Scope 9.6: "at most one record more than the longest job has": with so many machines at most,
+abbrev pub intakeFor : ℕ → ℕ
+intakeFor limit = recordSize * (limit + maxTasks + 1)
+
+-- and with ours.
 unfoldable pub intake : ℕ
-intake = recordSize * (maxProcessors + maxTasks + 1)
+intake = intakeFor maxProcessors
 
 -- The listing of a file. Scope 9.6: "judges a longer file by those bytes".
 unfoldable pub listing : List ℕ → List ℕ

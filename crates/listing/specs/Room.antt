@@ -15,6 +15,11 @@ planRoom separators = figuresRoom + fieldRoom * separators
 abbrev pub countsRoom : ℕ
 countsRoom = 21 + 3 * fieldRoom
 
--- The whole listing: the first line, and one for each of the four methods. The line of a refusal is shorter.
+-- The whole listing: the first line, and one for each of the four methods. The line of a refusal is shorter. With so many machines at
+-- most,
+abbrev pub roomFor : ℕ → ℕ
+roomFor limit = countsRoom + 4 * planRoom (limit + 1)
+
+-- and with ours.
 unfoldable pub listingRoom : ℕ
-listingRoom = countsRoom + 4 * planRoom (maxProcessors + 1)
+listingRoom = roomFor maxProcessors

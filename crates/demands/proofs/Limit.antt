@@ -1,0 +1,166 @@
+-- A job is answered alike with every limit of machines that it is within: `any-limit`.
+-- Assumes nothing.
+use Prim.Native.Nat.{ℕ, zero, suc, _+_, _*_, _/_, _%_, _≤_}
+use mathlib.Core.Path.{_≡_, refl, sym, ap, ap₂, subst, _∙_}
+use mathlib.Core.Bool.{Bool, cond, _&&_}
+use mathlib.Core.List.{List, [], _∷_, _++_, map, map-append}
+use mathlib.Core.Logic.{_↔_}
+use native.Mathlib.Omega.{arith}
+use lib.Dec.{leb, eqb}
+use lib.ListN.{length, take}
+use lib.Seq.{take-all}
+use borrow.Author.Tests.{le-leb}
+use Rattle.chain.specs.Limits.{maxProcessors, maxTasks}
+use Rattle.chain.specs.Job.{jobOf}
+use Rattle.chain.specs.Plan.{Best}
+use Rattle.chain.specs.Refusal.{Test, test, between, methodTest, speedsTest, weightsTest, processorsTest, tasksTest, lengthTest, boundTest, partitionTest, planLengthTest, joinedTest, trueTest, firstRefusal, jobTests, planTests, callTests, refusal}
+use Rattle.chain.proofs.Best.{best-unique}
+use Rattle.refusals.specs.Inputs.{planNeeded}
+use Rattle.refusals.specs.Answers.{saidBy}
+use Rattle.jobs.specs.Parse.{multipleTest, formTest, orderTest, speedTest, weightTest, recordTests, recordsTests, recordCount, speedsOf, weightsOf, jobIn, fileTests, fileRefusal}
+use Rattle.jobs.specs.Answers.{readTests, readRefusal, readSpeeds, readWeights, writeBytes}
+use Rattle.jobs.specs.Inner.{Counted}
+use Rattle.jobs.proofs.Reading.{accepted-multiple, accepted-counts, file-early}
+use Rattle.jobs.proofs.RoundTrip.{accepted-valid}
+use Rattle.calls.specs.Answers.{probeWrites, heuristicWrites}
+use Rattle.planfile.specs.PlanFile.{planRead}
+use Rattle.planfile.specs.Answers.{writePlanBytes}
+use Rattle.grading.specs.Files.{gradeTests, gradeRefusal, hostGrade, hostGrades}
+use Rattle.planner.specs.Answers.{planRefusal, planWrites}
+use Rattle.planner.specs.HostCall.{hostFileTests, hostTests, hostAnswer, bytesAfter, hostWrites}
+use Rattle.listing.specs.Room.{roomFor, listingRoom}
+use Rattle.listing.specs.Listing.{listingOf, intakeFor, intake, listing}
+use Rattle.listing.specs.Answers.{listTests, listRefusal, listWrites}
+use Rattle.listing.proofs.Listings.{listed-whole}
+use Rattle.demands.specs.Call.{Call, TestJob, ReadJob, WriteJob, Measure, Probe, Heuristic, Plan, WritePlan, Grade, ListJob, PlanJob, GradePlan, values, tests, Leaves}
+use Rattle.demands.specs.Demands.{number, Accepts, front}
+use Rattle.demands.specs.Limit.{processorsIn, limited, limitedTo, numberWith, LeavesBy, Counts, listingWith, Alike, AnyLimit}
+use Rattle.demands.proofs.Demands.{tested, demand-one, demand-three}
+
+-- Tests that are within both limits are the same tests.
+limits-same : {l m p : ℕ} → p ≤ l → p ≤ m → (ts : List Test) → limitedTo l p ts ≡ limitedTo m p ts
+limits-same {l} {m} {p} h k ts =
+    ap (λ (b : Bool). map (λ t. cond (eqb (t .number) 7) (test 7 (leb 1 p && b)) t) ts) (le-leb p l h ∙ sym (le-leb p m k))
+
+-- The tests of records are as they are with every limit,
+records-limited : (file : List ℕ) (l p n : ℕ) → limitedTo l p (recordsTests file n) ≡ recordsTests file n
+unfolding recordsTests recordTests formTest orderTest speedTest weightTest
+records-limited file l p zero = refl
+records-limited file l p (suc n) =
+    map-append (limited l p) (recordsTests file n) (recordTests file n)
+    ∙ ap (λ (ts : List Test). ts ++ recordTests file n) (records-limited file l p n)
+
+-- with our own those of a file,
+file-ours : (file : List ℕ) → limitedTo maxProcessors (length (speedsOf file)) (fileTests file) ≡ fileTests file
+unfolding fileTests multipleTest processorsTest tasksTest
+file-ours file =
+    let p = length (speedsOf file) in
+    let n = recordCount file in
+    let counts = processorsTest (speedsOf file) ∷ tasksTest (weightsOf file) ∷ [] in
+    ap (λ (ts : List Test). multipleTest file ∷ ts)
+    (map-append (limited maxProcessors p) (recordsTests file n) counts
+    ∙ ap (λ (ts : List Test). ts ++ counts) (records-limited file maxProcessors p n))
+
+-- with others behind them,
+file-and : (file : List ℕ) (ts : List Test) → limitedTo maxProcessors (length (speedsOf file)) ts ≡ ts
+    → limitedTo maxProcessors (length (speedsOf file)) (fileTests file ++ ts) ≡ fileTests file ++ ts
+file-and file ts e =
+    map-append (limited maxProcessors (length (speedsOf file))) (fileTests file) ts ∙ ap₂ (λ (us vs : List Test). us ++ vs) (file-ours file) e
+
+-- and those of every call.
+call-ours : (call : Call) → limitedTo maxProcessors (processorsIn call) (tests call) ≡ tests call
+unfolding readTests hostTests hostFileTests listTests gradeTests planTests callTests jobTests methodTest speedsTest weightsTest processorsTest tasksTest lengthTest boundTest partitionTest planLengthTest joinedTest trueTest
+call-ours (TestJob es ws) = refl
+call-ours (ReadJob file es ws) =
+    file-and file (lengthTest (length (weightsOf file)) (length ws) ∷ lengthTest (length (speedsOf file)) (length es) ∷ []) refl
+call-ours (WriteJob es ws file) = refl
+call-ours (Measure es ws s) = refl
+call-ours (Probe es ws B s) = refl
+call-ours (Heuristic es ws s) = refl
+call-ours (Plan m es ws s t) = refl
+call-ours (WritePlan es ws s plan) = refl
+call-ours (Grade es ws plan) = refl
+call-ours (ListJob file out) = refl
+call-ours (PlanJob file m plan) =
+    ap (λ (ts : List Test). methodTest m ∷ ts) (file-and file (lengthTest (planNeeded (jobIn file)) (length plan) ∷ []) refl)
+call-ours (GradePlan file plan grade) =
+    file-and file (lengthTest 1 (length grade) ∷ planTests (jobIn file) (planRead (jobIn file) plan)) refl
+
+-- What a call leaves is by the number that it gives.
+left-by : (call : Call) (left : List (List ℕ)) → LeavesBy (firstRefusal (tests call)) call left ↔ Leaves call left
+unfolding readRefusal refusal planRefusal hostAnswer listRefusal hostGrade gradeRefusal readSpeeds readWeights writeBytes probeWrites heuristicWrites planWrites writePlanBytes listWrites bytesAfter hostWrites hostGrades
+left-by (TestJob es ws) left = (λ e. e, λ e. e)
+left-by (ReadJob file es ws) left = (λ e. e, λ e. e)
+left-by (WriteJob es ws file) left = (λ e. e, λ e. e)
+left-by (Measure es ws s) left = (λ e. e, λ e. e)
+left-by (Probe es ws B s) left = (λ e. e, λ e. e)
+left-by (Heuristic es ws s) left = (λ e. e, λ e. e)
+left-by (Plan m es ws s t) left = (λ e. e, λ e. e)
+left-by (WritePlan es ws s plan) left = (λ e. e, λ e. e)
+left-by (Grade es ws plan) left = (λ e. e, λ e. e)
+left-by (ListJob file out) left = (λ e. e, λ e. e)
+left-by (PlanJob file m plan) left = (λ e. e, λ e. e)
+left-by (GradePlan file plan grade) left = (λ e. e, λ e. e)
+
+-- So where the number is the same all is.
+alike-by : (limit : ℕ) (call : Call) → limitedTo limit (processorsIn call) (tests call) ≡ tests call → Alike limit call
+alike-by limit call e =
+    let n : numberWith limit call ≡ firstRefusal (tests call) = ap firstRefusal e in
+    record {
+      says = ap (λ (k : ℕ). saidBy k (values call)) n ∙ sym ((demand-one call) .says);
+      leaves = λ left. subst (λ (k : ℕ). LeavesBy k call left ↔ Leaves call left) (sym n) (left-by call left);
+    }
+
+within-both : (limit : ℕ) (call : Call) → processorsIn call ≤ limit → processorsIn call ≤ maxProcessors
+    → limitedTo limit (processorsIn call) (tests call) ≡ tests call
+within-both limit call h k = limits-same {l = limit} {m = maxProcessors} h k (tests call) ∙ call-ours call
+
+kept : (limit : ℕ) (call : Call) → maxProcessors ≤ limit → processorsIn call ≤ maxProcessors → numberWith limit call ≡ 0
+    → Accepts call × Alike limit call
+kept limit call g k z =
+    let same = within-both limit call (omega arith) k in
+    (tested call ∙ ap firstRefusal (sym same) ∙ z, alike-by limit call same)
+
+-- A file that is accepted is not longer than its job.
+file-length : (file : List ℕ) → fileRefusal file ≡ 0 → length file ≡ 8 * (length (speedsOf file) + length (weightsOf file))
+file-length file e =
+    let r = file-early file e in
+    let c : Counted file (length (speedsOf file)) (length (weightsOf file)) = accepted-counts file r in
+    let m : length file % 8 ≡ 0 = accepted-multiple file r in
+    let t : length (speedsOf file) + length (weightsOf file) ≡ length file / 8 = c .together in
+    omega (arith, m, t)
+
+listed : (limit : ℕ) (file : List ℕ) → fileRefusal file ≡ 0 → length (speedsOf file) ≤ limit → listingWith limit file ≡ listing file
+unfolding intake fileRefusal
+listed limit file e h =
+    let v = accepted-valid file e in
+    let l = file-length file e in
+    ap (λ (f : List ℕ). listingOf (firstRefusal (limitedTo limit (length (speedsOf f)) (fileTests f))) f) (take-all (intakeFor limit) file (omega (arith, l, v .tasks-limit)))
+    ∙ ap (λ (ts : List Test). listingOf (firstRefusal ts) file) (limits-same {l = limit} {m = maxProcessors} h (v .processors-limit) (fileTests file) ∙ file-ours file)
+    ∙ listed-whole file (omega (arith, l, v .tasks-limit, v .processors-limit))
+
+ours-listing : (file : List ℕ) → listingWith maxProcessors file ≡ listing file
+unfolding intake listing fileRefusal
+ours-listing file =
+    let judged = take intake file in
+    ap (λ (ts : List Test). listingOf (firstRefusal ts) judged) (file-ours judged)
+
+plan : (m : ℕ) (es ws s t : List ℕ) → Accepts (Plan m es ws s t) → (d : List ℕ) → Best (jobOf es ws) d
+    → front (jobOf es ws) (planWrites (jobOf es ws) m s t) ≡ d
+plan m es ws s t e d b = best-unique (demand-three .planned m es ws s t e .best) b
+
+room : (limit : ℕ) → maxProcessors ≤ limit → listingRoom ≤ roomFor limit
+unfolding listingRoom
+room limit h = omega arith
+
+pub any-limit : AnyLimit
+any-limit =
+    record {
+      ours = λ call. alike-by maxProcessors call (call-ours call);
+      ours-listing = ours-listing;
+      alike = λ limit call c h k. alike-by limit call (within-both limit call h k);
+      kept = λ limit call g c k z. kept limit call g k z;
+      plan = plan;
+      listed = listed;
+      room = room;
+    }

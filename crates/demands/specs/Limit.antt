@@ -1,0 +1,108 @@
+-- Another limit of machines: what it would change, and that a job within both limits is answered alike. Scope, section 15.
+use Prim.Native.Nat.{ℕ, _≤_}
+use mathlib.Core.Path.{_≡_}
+use mathlib.Core.Bool.{cond}
+use mathlib.Core.List.{List, [], _∷_, map, List·Memᴰ}
+use mathlib.Core.Logic.{_↔_}
+use lib.Dec.{eqb}
+use lib.ListN.{length, take}
+use Rattle.chain.specs.Limits.{maxProcessors}
+use Rattle.chain.specs.Job.{jobOf}
+use Rattle.chain.specs.Probe as probing
+use Rattle.chain.specs.Heuristic as guessing
+use Rattle.chain.specs.Plan.{planOf, Best}
+use Rattle.chain.specs.Refusal.{Test, test, between, firstRefusal}
+use Rattle.refusals.specs.Answers.{Said, saidBy, lentAfter}
+use Rattle.jobs.specs.JobFile.{jobBytes}
+use Rattle.jobs.specs.Parse.{speedsOf, weightsOf, jobIn, fileTests, fileRefusal}
+use Rattle.planfile.specs.PlanFile.{planBytes}
+use Rattle.grading.specs.Answers.{gradedSaid, readGrade}
+use Rattle.planner.specs.Answers.{planWrites, ScratchAfter}
+use Rattle.listing.specs.Room.{roomFor, listingRoom}
+use Rattle.listing.specs.Listing.{listingOf, intakeFor, listing}
+use Rattle.demands.specs.Call.{Call, TestJob, ReadJob, WriteJob, Measure, Probe, Heuristic, Plan, WritePlan, Grade, ListJob, PlanJob, GradePlan, said, values, tests, numbers, Leaves}
+use Rattle.demands.specs.Demands.{Accepts, front}
+
+-- How many machines the job of a call has.
+abbrev pub processorsIn : Call → ℕ
+processorsIn (TestJob es ws) = length es
+processorsIn (ReadJob file es ws) = length (speedsOf file)
+processorsIn (WriteJob es ws file) = length es
+processorsIn (Measure es ws s) = length es
+processorsIn (Probe es ws B s) = length es
+processorsIn (Heuristic es ws s) = length es
+processorsIn (Plan m es ws s t) = length es
+processorsIn (WritePlan es ws s plan) = length es
+processorsIn (Grade es ws plan) = length es
+processorsIn (ListJob file out) = length (speedsOf file)
+processorsIn (PlanJob file m plan) = length (speedsOf file)
+processorsIn (GradePlan file plan grade) = length (speedsOf file)
+
+-- Scope 15.1: "With a limit L number 7 is given where the machines are not 1 to L; every other test of a job stays." One test, and the
+-- tests of a job that has so many machines.
+abbrev pub limited : ℕ → ℕ → Test → Test
+limited limit processors t = cond (eqb (t .number) 7) (test 7 (between 1 limit processors)) t
+
+abbrev pub limitedTo : ℕ → ℕ → List Test → List Test
+limitedTo limit processors ts = map (limited limit processors) ts
+
+-- The number that a call gives with that limit, and what its answer says.
+abbrev pub numberWith : ℕ → Call → ℕ
+numberWith limit call = firstRefusal (limitedTo limit (processorsIn call) (tests call))
+
+abbrev pub saidWith : ℕ → Call → Said
+saidWith limit call = saidBy (numberWith limit call) (values call)
+
+-- It leaves these, by the number that it gives: where that is 0 what it writes, else what was lent.
+abbrev pub LeavesBy : ℕ → Call → List (List ℕ) → Type 0
+LeavesBy number (TestJob es ws) left = left ≡ []
+LeavesBy number (ReadJob file es ws) left = left ≡ lentAfter number (speedsOf file) es ∷ lentAfter number (weightsOf file) ws ∷ []
+LeavesBy number (WriteJob es ws file) left = left ≡ lentAfter number (jobBytes (jobOf es ws)) file ∷ []
+LeavesBy number (Measure es ws s) left = left ≡ []
+LeavesBy number (Probe es ws B s) left =
+    left ≡ cond (probing.fits (jobOf es ws) B) (lentAfter number (probing.walk (jobOf es ws) B) s) s ∷ []
+LeavesBy number (Heuristic es ws s) left = left ≡ lentAfter number (guessing.heuristic (jobOf es ws)) s ∷ []
+LeavesBy number (Plan m es ws s t) left =
+    (t′ : List ℕ) × ScratchAfter number (jobOf es ws) t t′ × (left ≡ lentAfter number (planOf (jobOf es ws)) s ∷ t′ ∷ [])
+LeavesBy number (WritePlan es ws s plan) left = left ≡ lentAfter number (planBytes (jobOf es ws) (front (jobOf es ws) s)) plan ∷ []
+LeavesBy number (Grade es ws plan) left = left ≡ []
+LeavesBy number (ListJob file out) left = left ≡ lentAfter number (listing file) out ∷ []
+LeavesBy number (PlanJob file m plan) left = left ≡ lentAfter number (planBytes (jobIn file) (planOf (jobIn file))) plan ∷ []
+LeavesBy number (GradePlan file plan grade) left = left ≡ lentAfter number ((gradedSaid (readGrade (jobIn file) plan)) .values) grade ∷ []
+
+-- With that limit.
+abbrev pub LeavesWith : ℕ → Call → List (List ℕ) → Type 0
+LeavesWith limit call left = LeavesBy (numberWith limit call) call left
+
+-- The call tests the number of machines. (Every call but the listing's, which takes any file.)
+abbrev pub Counts : Call → Type 0
+Counts call = List·Memᴰ 7 (numbers call)
+
+-- The listing of a file, what is taken in and refused being by that limit.
+abbrev pub listingWith : ℕ → List ℕ → List ℕ
+listingWith limit file =
+    let judged = take (intakeFor limit) file in
+    listingOf (firstRefusal (limitedTo limit (length (speedsOf judged)) (fileTests judged))) judged
+
+-- A call answers and leaves with that limit what it does with ours.
+pub record Alike (limit : ℕ) (call : Call) : Type 0 where
+  pub says : saidWith limit call ≡ said call
+  pub leaves : (left : List (List ℕ)) → LeavesWith limit call left ↔ Leaves call left
+
+pub record AnyLimit : Type 0 where
+  -- So far it is only said in other words: with our own limit every call and every listing is what it is.
+  pub ours : (call : Call) → Alike maxProcessors call
+  pub ours-listing : (file : List ℕ) → listingWith maxProcessors file ≡ listing file
+  -- Scope 15.2: "A call that tests the number of machines answers and leaves the same with every limit that its job is within."
+  pub alike : (limit : ℕ) (call : Call) → Counts call → processorsIn call ≤ limit → processorsIn call ≤ maxProcessors → Alike limit call
+  -- Scope 15.3: "A job of up to 96 machines that a greater limit accepts is accepted, and keeps its plan." What is said and left of it
+  -- is the same,
+  pub kept : (limit : ℕ) (call : Call) → maxProcessors ≤ limit → Counts call → processorsIn call ≤ maxProcessors → numberWith limit call ≡ 0
+      → Accepts call × Alike limit call
+  -- and the plan is the one best division of the job, which is defined without a limit.
+  pub plan : (m : ℕ) (es ws s t : List ℕ) → Accepts (Plan m es ws s t) → (d : List ℕ) → Best (jobOf es ws) d
+      → front (jobOf es ws) (planWrites (jobOf es ws) m s t) ≡ d
+  -- Scope 15.4: "An accepted file has the same listing with every limit that its job is within; a buffer with room by a greater limit has
+  -- room by ours."
+  pub listed : (limit : ℕ) (file : List ℕ) → fileRefusal file ≡ 0 → length (speedsOf file) ≤ limit → listingWith limit file ≡ listing file
+  pub room : (limit : ℕ) → maxProcessors ≤ limit → listingRoom ≤ roomFor limit
