@@ -1,9 +1,8 @@
--- The tests of the two counts, as the code takes them: m and n are the limits.
+-- The tests of the two counts, as the code takes them.
 -- Assumes nothing.
 use Prim.Native.Nat.{ℕ, _≤_, _<_}
-use mathlib.Core.Path.{_≡_, refl, sym, _∙_}
+use mathlib.Core.Path.{_≡_, sym, _∙_}
 use mathlib.Core.List.{[], _∷_}
-use mathlib.Core.Logic.{_≢_}
 use native.Mathlib.Omega.{arith}
 use lib.Dec.{leb}
 use borrow.Author.Tests.{le-leb, lt-leb}
@@ -16,20 +15,15 @@ module _ (p t : ℕ) where
   pub no-processor : p ≡ 0 → 7 ≡ firstRefusal (test 7 (between 1 maxProcessors p) ∷ test 8 (leb t maxTasks) ∷ [])
   no-processor h = sym (fails 7 (test 8 (leb t maxTasks) ∷ []) (between-low 1 maxProcessors p (omega arith)))
 
-  module _ {m : ℕ} (limit : maxProcessors ≡ m) where
-    pub many-processors : m < p → 7 ≡ firstRefusal (test 7 (between 1 maxProcessors p) ∷ test 8 (leb t maxTasks) ∷ [])
-    many-processors h = sym (fails 7 (test 8 (leb t maxTasks) ∷ []) (between-high 1 maxProcessors p (omega arith)))
+  pub many-processors : maxProcessors < p → 7 ≡ firstRefusal (test 7 (between 1 maxProcessors p) ∷ test 8 (leb t maxTasks) ∷ [])
+  many-processors h = sym (fails 7 (test 8 (leb t maxTasks) ∷ []) (between-high 1 maxProcessors p h))
 
-    module _ (some : p ≢ 0) (few : p ≤ m) {n : ℕ} (limit′ : maxTasks ≡ n) where
-      pub many-tasks : n < t → 8 ≡ firstRefusal (test 7 (between 1 maxProcessors p) ∷ test 8 (leb t maxTasks) ∷ [])
-      many-tasks h =
-          sym (passes 7 (test 8 (leb t maxTasks) ∷ []) (between-in 1 maxProcessors p (omega arith) (omega arith))
-          ∙ fails 8 [] (lt-leb t maxTasks (omega arith)))
+  module _ (some : 1 ≤ p) (few : p ≤ maxProcessors) where
+    pub many-tasks : maxTasks < t → 8 ≡ firstRefusal (test 7 (between 1 maxProcessors p) ∷ test 8 (leb t maxTasks) ∷ [])
+    many-tasks h =
+        sym (passes 7 (test 8 (leb t maxTasks) ∷ []) (between-in 1 maxProcessors p some few) ∙ fails 8 [] (lt-leb t maxTasks h))
 
-      pub counts-pass : t ≤ n → 0 ≡ firstRefusal (test 7 (between 1 maxProcessors p) ∷ test 8 (leb t maxTasks) ∷ [])
-      counts-pass h =
-          sym (passes 7 (test 8 (leb t maxTasks) ∷ []) (between-in 1 maxProcessors p (omega arith) (omega arith))
-          ∙ passes 8 [] (le-leb t maxTasks (omega arith)) ∙ passed-all)
-
--- For `search`: at each return the law that its tests meet.
-pub ruleset counts-laws = (no-processor, many-processors, many-tasks, counts-pass, refl)
+    pub counts-pass : t ≤ maxTasks → 0 ≡ firstRefusal (test 7 (between 1 maxProcessors p) ∷ test 8 (leb t maxTasks) ∷ [])
+    counts-pass h =
+        sym (passes 7 (test 8 (leb t maxTasks) ∷ []) (between-in 1 maxProcessors p some few)
+        ∙ passes 8 [] (le-leb t maxTasks h) ∙ passed-all)
