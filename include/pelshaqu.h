@@ -52,9 +52,9 @@ extern "C" {
  *       (here the plan buffer, which needs 16 bytes a machine)
  *
  * No division of the job has a smaller bottleneck (the greatest weight / speed of a machine), and of all best divisions this is
- * the one whose separators are furthest along. The call needs no memory but at most 51 KB of stack (some 3 KB more where it is
- * the first in its process to need memset, and the dynamic linker has left that to be bound at need), keeps no state and may run in
- * several threads at once. A pointer may be NULL where its length is 0. The job's bytes and the plan's must not overlap.
+ * the one whose separators are furthest along. The call needs no memory but at most 51 KB of stack (some 3 KB more where the
+ * dynamic linker binds memset during the call, as it may at its first use in a process), keeps no state and may run in several
+ * threads at once. A pointer may be NULL where its length is 0. The job's bytes and the plan's must not overlap.
  */
 uint32_t plan_job(const uint8_t *job, size_t job_len, uint32_t method, uint8_t *plan, size_t plan_len);
 
@@ -74,7 +74,7 @@ uint32_t plan_job(const uint8_t *job, size_t job_len, uint32_t method, uint8_t *
  *   13  a load or a speed of the plan file is untrue
  *
  * A plan need not have the separators that plan_job gives to be best. What plan_job fills is graded best. The call needs no memory
- * but at most 18 KB of stack (and, as above, what binding memset takes), keeps no state and may run in several threads at once. A
+ * but at most 18 KB of stack (and what binding memset takes, as above), keeps no state and may run in several threads at once. A
  * pointer may be NULL where its length is 0. The grade's buffer must not overlap the job's bytes or the plan's.
  */
 uint32_t grade_plan(const uint8_t *job, size_t job_len, const uint8_t *plan, size_t plan_len, uint8_t *grade, size_t grade_len);
