@@ -20,7 +20,7 @@ extern "C" {
 #define PELSHAQU_NICOL 4
 
 /* The most machines of a job, and the bytes of its plan. */
-#define PELSHAQU_MAX_MACHINES 256
+#define PELSHAQU_MAX_MACHINES 96
 #define PELSHAQU_PLAN_RECORD 16
 #define PELSHAQU_MAX_PLAN (PELSHAQU_PLAN_RECORD * PELSHAQU_MAX_MACHINES)
 
@@ -33,7 +33,7 @@ extern "C" {
  *
  * job, job_len    a job file: 8-byte records without a header, little-endian. Byte 0 is the kind (1 machine, 2 tile), bytes 1
  *                 to 3 are zero, bytes 4 to 7 are the speed (1 to 10,000) or the weight (0 to 1,000,000). Machines come first:
- *                 1 to 256 machines, then 0 to 2,048 tiles.
+ *                 1 to 96 machines, then 0 to 2,048 tiles.
  * method          1 table, 2 bidding, 3 bisection, 4 Nicol's search.
  * plan, plan_len  the buffer for the plan: a 16-byte record a machine, four 32-bit little-endian fields: the separator before
  *                 the machine's tiles, the separator after them, their weight, the machine's speed. Machine p takes the tiles
@@ -46,14 +46,15 @@ extern "C" {
  *    4  a machine after a tile                                           } in rising order within a record
  *    5  a speed out of range                                             }
  *    6  a weight out of range                                            }
- *    7  no machine, or more than 256
+ *    7  no machine, or more than 96
  *    8  more than 2,048 tiles
  *    9  a lent list or buffer is too short
  *       (here the plan buffer, which needs 16 bytes a machine)
  *
  * No division of the job has a smaller bottleneck (the greatest weight / speed of a machine), and of all best divisions this is
- * the one whose separators are furthest along. The call needs no memory but some 50 KB of stack, keeps no state and may run in
- * several threads at once. A pointer may be NULL where its length is 0. The job's bytes and the plan's must not overlap.
+ * the one whose separators are furthest along. The call needs no memory but at most 51 KB of stack (some 3 KB more where the
+ * dynamic linker binds memset during the call, as it may at its first use in a process), keeps no state and may run in several
+ * threads at once. A pointer may be NULL where its length is 0. The job's bytes and the plan's must not overlap.
  */
 uint32_t plan_job(const uint8_t *job, size_t job_len, uint32_t method, uint8_t *plan, size_t plan_len);
 
@@ -73,8 +74,8 @@ uint32_t plan_job(const uint8_t *job, size_t job_len, uint32_t method, uint8_t *
  *   13  a load or a speed of the plan file is untrue
  *
  * A plan need not have the separators that plan_job gives to be best. What plan_job fills is graded best. The call needs no memory
- * but some 20 KB of stack, keeps no state and may run in several threads at once. A pointer may be NULL where its length is 0. The
- * grade's buffer must not overlap the job's bytes or the plan's.
+ * but at most 18 KB of stack (and what binding memset takes, as above), keeps no state and may run in several threads at once. A
+ * pointer may be NULL where its length is 0. The grade's buffer must not overlap the job's bytes or the plan's.
  */
 uint32_t grade_plan(const uint8_t *job, size_t job_len, const uint8_t *plan, size_t plan_len, uint8_t *grade, size_t grade_len);
 

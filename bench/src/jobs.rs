@@ -70,6 +70,9 @@ impl Family {
     }
 }
 
+/// N and P of a job.
+pub type Size = (usize, usize);
+
 /// A shape of job: N tasks, P processors, speeds from 1 to `fastest`.
 #[derive(Clone, Copy, Debug, PartialEq, Eq, Hash)]
 pub struct Shape {
@@ -80,6 +83,14 @@ pub struct Shape {
 }
 
 impl Shape {
+    pub fn new(family: Family, (tasks, processors): Size, fastest: u32) -> Shape {
+        Shape { family, tasks, processors, fastest }
+    }
+
+    pub fn size(&self) -> Size {
+        (self.tasks, self.processors)
+    }
+
     pub fn speeds_name(&self) -> String {
         match self.fastest {
             1 => "equal".to_string(),

@@ -1,24 +1,29 @@
 //! What is measured: the shapes, and the records of each.
 use crate::contest::CONTESTS;
-use crate::jobs::{Family, Shape};
+use crate::jobs::{Family, Shape, Size};
+use crate::plain::{MAX_PROCESSORS, MAX_TASKS};
 use crate::records;
 use crate::sides::{Job, BEST};
 
-pub const TASKS: usize = 2048;
 pub const FASTEST: [u32; 3] = [1, 4, 16];
-/// N/P = 8, 32, 128.
-pub const PROCESSORS: [usize; 3] = [256, 64, 16];
-/// The shape of the figures in microseconds, N/P = 16.
-pub const SINGLE: usize = 128;
+/// The sizes of the ratios: N/P = 8, 32, 128. At N/P = 8 the most machines have fewer tiles than a job may have.
+pub const SIZES: [Size; 3] = [(8 * MAX_PROCESSORS, MAX_PROCESSORS), (MAX_TASKS, 64), (MAX_TASKS, 16)];
+/// The size of the figures in microseconds: the largest job.
+pub const LARGEST: Size = (MAX_TASKS, MAX_PROCESSORS);
 /// The place of the code of this build, of so many (see build.rs).
 const PLACEMENT: &str = env!("PLACE");
 pub const PLACEMENTS: [&str; 4] = ["0", "1", "2", "3"];
-pub const GROWTH_TASKS: [usize; 4] = [256, 512, 1024, 2048];
-pub const GROWTH_PROCESSORS: [usize; 5] = [16, 32, 64, 128, 256];
+const GROWTH_TASKS: [usize; 4] = [256, 512, 1024, MAX_TASKS];
+const GROWTH_PROCESSORS: [usize; 5] = [16, 32, 48, 64, MAX_PROCESSORS];
 
-/// The shape of the growth with N or P: lognormal weights, speeds 1 to 4.
-pub fn growth(tasks: usize, processors: usize) -> Shape {
-    Shape { family: Family::Lognormal, tasks, processors, fastest: 4 }
+/// The shapes of the growth with N, at P = 64: lognormal weights, speeds 1 to 4.
+pub fn growth_with_tasks() -> Vec<Shape> {
+    GROWTH_TASKS.iter().map(|&tasks| Shape::new(Family::Lognormal, (tasks, 64), 4)).collect()
+}
+
+/// The same of the growth with P, at the most tiles.
+pub fn growth_with_processors() -> Vec<Shape> {
+    GROWTH_PROCESSORS.iter().map(|&processors| Shape::new(Family::Lognormal, (MAX_TASKS, processors), 4)).collect()
 }
 
 /// Every shape that is measured, each once.
@@ -26,14 +31,12 @@ fn shapes() -> Vec<Shape> {
     let mut shapes = Vec::new();
     for family in Family::ALL {
         for fastest in FASTEST {
-            for processors in PROCESSORS.into_iter().chain([SINGLE]) {
-                shapes.push(Shape { family, tasks: TASKS, processors, fastest });
+            for size in SIZES.into_iter().chain([LARGEST]) {
+                shapes.push(Shape::new(family, size, fastest));
             }
         }
     }
-    let by_tasks = GROWTH_TASKS.map(|tasks| growth(tasks, 64));
-    let by_processors = GROWTH_PROCESSORS.map(|processors| growth(TASKS, processors));
-    for shape in by_tasks.into_iter().chain(by_processors) {
+    for shape in growth_with_tasks().into_iter().chain(growth_with_processors()) {
         if !shapes.contains(&shape) {
             shapes.push(shape);
         }
@@ -44,7 +47,7 @@ fn shapes() -> Vec<Shape> {
 /// The shapes whose instructions are counted: those of the ratios.
 pub fn print_shapes() {
     for shape in shapes() {
-        if shape.tasks == TASKS && PROCESSORS.contains(&shape.processors) {
+        if SIZES.contains(&shape.size()) {
             println!("{} {} {} {}", shape.family.name(), shape.tasks, shape.processors, shape.fastest);
         }
     }

@@ -3,7 +3,7 @@
 
 pub const MAX_TASKS: usize = 2048;
 pub const MAX_WEIGHT: u32 = 1_000_000;
-pub const MAX_PROCESSORS: usize = 256;
+pub const MAX_PROCESSORS: usize = 96;
 pub const MAX_SPEED: u32 = 10_000;
 pub const MAX_BOUND_LOAD: u64 = 100_000_000_000_000;
 pub const MAX_BOUND_SPEED: u64 = 1_000_000_000;

@@ -1,6 +1,6 @@
 //! The table of docs/BENCHMARKS.md and the further ones of target/benchmarks.md, from the records of a run.
-use crate::jobs::{Family, Shape};
-use crate::measure::{growth, FASTEST, GROWTH_PROCESSORS, GROWTH_TASKS, PLACEMENTS, PROCESSORS, SINGLE, TASKS};
+use crate::jobs::{Family, Shape, Size};
+use crate::measure::{growth_with_processors, growth_with_tasks, FASTEST, LARGEST, PLACEMENTS, SIZES};
 use crate::records::{self, Records};
 
 /// A table of ratios: its title and the two sides.
@@ -40,19 +40,30 @@ fn texts(words: &[&str]) -> Vec<String> {
     words.iter().map(|word| word.to_string()).collect()
 }
 
-/// The shapes of a table's rows: every family with every range of speeds.
-fn rows(processors: usize) -> Vec<Shape> {
+/// The shapes of a size: every family with every range of speeds.
+fn shapes(size: Size) -> Vec<Shape> {
     let mut shapes = Vec::new();
     for family in Family::ALL {
         for fastest in FASTEST {
-            shapes.push(Shape { family, tasks: TASKS, processors, fastest });
+            shapes.push(Shape::new(family, size, fastest));
         }
     }
     shapes
 }
 
+/// A table's rows where each size has columns of its own: the shapes of a row differ in their size alone.
+fn rows<const COUNT: usize>(sizes: [Size; COUNT]) -> Vec<[Shape; COUNT]> {
+    let kinds = shapes(sizes[0]);
+    kinds.iter().map(|kind| sizes.map(|size| Shape::new(kind.family, size, kind.fastest))).collect()
+}
+
 fn label(shape: Shape) -> Vec<String> {
     vec![shape.family.name().to_string(), shape.speeds_name()]
+}
+
+/// A size as the head of its columns.
+fn size_name((tasks, processors): Size) -> String {
+    format!("N = {tasks}, P = {processors}")
 }
 
 /// A time in microseconds, with three figures or so.
@@ -63,6 +74,11 @@ fn micros(nanoseconds: f64) -> String {
         v if v < 100.0 => format!("{v:.1}"),
         v => format!("{v:.0}"),
     }
+}
+
+/// N/P of the sizes of the ratios.
+fn quotients() -> String {
+    SIZES.map(|(tasks, processors)| (tasks / processors).to_string()).join(", ")
 }
 
 const KINDS: [&str; 2] = ["ratio", "count"];
@@ -77,19 +93,18 @@ fn ratio(records: &Records, kind: &str, planner: &str, plain: &str, shape: Shape
 
 fn ratios(records: &Records) {
     println!("## Planner against plain Rust: time and instructions\n");
-    println!("Each pair is the ratio of times, then the ratio of instructions, planner / plain Rust; N = {TASKS}.\n");
+    println!("Each pair is the ratio of times, then the ratio of instructions, planner / plain Rust; N/P = {}.\n", quotients());
     for (title, planner, plain) in RATIOS {
         println!("### {title}\n");
         let mut columns = texts(&["weights", "speeds"]);
-        for processors in PROCESSORS {
-            columns.push(format!("N/P = {}: time", TASKS / processors));
+        for size in SIZES {
+            columns.push(format!("{}: time", size_name(size)));
             columns.push("instructions".to_string());
         }
         head(&columns);
-        for shape in rows(0) {
-            let mut cells = label(shape);
-            for processors in PROCESSORS {
-                let shape = Shape { processors, ..shape };
+        for shapes in rows(SIZES) {
+            let mut cells = label(shapes[0]);
+            for shape in shapes {
                 for kind in KINDS {
                     cells.push(format!("{:.2}", ratio(records, kind, planner, plain, shape)));
                 }
@@ -102,7 +117,7 @@ fn ratios(records: &Records) {
 
 /// The 27 shapes of the ratios.
 fn all_shapes() -> impl Iterator<Item = Shape> {
-    PROCESSORS.into_iter().flat_map(rows)
+    SIZES.into_iter().flat_map(shapes)
 }
 
 fn geometric_mean(values: &[f64]) -> f64 {
@@ -171,12 +186,12 @@ fn passes(records: &Records) {
 }
 
 fn single(records: &Records) {
-    println!("## A plan at N = {TASKS}, P = {SINGLE}, in microseconds\n");
+    println!("## A plan at {}, in microseconds\n", size_name(LARGEST));
     println!("Planner, and plain Rust behind the stroke (bidding: the resumed form; Nicol's search: by a walk without bids).\n");
     let mut columns = texts(&["weights", "speeds"]);
     columns.extend(PAIRS.iter().map(|pair| pair.0.to_string()));
     head(&columns);
-    for shape in rows(SINGLE) {
+    for shape in shapes(LARGEST) {
         let mut cells = label(shape);
         for (_, planner, plain) in PAIRS {
             let time = |side: &str| micros(records.get("time", side, shape));
@@ -189,16 +204,16 @@ fn single(records: &Records) {
 
 fn counts(records: &Records) {
     println!("## Moves and trials against allowances\n");
-    println!("Speeds 1–4, N = {TASKS}: the mean count, the mean allowance, and the greatest part of its allowance that a job took.\n");
-    let mut columns = texts(&["weights", "N/P"]);
+    println!("Speeds 1–4: the mean count, the mean allowance, and the greatest part of its allowance that a job took.\n");
+    let mut columns = texts(&["weights", "N", "P"]);
     for method in ["table: moves", "bidding: trials", "bisection: trials", "Nicol: trials"] {
         columns.extend([method.to_string(), "allowance".to_string(), "most".to_string()]);
     }
     head(&columns);
     for family in Family::ALL {
-        for processors in PROCESSORS {
-            let shape = Shape { family, tasks: TASKS, processors, fastest: 4 };
-            let mut cells = vec![family.name().to_string(), (TASKS / processors).to_string()];
+        for size in SIZES {
+            let shape = Shape::new(family, size, 4);
+            let mut cells = vec![family.name().to_string(), size.0.to_string(), size.1.to_string()];
             for method in ["table", "bidding", "bisection", "Nicol"] {
                 let fact = |name: &str| records.get("fact", &format!("{method} {name}"), shape);
                 cells.push(format!("{:.1}", fact("count")));
@@ -214,18 +229,18 @@ fn counts(records: &Records) {
 fn imbalances(records: &Records) {
     println!("## Imbalance: the quick plan against the best plan\n");
     println!("Mean of (bottleneck − ideal) / ideal in per cent; the factor is quick plan's over best plan's; the time is bisection's");
-    println!("over quick plan's (source: Pinar, Tabak, Aykanat 2008, who give factors of 4.9 and 8.7 and a time of 2.20 for P = 128).\n");
+    println!("over quick plan's (source: Pinar, Tabak, Aykanat 2008, who give factors of 4.9 and 8.7 and a time of 2.20 for P = 128). A job has");
+    println!("at most {} machines: that is as near to the source's 128 as these figures go.\n", LARGEST.1);
     let mut columns = texts(&["weights", "speeds"]);
-    let all = [256, SINGLE, 64, 16];
-    for processors in all {
-        columns.push(format!("P = {processors}: quick"));
+    let sizes = [SIZES[0], LARGEST, SIZES[1], SIZES[2]];
+    for size in sizes {
+        columns.push(format!("{}: quick", size_name(size)));
         columns.extend(texts(&["best", "factor", "time"]));
     }
     head(&columns);
-    for shape in rows(0) {
-        let mut cells = label(shape);
-        for processors in all {
-            let shape = Shape { processors, ..shape };
+    for shapes in rows(sizes) {
+        let mut cells = label(shapes[0]);
+        for shape in shapes {
             let quick = records.get("fact", "quick plan imbalance", shape);
             let best = records.get("fact", "bisection imbalance", shape);
             let time = |side: &str| records.get("time", side, shape);
@@ -243,19 +258,18 @@ fn imbalances(records: &Records) {
 fn gradings(records: &Records) {
     println!("## Grading against planning by bisection\n");
     println!("The planner's time for grading over its time for a plan by bisection, on the same jobs (the least times of each; half of the plan");
-    println!("files are of the best plan, half of the quick plan), and how many of a hundred plan files are graded best; N = {TASKS}.\n");
+    println!("files are of the best plan, half of the quick plan), and how many of a hundred plan files are graded best; N/P = {}.\n", quotients());
     let time = |side: &str, shape: Shape| records.get("time", side, shape);
     let of_plan = |shape: Shape| time("planner_grade", shape) / time("planner_bisection", shape);
     let mut columns = texts(&["weights", "speeds"]);
-    for processors in PROCESSORS {
-        columns.push(format!("N/P = {}: time", TASKS / processors));
+    for size in SIZES {
+        columns.push(format!("{}: time", size_name(size)));
         columns.push("best".to_string());
     }
     head(&columns);
-    for shape in rows(0) {
-        let mut cells = label(shape);
-        for processors in PROCESSORS {
-            let shape = Shape { processors, ..shape };
+    for shapes in rows(SIZES) {
+        let mut cells = label(shapes[0]);
+        for shape in shapes {
             cells.push(format!("{:.2}", of_plan(shape)));
             cells.push(format!("{:.0}", 100.0 * records.get("fact", "grading best", shape)));
         }
@@ -302,6 +316,6 @@ pub fn print(files: &[String]) {
     println!("## Growth with N and with P, in microseconds\n");
     println!("The planner; lognormal weights, speeds 1–4. The last columns are the time of bisection and of Nicol's search over their trials");
     println!("and the closing walk.\n");
-    growth_table(&records, &GROWTH_TASKS.map(|tasks| growth(tasks, 64)));
-    growth_table(&records, &GROWTH_PROCESSORS.map(|processors| growth(TASKS, processors)));
+    growth_table(&records, &growth_with_tasks());
+    growth_table(&records, &growth_with_processors());
 }
