@@ -108,9 +108,14 @@ says $text '| 8 |' 'more than # tiles' "$tiles"
 says $text 8.7 '# bytes for a listing' "$listing"
 says $text 11.4 'Speed # is taken' "$speed"
 says $text 11.4 'speeds 0 and #' $((speed + 1))
-says $text 11.5 'Weight #' $((weight + 1))
-says $text 11.6 '# machines' $((machines + 1))
-says $text 11.7 '# tiles' $((tiles + 1))
+says $text 11.5 'Weight # is taken' "$weight"
+says $text 11.5 'weight #' $((weight + 1))
+says $text 11.6 '# machines are taken' "$machines"
+says $text 11.6 'none and #' $((machines + 1))
+says $text 11.6 '# tiles' $((tiles + 1))
+says $text 11.7 '# tiles are taken' "$tiles"
+says $text 11.7 '; # are refused' $((tiles + 1))
+says $text 15.3 'up to # machines' "$machines"
 
 # The pages for users
 text=docs/FORMATS.md
@@ -132,6 +137,9 @@ says $text '| 10 |' 'speed of 1 to #' "$bound_speed"
 says $text '' 'they take in at most # bytes' "$job_bytes"
 says $text '' 'at most # bytes of a plan file' "$plan_bytes"
 says docs/PROMISES.md '' 'fewer than # bytes' "$listing"
+says docs/PROMISES.md '' 'up to # machines' "$machines"
+says docs/PROMISES.md '' '# machines are taken' "$machines"
+says docs/PROMISES.md '' 'taken and # refused' $((machines + 1))
 says docs/DECISIONS.md '' 'loads are at most # ×' "$tiles"
 says docs/DECISIONS.md '' '× # and fit 32 bits' "$weight"
 says docs/DECISIONS.md '' 'a local array of # numbers' $((tiles + 1))
