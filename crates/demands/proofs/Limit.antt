@@ -10,11 +10,12 @@ use lib.Dec.{leb, eqb}
 use lib.ListN.{length, take}
 use lib.Seq.{take-all}
 use borrow.Author.Tests.{le-leb}
-use Rattle.chain.specs.Limits.{maxProcessors, maxTasks}
-use Rattle.chain.specs.Job.{jobOf}
-use Rattle.chain.specs.Plan.{Best}
-use Rattle.chain.specs.Refusal.{Test, test, between, methodTest, speedsTest, weightsTest, processorsTest, tasksTest, lengthTest, boundTest, partitionTest, planLengthTest, joinedTest, trueTest, firstRefusal, jobTests, planTests, callTests, refusal}
+use Rattle.chain.specs.Limits.{maxProcessors}
+use Rattle.chain.specs.Job.{Job, processors, speedOf}
+use Rattle.chain.specs.Plan.{planOf, Best}
+use Rattle.chain.specs.Refusal.{Test, test, methodTest, speedsTest, weightsTest, processorsTest, tasksTest, lengthTest, boundTest, partitionTest, planLengthTest, joinedTest, trueTest, firstRefusal, jobTests, planTests, callTests, refusal}
 use Rattle.chain.proofs.Best.{best-unique}
+use Rattle.chain.proofs.Demand.{plan-of-best}
 use Rattle.refusals.specs.Inputs.{planNeeded}
 use Rattle.refusals.specs.Answers.{saidBy}
 use Rattle.jobs.specs.Parse.{multipleTest, formTest, orderTest, speedTest, weightTest, recordTests, recordsTests, recordCount, speedsOf, weightsOf, jobIn, fileTests, fileRefusal}
@@ -33,9 +34,9 @@ use Rattle.listing.specs.Listing.{listingOf, intakeFor, intake, listing}
 use Rattle.listing.specs.Answers.{listTests, listRefusal, listWrites}
 use Rattle.listing.proofs.Listings.{listed-whole}
 use Rattle.demands.specs.Call.{Call, TestJob, ReadJob, WriteJob, Measure, Probe, Heuristic, Plan, WritePlan, Grade, ListJob, PlanJob, GradePlan, values, tests, Leaves}
-use Rattle.demands.specs.Demands.{number, Accepts, front}
-use Rattle.demands.specs.Limit.{processorsIn, limited, limitedTo, numberWith, LeavesBy, Counts, listingWith, Alike, AnyLimit}
-use Rattle.demands.proofs.Demands.{tested, demand-one, demand-three}
+use Rattle.demands.specs.Demands.{Accepts}
+use Rattle.demands.specs.Limit.{processorsIn, limited, limitedTo, numberWith, LeavesBy, listingWith, Alike, AnyLimit}
+use Rattle.demands.proofs.Demands.{tested, demand-one, left}
 
 -- Tests that are within both limits are the same tests.
 limits-same : {l m p : ℕ} → p ≤ l → p ≤ m → (ts : List Test) → limitedTo l p ts ≡ limitedTo m p ts
@@ -145,9 +146,10 @@ ours-listing file =
     let judged = take intake file in
     ap (λ (ts : List Test). listingOf (firstRefusal ts) judged) (file-ours judged)
 
-plan : (m : ℕ) (es ws s t : List ℕ) → Accepts (Plan m es ws s t) → (d : List ℕ) → Best (jobOf es ws) d
-    → front (jobOf es ws) (planWrites (jobOf es ws) m s t) ≡ d
-plan m es ws s t e d b = best-unique (demand-three .planned m es ws s t e .best) b
+best : (job : Job) → 1 ≤ processors job → ((p : ℕ) → 1 ≤ speedOf job p) → Best job (planOf job) × ((d : List ℕ) → Best job d → d ≡ planOf job)
+best job some positive =
+    let b : Best job (planOf job) = plan-of-best (record { proper = record { some = some; positive = positive } }) in
+    (b, λ d e. best-unique e b)
 
 room : (limit : ℕ) → maxProcessors ≤ limit → listingRoom ≤ roomFor limit
 unfolding listingRoom
@@ -160,7 +162,8 @@ any-limit =
       ours-listing = ours-listing;
       alike = λ limit call c h k. alike-by limit call (within-both limit call h k);
       kept = λ limit call g c k z. kept limit call g k z;
-      plan = plan;
+      plan = left;
+      best = best;
       listed = listed;
       room = room;
     }

@@ -7,7 +7,7 @@ use mathlib.Core.Logic.{_↔_}
 use lib.Dec.{eqb}
 use lib.ListN.{length, take}
 use Rattle.chain.specs.Limits.{maxProcessors}
-use Rattle.chain.specs.Job.{jobOf}
+use Rattle.chain.specs.Job.{Job, jobOf, processors, speedOf}
 use Rattle.chain.specs.Probe as probing
 use Rattle.chain.specs.Heuristic as guessing
 use Rattle.chain.specs.Plan.{planOf, Best}
@@ -99,9 +99,11 @@ pub record AnyLimit : Type 0 where
   -- is the same,
   pub kept : (limit : ℕ) (call : Call) → maxProcessors ≤ limit → Counts call → processorsIn call ≤ maxProcessors → numberWith limit call ≡ 0
       → Accepts call × Alike limit call
-  -- and the plan is the one best division of the job, which is defined without a limit.
-  pub plan : (m : ℕ) (es ws s t : List ℕ) → Accepts (Plan m es ws s t) → (d : List ℕ) → Best (jobOf es ws) d
-      → front (jobOf es ws) (planWrites (jobOf es ws) m s t) ≡ d
+  -- the plan that a call leaves is the definition's,
+  pub plan : (m : ℕ) (es ws s t : List ℕ) → Accepts (Plan m es ws s t)
+      → front (jobOf es ws) (planWrites (jobOf es ws) m s t) ≡ planOf (jobOf es ws)
+  -- and that is the one best division of every job, however many machines it has.
+  pub best : (job : Job) → 1 ≤ processors job → ((p : ℕ) → 1 ≤ speedOf job p) → Best job (planOf job) × ((d : List ℕ) → Best job d → d ≡ planOf job)
   -- Scope 15.4: "An accepted file has the same listing with every limit that its job is within; a buffer with room by a greater limit has
   -- room by ours."
   pub listed : (limit : ℕ) (file : List ℕ) → fileRefusal file ≡ 0 → length (speedsOf file) ≤ limit → listingWith limit file ≡ listing file
