@@ -74,7 +74,8 @@ LeavesBy number (GradePlan file plan grade) left = left ≡ lentAfter number ((g
 abbrev pub LeavesWith : ℕ → Call → List (List ℕ) → Type 0
 LeavesWith limit call left = LeavesBy (numberWith limit call) call left
 
--- The call tests the number of machines. (Every call but the listing's, which takes any file.)
+-- The call tests the number of machines. (Every call but the listing's: the room that it asks for and what it takes in follow from the
+-- limit, so it has statements of its own below.)
 abbrev pub Counts : Call → Type 0
 Counts call = List·Memᴰ 7 (numbers call)
 
@@ -102,7 +103,7 @@ pub record AnyLimit : Type 0 where
   -- the plan that a call leaves is the definition's,
   pub plan : (m : ℕ) (es ws s t : List ℕ) → Accepts (Plan m es ws s t)
       → front (jobOf es ws) (planWrites (jobOf es ws) m s t) ≡ planOf (jobOf es ws)
-  -- and that is the one best division of every job, however many machines it has.
+  -- and that is the one best division of every job of machines with speeds above 0, however many they are.
   pub best : (job : Job) → 1 ≤ processors job → ((p : ℕ) → 1 ≤ speedOf job p) → Best job (planOf job) × ((d : List ℕ) → Best job d → d ≡ planOf job)
   -- Scope 15.4: "An accepted file has the same listing with every limit that its job is within; a buffer with room by a greater limit has
   -- room by ours."
