@@ -143,6 +143,16 @@ says docs/PROMISES.md '' 'taken and # refused' $((machines + 1))
 says docs/DECISIONS.md '' 'loads are at most # ×' "$tiles"
 says docs/DECISIONS.md '' '× # and fit 32 bits' "$weight"
 says docs/DECISIONS.md '' 'a local array of # numbers' $((tiles + 1))
+# shellcheck disable=SC2016
+says docs/DECISIONS.md '' 'proofs/Limits`, # and' "$machines"
+# shellcheck disable=SC2016
+says docs/DECISIONS.md '' "proofs/Limits\`, $machines and #" $((machines + 1))
+says docs/DECISIONS.md '' 'room of a listing, #' "$listing"
+says docs/DECISIONS.md '' '# tiles on' $((8 * machines))
+says docs/DECISIONS.md '' 'tiles on # machines' "$machines"
+says docs/WHY.md '' 'any stored job has # machines' "$machines"
+says docs/WHY.md '' 'a row of # is refused' $((machines + 1))
+says docs/WHY.md '' 'a job of up to # machines' "$machines"
 says docs/TESTING.md '' "of $(grouped "$tiles") × #" "$machines"
 text=docs/BENCHMARKS.md
 says $text '- **Jobs**' 'N = # tiles on' $((8 * machines))
