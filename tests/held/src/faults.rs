@@ -6,7 +6,8 @@ use std::sync::OnceLock;
 use crate::answers;
 use crate::grading;
 use crate::job::{self, Job};
-use crate::limits::{job_bytes, plan_bytes, work_numbers, BOUND_LOAD, BOUND_SPEED, FORMER, LISTING, MACHINES, SPEED, TILES, WEIGHT};
+use crate::limits::{job_bytes, plan_bytes, work_numbers, BOUND_LOAD, BOUND_SPEED, FORMER, JOB_INTAKE, LISTING, LONGEST_JOB};
+use crate::limits::{MACHINES, SPEED, TILES, WEIGHT};
 use crate::listing;
 use crate::methods::{self, Tried};
 use crate::planner::{self, At, Call, Slot};
@@ -282,6 +283,16 @@ impl Lists<'_> {
         } else {
             7
         }
+    }
+
+    /// The listing of a file that is longer than what is taken in, judged by so many bytes. It is refused by any number of them.
+    fn judged_by(&self, bytes: usize) -> u32 {
+        self.listed(|l, n| {
+            let file = l.bytes(Slot::File);
+            if let Some(number) = job::read(&file[..file.len().min(bytes)], 1, usize::MAX).err().filter(|_| file.len() > JOB_INTAKE) {
+                l.bytes(Slot::Text)[n - 2] = b'0' + number as u8;
+            }
+        })
     }
 
     fn is_grading(&self) -> bool {
@@ -687,6 +698,10 @@ const FAULTS: &[(&str, &str, Run)] = &[
     ("list-space", "listing: two spaces in the place of the first digit and its space", |l| l.listed(|l, _| if let Some(k) = l.bytes(Slot::Text).iter().position(|&b| b == b' ') { l.bytes(Slot::Text)[k + 1] = b' ' })),
     ("list-count", "listing: a byte too many counted", |l| l.listed(|l, _| if let Some(v) = l.answer().first_mut() { *v += 1 })),
     ("list-fourth", "listing: the fourth line numbered 3", |l| l.listed(|l, n| { let text = l.bytes(Slot::Text); if let Some(k) = text[..n - 1].iter().rposition(|&b| b == b'\n') { text[k + 1] = b'3' } })),
+    ("list-intake-less", "listing: a record too little taken in", |l| if l.call == Call::List && l.at[0].1 > LONGEST_JOB { let mut f = l.bytes(Slot::File).to_vec(); f.truncate(LONGEST_JOB); l.with(Slot::File, &mut f) } else { l.real() }),
+    ("list-intake-more", "listing: a record too many taken in", |l| l.judged_by(JOB_INTAKE + 8)),
+    ("list-intake-byte", "listing: a byte too many taken in", |l| l.judged_by(JOB_INTAKE + 1)),
+    ("list-intake-whole", "listing: a longer file judged whole", |l| l.judged_by(usize::MAX)),
     ("list-short", "listing: a buffer one byte too short taken for enough", |l| match l.real() { 9 if l.call == Call::List && l.at[1].1 + 1 == LISTING => 0, code => code }),
     // Measuring, trial, quick plan.
     ("measure-no-division", "measuring: a division that does not begin at 0 taken", |l| match l.real() { 11 if l.call == Call::Measure => { let (s, n) = (l.words(Slot::Separators), l.at[0].1); let first = std::mem::replace(&mut s[0], 0); let code = l.real(); s[0] = first; if n > 0 { code } else { 11 } } n => n }),
