@@ -8,7 +8,7 @@ use crate::limits::{job_bytes, plan_bytes, work_numbers, BOUND_LOAD, LISTING, MA
 use crate::planner::Call;
 use crate::{every, listing, small};
 
-/// A job of so many machines and tiles; where that is none, its lists.
+/// Lists of so many machines and tiles, with good speeds and weights.
 fn sized(c: &mut Check, machines: usize, tiles: usize) -> Job {
     let speeds = small::speeds(&mut c.rng, machines);
     let weights = (0..tiles).map(|_| c.rng.range(0, 9)).collect();
@@ -50,7 +50,7 @@ fn by_lists(c: &mut Check, job: &Job, number: u32) {
     }
 }
 
-/// Every call on files, likewise. The call that lists a file sees of a long one what the program takes in; its rooms come before all.
+/// Every call on files, likewise. The call that lists a file tests its buffer first, and sees of a longer file what the program takes in.
 fn by_file(c: &mut Check, job: &Job, number: u32) {
     let (machines, tiles) = (job.speeds.len(), job.weights.len());
     let file = job.file();
