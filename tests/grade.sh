@@ -13,6 +13,20 @@ trap 'chmod -R u+rwx "$work"; rm -rf "$work"' EXIT
 passed=0
 failed=0
 
+# the most machines and the most tiles of a job; the bytes of the longest job and the longest plan, and of what is taken in of each:
+# one record more
+machines=96
+tiles=2048
+longest_job=$((8 * (machines + tiles)))
+longest_plan=$((16 * machines))
+job_intake=$((longest_job + 8))
+plan_intake=$((longest_plan + 16))
+
+# figure NUMBER: with a comma before the last three digits
+figure() {
+    if [ "$1" -lt 1000 ]; then echo "$1"; else printf '%d,%03d\n' $(($1 / 1000)) $(($1 % 1000)); fi
+}
+
 # same NAME FILE FILE
 same() {
     if cmp -s "$2" "$3"; then
@@ -76,6 +90,12 @@ fields() {
     done
 }
 
+# empty_parts COUNT: records of machines of speed 1 without tiles, in a job without tiles
+empty_parts() {
+    one="$(bytes 0)$(bytes 0)$(bytes 0)$(bytes 1)"
+    printf "$(ONE=$one awk -v n="$1" 'BEGIN { for (i = 0; i < n; i++) printf "%s", ENVIRON["ONE"] }')"
+}
+
 a=examples/A.job
 best=examples/A-best.plan
 
@@ -128,14 +148,14 @@ if command -v cc >/dev/null 2>&1 && [ -f target/staticlib/libplanner.a ]; then
 #include <stdlib.h>
 #include "pelshaqu.h"
 int main(int count, char **words) {
-    static uint8_t job[20000], plan[PELSHAQU_MAX_PLAN];
+    static uint8_t job[INTAKE], plan[PELSHAQU_MAX_PLAN];
     size_t len = fread(job, 1, sizeof job, stdin), machines = 0;
     if (count != 2 || plan_job(job, len, (uint32_t)atoi(words[1]), plan, sizeof plan) != 0) return 1;
     while (8 * machines < len && job[8 * machines] == 1) machines++;
     return fwrite(plan, 16, machines, stdout) != machines;
 }
 CODE
-    cc -std=c99 -Iinclude -o "$work/write" "$work/write.c" target/staticlib/libplanner.a
+    cc -std=c99 -Iinclude -DINTAKE="$job_intake" -o "$work/write" "$work/write.c" target/staticlib/libplanner.a
     for job in examples/*.job; do
         for method in 1 2 3 4; do
             "$work/write" "$method" <"$job" >"$work/plan"
@@ -180,13 +200,47 @@ refused 5 "speed 10,001"
 refused 6 "weight 1,000,001"
 record 2 5 >"$work/job"
 refused 7 "no machine"
-records 257 1 1 >"$work/job"
-refused 7 "257 machines"
+
+# rows: as many machines as there may be, and more, beside a plan of as many records; 256 was the most before
+for row in $((machines - 1)) "$machines"; do
+    records "$row" 1 1 >"$work/job"
+    empty_parts "$row" >"$work/plan"
+    says "$row machines" best "$work/job" "$work/plan"
+    says "$row machines, an empty plan" "refused 12" "$work/job" "$work/empty"
+done
+for row in $((machines + 1)) $((machines + 2)) 128 255 256 257; do
+    records "$row" 1 1 >"$work/job"
+    empty_parts "$row" >"$work/plan"
+    refused 7 "$row machines"
+    says "$row machines and as many records" "refused 7" "$work/job" "$work/plan"
+    record 2 1 >>"$work/job"
+    refused 7 "$row machines and a tile"
+    record 2 1000001 >>"$work/job"
+    refused 6 "$row machines and a bad weight"
+    {
+        records $((row - 1)) 1 1
+        record 1 0
+    } >"$work/job"
+    refused 5 "$row machines, the last speed 0"
+done
 {
     record 1 1
-    records 2049 2 0
+    records "$tiles" 2 0
 } >"$work/job"
-refused 8 "2,049 tiles"
+fields 0 "$tiles" 0 1 >"$work/plan"
+says "$(figure "$tiles") tiles" best "$work/job" "$work/plan"
+record 2 0 >>"$work/job"
+refused 8 "$(figure $((tiles + 1))) tiles"
+{
+    records $((machines + 1)) 1 1
+    records $((tiles + 1)) 2 0
+} >"$work/job"
+refused 7 "$((machines + 1)) machines and $(figure $((tiles + 1))) tiles"
+{
+    records "$machines" 1 1
+    records $((tiles + 1)) 2 0
+} >"$work/job"
+refused 8 "$machines machines and $(figure $((tiles + 1))) tiles"
 
 # refusals of the plan, in their order
 # plan NAME LINE VALUE..: a plan of A with these fields
@@ -223,7 +277,9 @@ for length in 1 15 16 17 31; do
 done
 
 # longer plans: a byte, a record, up to the end of what is taken in, past it, far past it
-for more in 1 2 15 16 17 4063 4064 4065 4079 4080 4081 4082 100000 1000000; do
+size=$(wc -c <"$best")
+for more in 1 2 15 16 17 $((longest_plan - size - 1)) $((longest_plan - size)) $((longest_plan - size + 1)) \
+    $((plan_intake - size - 1)) $((plan_intake - size)) $((plan_intake - size + 1)) $((plan_intake - size + 2)) 4096 100000 1000000; do
     {
         cat "$best"
         head -c "$more" /dev/zero
@@ -231,6 +287,8 @@ for more in 1 2 15 16 17 4063 4064 4065 4079 4080 4081 4082 100000 1000000; do
     says "a plan and $more bytes more" "refused 12" "$a" "$work/plan"
 done
 long=$work/large2.plan
+equal "large2: its bytes" "$longest_job" "$(wc -c <examples/large2.job | tr -d ' ')"
+equal "large2: the bytes of its plan" "$longest_plan" "$(wc -c <"$long" | tr -d ' ')"
 for more in 1 8 15 16 17 32 100000; do
     {
         cat "$long"
@@ -238,56 +296,72 @@ for more in 1 8 15 16 17 32 100000; do
     } >"$work/plan"
     says "the longest plan and $more bytes more" "refused 12" examples/large2.job "$work/plan"
 done
-for less in 1 16 17 4095; do
-    head -c "$((4096 - less))" "$long" >"$work/plan"
+for less in 1 16 17 $((longest_plan - 1)); do
+    head -c "$((longest_plan - less))" "$long" >"$work/plan"
     says "the longest plan less $less bytes" "refused 12" examples/large2.job "$work/plan"
 done
 {
-    head -c 4095 "$long"
+    head -c $((longest_plan - 1)) "$long"
     printf '\177'
 } >"$work/plan"
 says "the longest plan, its last byte changed" "refused 13" examples/large2.job "$work/plan"
 {
-    head -c 4080 "$long"
+    head -c $((longest_plan - 16)) "$long"
     printf '\377'
     tail -c 15 "$long"
 } >"$work/plan"
 says "the longest plan, a gap before its last record" "refused 11" examples/large2.job "$work/plan"
 
-# longer jobs: large2 is the longest, 18,432 bytes; 18,440 are taken in
+# longer jobs: large2 is the longest
 records 2 2 1 >"$work/tail"
 for more in 1 4 7 8 9 15 16; do
     {
         cat examples/large2.job
         head -c "$more" "$work/tail"
     } >"$work/job"
-    says "a job of $((18432 + more)) bytes" "refused $([ "$more" -lt 8 ] && echo 2 || echo 8)" "$work/job" "$long"
+    says "a job of $(figure $((longest_job + more))) bytes" "refused $([ "$more" -lt 8 ] && echo 2 || echo 8)" "$work/job" "$long"
 done
-{
-    cat examples/large2.job
-    record 1 1
-} >"$work/job"
-says "a machine as record 2,305" "refused 4" "$work/job" "$long"
-{
-    cat examples/large2.job
-    record 9 9
-    records 3 2 1
-} >"$work/job"
-says "a fault just inside what is taken in" "refused 3" "$work/job" "$long"
-{
-    cat examples/large2.job
-    record 2 1
-    record 9 9
-    printf '\001\002\003'
-} >"$work/job"
-says "faults just outside of what is taken in" "refused 8" "$work/job" "$long"
+# The last record inside is judged, the next one is not: behind the longest job, and behind as many machines.
+last=$(figure $((job_intake / 8)))
+next=$(figure $((job_intake / 8 + 1)))
+records $((longest_job / 8)) 1 1 >"$work/row"
+# around NAME KIND VALUE NUMBER NUMBER: the two numbers that the record gives inside
+around() {
+    for front in examples/large2.job "$work/row"; do
+        case $front in
+        examples/*) behind="the longest job" number=$4 good=2 past=8 ;;
+        *) behind="machines alone" number=$5 good=1 past=7 ;;
+        esac
+        {
+            cat "$front"
+            record "$2" "$3"
+        } >"$work/job"
+        says "$1 as record $last, behind $behind" "refused $number" "$work/job" "$long"
+        printf '\001' >>"$work/job"
+        says "$1 as record $last and a byte, behind $behind" "refused $number" "$work/job" "$long"
+        {
+            cat "$front"
+            record "$good" 1
+            record "$2" "$3"
+        } >"$work/job"
+        says "$1 as record $next, behind $behind" "refused $past" "$work/job" "$long"
+        printf '\001\002\003' >>"$work/job"
+        says "$1 as record $next and three bytes, behind $behind" "refused $past" "$work/job" "$long"
+    done
+}
+around "kind 9" 9 9 3 3
+around "a machine" 1 1 4 7
+around "a machine of speed 0" 1 0 4 5
+around "a machine of speed 10,001" 1 10001 4 5
+around "a tile" 2 1 8 7
+around "a tile of weight 1,000,001" 2 1000001 6 6
 {
     cat examples/large2.job
     head -c 300000 /dev/zero
 } >"$work/job"
 says "zeros behind the longest job" "refused 3" "$work/job" "$long"
-records 2306 1 1 >"$work/job"
-says "2,306 machines" "refused 7" "$work/job" "$long"
+records $((job_intake / 8 + 1)) 1 1 >"$work/job"
+says "$next machines" "refused 7" "$work/job" "$long"
 
 # pipes as files
 printf 'best\n' >"$work/wanted"
@@ -332,7 +406,7 @@ in_pieces "$long" 5 2000 1 16 >"$work/plans" &
 writers="$writers $!"
 piped "the longest by pipes, in pieces" best
 {
-    in_pieces examples/large2.job 18431
+    in_pieces examples/large2.job $((longest_job - 1))
     sleep 0.02
     head -c 8 "$work/tail"
     exec sleep 8
@@ -346,7 +420,7 @@ writers=$!
 {
     in_pieces "$best" 20
     sleep 0.02
-    head -c 4080 /dev/zero
+    head -c $((plan_intake - size)) /dev/zero
     exec sleep 8
 } >"$work/plans" 2>/dev/null &
 writers="$writers $!"
@@ -513,7 +587,7 @@ for page in README.md docs/grade.1; do
     done <"$work/shown"
 done
 equal "grades that the pages show" 4 "$shown"
-taken=$(printf '%s %s' $((8 * (256 + 2048 + 1))) $((16 * (256 + 1))) | sed 's/\([0-9]\)\([0-9]\{3\}\)\( \|$\)/\1,\2\3/g')
+taken="$(figure "$job_intake") $(figure "$plan_intake")"
 equal "how much is read, ./grade --help" "$taken" "$(./grade --help | tr '\n' ' ' | sed -n 's/.*at most \([0-9,]*\) bytes are read and of the plan at most \([0-9,]*\),.*/\1 \2/p')"
 equal "how much is read, docs/grade.1" "$taken" "$(tr '\n' ' ' <docs/grade.1 | sed -n 's/.*at most \([0-9,]*\) bytes are read and of the plan at most \([0-9,]*\),.*/\1 \2/p')"
 equal "how much is read, docs/REFUSALS.md" "$taken" "$(tr '\n' ' ' <docs/REFUSALS.md | sed -n 's/.*take in at most \([0-9,]*\) bytes,.*takes in at most \([0-9,]*\) bytes.*/\1 \2/p')"

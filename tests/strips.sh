@@ -13,6 +13,17 @@ trap 'rm -rf "$work"' EXIT
 passed=0
 failed=0
 
+# the most machines and the most tiles of a job; the bytes of the longest job, and of what is taken in: one record more
+machines=96
+tiles=2048
+longest=$((8 * (machines + tiles)))
+intake=$((longest + 8))
+
+# figure NUMBER: with a comma before the last three digits
+figure() {
+    if [ "$1" -lt 1000 ]; then echo "$1"; else printf '%d,%03d\n' $(($1 / 1000)) $(($1 % 1000)); fi
+}
+
 # same NAME FILE FILE
 same() {
     if cmp -s "$2" "$3"; then
@@ -38,17 +49,31 @@ gives() {
     same "$1" "$work/wanted" "$work/got"
 }
 
+# first NAME LINE: the listing of what is in $work/job begins with the line
+first() {
+    equal "$1" "$2" "$("$program" <"$work/job" | head -n 1)"
+}
+
+# bytes KIND VALUE: a record of a job file as printf wants it
+bytes() {
+    printf '\\%03o\\000\\000\\000\\%03o\\%03o\\%03o\\%03o' "$1" \
+        $(($2 % 256)) $(($2 / 256 % 256)) $(($2 / 65536 % 256)) $(($2 / 16777216 % 256))
+}
+
 # record KIND VALUE: one record of a job file
 record() {
-    printf "$(printf '\\%03o\\000\\000\\000\\%03o\\%03o\\%03o\\%03o' "$1" \
-        $(($2 % 256)) $(($2 / 256 % 256)) $(($2 / 65536 % 256)) $(($2 / 16777216 % 256)))"
+    printf "$(bytes "$1" "$2")"
 }
 
 # records COUNT KIND VALUE
 records() {
-    record "$2" "$3" >"$work/one"
-    awk -v n="$1" 'BEGIN { for (i = 0; i < n; i++) print "" }' | while read -r _; do cat "$work/one"; done
+    printf "$(ONE=$(bytes "$2" "$3") awk -v n="$1" 'BEGIN { for (i = 0; i < n; i++) printf "%s", ENVIRON["ONE"] }')"
 }
+
+# the longest example is the longest job that there may be
+equal "large2: its bytes" "$longest" "$(wc -c <examples/large2.job | tr -d ' ')"
+equal "large2: its tiles and machines" "tiles $tiles machines $machines" \
+    "$("$program" <examples/large2.job | head -n 1 | cut -d ' ' -f 1-4)"
 
 # every example, whole, by a pipe, and in pieces that end within a record
 for job in examples/*.job; do
@@ -112,9 +137,7 @@ gives "speed 0" "refused 5"
 record 1 10001 >"$work/job"
 gives "speed 10,001" "refused 5"
 record 1 10000 >"$work/job"
-"$program" <"$work/job" | head -n 1 >"$work/got"
-echo "tiles 0 machines 1 total 0" >"$work/wanted"
-same "speed 10,000" "$work/wanted" "$work/got"
+first "speed 10,000" "tiles 0 machines 1 total 0"
 {
     record 1 1
     record 2 1000001
@@ -122,53 +145,111 @@ same "speed 10,000" "$work/wanted" "$work/got"
 gives "weight 1,000,001" "refused 6"
 record 2 5 >"$work/job"
 gives "no machine" "refused 7"
-records 257 1 1 >"$work/job"
-gives "257 machines" "refused 7"
+
+# rows: as many machines as there may be, and more; 256 was the most before
+for row in $((machines - 1)) "$machines"; do
+    records "$row" 1 1 >"$work/job"
+    first "$row machines" "tiles 0 machines $row total 0"
+done
+for row in $((machines + 1)) $((machines + 2)) 128 255 256 257; do
+    records "$row" 1 1 >"$work/job"
+    gives "$row machines" "refused 7"
+    record 2 1 >>"$work/job"
+    gives "$row machines and a tile" "refused 7"
+    record 2 1000001 >>"$work/job"
+    gives "$row machines and a bad weight" "refused 6"
+    {
+        records $((row - 1)) 1 1
+        record 1 0
+    } >"$work/job"
+    gives "$row machines, the last speed 0" "refused 5"
+done
 {
     record 1 1
-    records 2049 2 0
+    records "$tiles" 2 0
 } >"$work/job"
-gives "2,049 tiles" "refused 8"
+first "$(figure "$tiles") tiles" "tiles $tiles machines 1 total 0"
+record 2 0 >>"$work/job"
+gives "$(figure $((tiles + 1))) tiles" "refused 8"
+{
+    records $((machines + 1)) 1 1
+    records $((tiles + 1)) 2 0
+} >"$work/job"
+gives "$((machines + 1)) machines and $(figure $((tiles + 1))) tiles" "refused 7"
+{
+    records "$machines" 1 1
+    records $((tiles + 1)) 2 0
+} >"$work/job"
+gives "$machines machines and $(figure $((tiles + 1))) tiles" "refused 8"
 
-# around the end of what is taken in: large2 is the longest job, 18,432 bytes
+# around the end of what is taken in: large2 is the longest job
 records 2 2 1 >"$work/tail"
 for more in 1 2 3 4 5 6 7; do
     {
         cat examples/large2.job
         head -c "$more" "$work/tail"
     } >"$work/job"
-    gives "$((18432 + more)) bytes" "refused 2"
+    gives "$(figure $((longest + more))) bytes" "refused 2"
 done
 for more in 8 9 15 16; do
     {
         cat examples/large2.job
         head -c "$more" "$work/tail"
     } >"$work/job"
-    gives "$((18432 + more)) bytes" "refused 8"
+    gives "$(figure $((longest + more))) bytes" "refused 8"
 done
-{
-    cat examples/large2.job
-    record 1 1
-} >"$work/job"
-gives "a machine as record 2,305" "refused 4"
-{
-    cat examples/large2.job
-    record 2 1
-    record 9 9
-    printf '\001\002\003'
-} >"$work/job"
-gives "faults past what is taken in" "refused 8"
+# The last record inside is judged, the next one is not: behind the longest job, and behind as many machines.
+last=$(figure $((intake / 8)))
+next=$(figure $((intake / 8 + 1)))
+records $((longest / 8)) 1 1 >"$work/row"
+# around NAME KIND VALUE NUMBER NUMBER: the two numbers that the record gives inside
+around() {
+    for front in examples/large2.job "$work/row"; do
+        case $front in
+        examples/*) behind="the longest job" number=$4 good=2 past=8 ;;
+        *) behind="machines alone" number=$5 good=1 past=7 ;;
+        esac
+        {
+            cat "$front"
+            record "$2" "$3"
+        } >"$work/job"
+        gives "$1 as record $last, behind $behind" "refused $number"
+        printf '\001' >>"$work/job"
+        gives "$1 as record $last and a byte, behind $behind" "refused $number"
+        {
+            cat "$front"
+            record "$good" 1
+            record "$2" "$3"
+        } >"$work/job"
+        gives "$1 as record $next, behind $behind" "refused $past"
+        printf '\001\002\003' >>"$work/job"
+        gives "$1 as record $next and three bytes, behind $behind" "refused $past"
+    done
+}
+around "kind 9" 9 9 3 3
+around "a machine" 1 1 4 7
+around "a machine of speed 0" 1 0 4 5
+around "a machine of speed 10,001" 1 10001 4 5
+around "a tile" 2 1 8 7
+around "a tile of weight 1,000,001" 2 1000001 6 6
+for more in 1 4 7; do
+    {
+        cat "$work/row"
+        record 1 1
+        record 1 1 | head -c "$more"
+    } >"$work/job"
+    gives "$(figure $((intake + more))) bytes of machines" "refused 7"
+done
 {
     cat examples/large2.job
     head -c 100000 /dev/zero
 } >"$work/job"
 gives "zeros behind the longest job" "refused 3"
 {
-    record 1 1
-    records 2304 1 1
+    records $((intake / 8)) 1 1
     head -c 300000 /dev/zero
 } >"$work/job"
-gives "a longer file, 2,305 machines" "refused 7"
+gives "a longer file, $last machines" "refused 7"
 {
     {
         cat examples/large2.job
@@ -191,14 +272,14 @@ same "a pipe that gives nothing and closes late" "$work/wanted" "$work/got"
 
 # pauses at a record's end, within a record, and at each byte around the end of what is taken in
 {
-    head -c 18424 examples/large2.job
+    head -c $((longest - 8)) examples/large2.job
     sleep 0.1
     tail -c 8 examples/large2.job
     sleep 0.1
 } | "$program" >"$work/got"
 same "a pause before the last record and after it" examples/large2.txt "$work/got"
 {
-    head -c 18428 examples/large2.job
+    head -c $((longest - 4)) examples/large2.job
     tail -c 4 examples/large2.job >"$work/rest"
     for i in 1 2 3 4; do
         sleep 0.02

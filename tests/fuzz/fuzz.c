@@ -8,6 +8,9 @@
 
 #include "../../include/pelshaqu.h"
 
+/* The most tiles of a job; of machines the header has the most. tests/fuzz/run reads both. */
+#define TILES 2048
+
 void blocks_watch(void);
 
 static void must(int good, const char *what) {
@@ -21,7 +24,7 @@ static uint32_t field(const uint8_t *at) {
 }
 
 struct job {
-    uint32_t machines, tiles, speeds[PELSHAQU_MAX_MACHINES + 1], weights[2049];
+    uint32_t machines, tiles, speeds[PELSHAQU_MAX_MACHINES + 1], weights[TILES + 1];
 };
 
 /* The tests of one record; a good one is added as far as there is room. */
@@ -32,7 +35,7 @@ static uint32_t take(struct job *job, const uint8_t *r) {
     if (r[0] == 1 && (value < 1 || value > 10000)) return 5;
     if (r[0] == 2 && value > 1000000) return 6;
     if (r[0] == 1 && job->machines++ < PELSHAQU_MAX_MACHINES) job->speeds[job->machines - 1] = value;
-    if (r[0] == 2 && job->tiles++ < 2048) job->weights[job->tiles - 1] = value;
+    if (r[0] == 2 && job->tiles++ < TILES) job->weights[job->tiles - 1] = value;
     return 0;
 }
 
@@ -44,7 +47,7 @@ static uint32_t judge(struct job *job, const uint8_t *file, size_t len, uint32_t
         if (number) return number;
     }
     if (job->machines < 1 || job->machines > PELSHAQU_MAX_MACHINES) return 7;
-    if (job->tiles > 2048) return 8;
+    if (job->tiles > TILES) return 8;
     return plan_len < 16 * (size_t)job->machines ? 9 : 0;
 }
 

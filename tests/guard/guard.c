@@ -7,7 +7,10 @@
 #include "../../include/pelshaqu.h"
 
 #define GUARD 64
-#define LARGEST 20000
+/* The most tiles of a job; of machines the header has the most. */
+#define TILES 2048
+/* Room for a machine and a tile more than a job may have. */
+#define LARGEST (8 * (PELSHAQU_MAX_MACHINES + TILES + 2))
 
 static unsigned long calls;
 
@@ -71,6 +74,7 @@ static void alone(const uint8_t *job, size_t job_len, uint32_t method, size_t pl
 }
 
 static void both(const uint8_t *job, size_t job_len, uint32_t method, size_t plan_len, struct wanted wanted) {
+    if (job_len > LARGEST || plan_len > LARGEST) fail("no room in the test itself", method, job_len, plan_len);
     guarded(job, job_len, method, plan_len, wanted);
     alone(job, job_len, method, plan_len, wanted);
 }
@@ -202,6 +206,7 @@ static void marked_jobs(void) {
     }
 }
 
+/* A job that is refused, whatever the method, the buffers and the plan beside it. */
 static void refused(const uint8_t *job, size_t job_len, uint32_t number) {
     for (uint32_t method = 1; method <= 4; method++) {
         for (size_t len = 0; len <= 48; len++) both(job, job_len, method, len, (struct wanted){number, NULL, 0});
@@ -239,20 +244,71 @@ static void refusals(void) {
     put(file, 1, 1);
     put(file + 8, 2, 1000001);
     refused(file, 16, 6);
-    for (n = 0; n < 257 * 8;) n += put(file + n, 1, 1);
-    refused(file, n, 7);
-    for (n = put(file, 1, 1); n < 2050 * 8;) n += put(file + n, 2, 0);
+    for (n = put(file, 1, 1); n < 8 * (1 + TILES + 1);) n += put(file + n, 2, 0);
     refused(file, n, 8);
 }
 
-/* The longest job: equal tiles and machines, so that every machine takes 8 tiles. */
+/* Writes machines, then tiles, and gives the bytes. */
+static size_t fill(uint8_t *job, size_t machines, size_t tiles) {
+    for (size_t p = 0; p < machines; p++) put(job + 8 * p, 1, 1);
+    for (size_t i = 0; i < tiles; i++) put(job + 8 * (machines + i), 2, 0);
+    return 8 * (machines + tiles);
+}
+
+/* Rows of the most machines and longer ones, by plan buffers and plans that would do for them: 128, and 255 to 257, where 256 was the
+ * most before, too. */
+static void rows(void) {
+    static const size_t longer[] = {PELSHAQU_MAX_MACHINES + 1, PELSHAQU_MAX_MACHINES + 2, 128, 255, 256, 257};
+    static uint8_t job[LARGEST], plan[LARGEST];
+    size_t n, m = 0;
+    for (size_t p = 0; p < LARGEST / 16; p++) m += part(plan + m, 0, 0, 0, 1);
+    for (size_t row = PELSHAQU_MAX_MACHINES - 1; row <= PELSHAQU_MAX_MACHINES; row++) {
+        n = fill(job, row, 0);
+        for (uint32_t method = 1; method <= 4; method++) {
+            for (size_t len = 16 * row - 1; len <= 16 * row + 1; len++) {
+                both(job, n, method, len, (struct wanted){len < 16 * row ? 9 : 0, plan, 16 * row});
+            }
+        }
+        graded(job, n, plan, 16 * row, 1, 0, 1);
+        graded(job, n, plan, 16 * row + 16, 1, 12, 0);
+        put(job, 1, 0);
+        refused(job, n, 5);
+    }
+    for (size_t k = 0; k < sizeof longer / sizeof *longer; k++) {
+        n = fill(job, longer[k], 1);
+        refused(job, n - 8, 7);
+        for (uint32_t method = 1; method <= 4; method++) {
+            for (size_t len = 16 * longer[k] - 1; len <= 16 * longer[k] + 1; len++) both(job, n, method, len, (struct wanted){7, NULL, 0});
+        }
+        graded(job, n - 8, plan, 16 * longer[k], 1, 7, 0);
+        graded(job, n - 8, plan, PELSHAQU_MAX_PLAN, 1, 7, 0);
+        put(job + n - 8, 2, 1000001);
+        refused(job, n, 6);
+        put(job + n - 16, 1, 10001);
+        refused(job, n, 5);
+    }
+    n = fill(job, PELSHAQU_MAX_MACHINES + 1, TILES + 1);
+    refused(job, n, 7);
+    n = fill(job, PELSHAQU_MAX_MACHINES, TILES + 1);
+    refused(job, n, 8);
+}
+
+/* A record of a plan of equal tiles on equal machines. */
+static size_t equal_part(uint8_t *at, uint32_t from, uint32_t to) {
+    return part(at, from, to, 1000000 * (to - from), 10000);
+}
+
+/* The longest job: equal tiles and machines. Some machine has to take as many tiles as this share; the plan gives it to each machine
+ * as long as there are tiles, and an even division is as good. */
 static void longest(void) {
     static uint8_t job[LARGEST], plan[PELSHAQU_MAX_PLAN];
+    const uint32_t machines = PELSHAQU_MAX_MACHINES, share = (TILES + machines - 1) / machines;
     size_t n = 0, m = 0;
-    for (int p = 0; p < PELSHAQU_MAX_MACHINES; p++) n += put(job + n, 1, 10000);
-    for (int i = 0; i < 2048; i++) n += put(job + n, 2, 1000000);
-    for (uint32_t p = 0; p < PELSHAQU_MAX_MACHINES; p++) {
-        m += part(plan + m, 8 * p, 8 * p + 8, 8000000, 10000);
+    for (uint32_t p = 0; p < machines; p++) n += put(job + n, 1, 10000);
+    for (int i = 0; i < TILES; i++) n += put(job + n, 2, 1000000);
+    for (uint32_t p = 0; p < machines; p++) {
+        uint32_t from = share * p, to = from + share;
+        m += equal_part(plan + m, from < TILES ? from : TILES, to < TILES ? to : TILES);
     }
     for (uint32_t method = 1; method <= 4; method++) {
         for (size_t len = m - 2; len <= m + 2; len++) both(job, n, method, len, (struct wanted){len < m ? 9 : 0, plan, m});
@@ -261,21 +317,28 @@ static void longest(void) {
     memcpy(longer, plan, m);
     for (size_t len = m - 17; len <= m + 17; len++) graded(job, n, longer, len, 1, len == m ? 0 : 12, 1);
     graded(job, n, plan, m, 0, 9, 0);
-    /* All on the first machine, and on the last; a load one off in the last record, and a gap before it. */
-    for (uint32_t p = 0; p < PELSHAQU_MAX_MACHINES; p++) part(longer + 16 * p, p ? 2048 : 0, 2048, p ? 0 : 2048000000, 10000);
+    /* All on the first machine, and on the last. */
+    for (uint32_t p = 0; p < machines; p++) equal_part(longer + 16 * p, p ? TILES : 0, TILES);
     graded(job, n, longer, m, 2, 0, 2);
-    for (uint32_t p = 0; p < PELSHAQU_MAX_MACHINES; p++) part(longer + 16 * p, 0, p < 255 ? 0 : 2048, p < 255 ? 0 : 2048000000, 10000);
+    for (uint32_t p = 0; p < machines; p++) equal_part(longer + 16 * p, 0, p + 1 < machines ? 0 : TILES);
     graded(job, n, longer, m, 2, 0, 2);
-    memcpy(longer, plan, m);
-    part(longer + m - 16, 2040, 2048, 8000001, 10000);
+    /* An even division; a load one off in its last record, and a gap before it. */
+    uint32_t last = 0;
+    for (uint32_t p = 0; p < machines; p++) {
+        last = TILES * p / machines;
+        equal_part(longer + 16 * p, last, TILES * (p + 1) / machines);
+    }
+    graded(job, n, longer, m, 1, 0, 1);
+    part(longer + m - 16, last, TILES, 1000000 * (TILES - last) + 1, 10000);
     graded(job, n, longer, m, 1, 13, 0);
-    part(longer + m - 16, 2041, 2048, 7000000, 10000);
+    equal_part(longer + m - 16, last + 1, TILES);
     graded(job, n, longer, m, 1, 11, 0);
 }
 
 int main(void) {
     marked_jobs();
     refusals();
+    rows();
     longest();
     printf("tests/guard: %lu calls, all as they must be\n", calls);
     return 0;

@@ -1,6 +1,7 @@
 //! What every call must answer and leave behind, on any input, by the scope (docs/SCOPE.md).
 
 use crate::job::{self, Job};
+use crate::limits::{self, BOUND_LOAD, BOUND_SPEED, MACHINES, SPEED, TILES, WEIGHT};
 use crate::methods::{self, Search, Tried};
 use crate::planner::Call;
 use crate::slow::{self, Bound};
@@ -61,10 +62,10 @@ fn answer(lent: &[u8], numbers: &[u128]) -> After {
 /// The tests of a job by lists.
 pub fn refuse_lists(speeds: &[u32], weights: &[u32]) -> u32 {
     let found = [
-        (speeds.iter().any(|&e| e == 0 || e > 10_000), 5),
-        (weights.iter().any(|&w| w > 1_000_000), 6),
-        (speeds.is_empty() || speeds.len() > 256, 7),
-        (weights.len() > 2_048, 8),
+        (speeds.iter().any(|&e| e == 0 || e > SPEED), 5),
+        (weights.iter().any(|&w| w > WEIGHT), 6),
+        (speeds.is_empty() || speeds.len() > MACHINES, 7),
+        (weights.len() > TILES, 8),
     ];
     found.iter().find(|(bad, _)| *bad).map_or(0, |(_, number)| *number)
 }
@@ -127,7 +128,7 @@ fn host_graded(given: &[&[u8]], solved: Option<&Solved>) -> Result<Vec<After>, u
 
 /// The listing, in a buffer with room for every one.
 fn listed(given: &[&[u8]]) -> Result<Vec<After>, u32> {
-    if given[1].len() < listing::ROOM {
+    if given[1].len() < limits::LISTING {
         return Err(9);
     }
     let text = listing::wanted(given[0]).into_bytes();
@@ -139,7 +140,7 @@ fn listed(given: &[&[u8]]) -> Result<Vec<After>, u32> {
 fn accepted(call: Call, job: Job, given: &[&[u8]], solved: Option<&Solved>) -> Result<Vec<After>, u32> {
     let stays = After::default;
     let (machines, tiles) = (job.speeds.len(), job.weights.len());
-    let file_bytes = 8 * (machines + tiles);
+    let file_bytes = limits::job_bytes(machines, tiles);
     match call {
         Call::Test => return Ok(vec![stays(), stays()]),
         Call::Write if given[2].len() < file_bytes => return Err(9),
@@ -155,8 +156,8 @@ fn accepted(call: Call, job: Job, given: &[&[u8]], solved: Option<&Solved>) -> R
     }
     let separators = words(given[2]);
     let short = match call {
-        Call::Plan { .. } => given[3].len() < 4 * 5 * (tiles + 1),
-        Call::PlanFile => given[3].len() < 16 * machines,
+        Call::Plan { .. } => given[3].len() < 4 * limits::work_numbers(tiles),
+        Call::PlanFile => given[3].len() < limits::plan_bytes(machines),
         _ => false,
     };
     if separators.len() < machines + 1 || short {
@@ -170,7 +171,7 @@ fn accepted(call: Call, job: Job, given: &[&[u8]], solved: Option<&Solved>) -> R
 }
 
 fn tried(job: &Job, load: u64, speed: u64, given: &[&[u8]]) -> Result<Vec<After>, u32> {
-    if load > 100_000_000_000_000 || speed == 0 || speed > 1_000_000_000 {
+    if load > BOUND_LOAD || speed == 0 || speed > BOUND_SPEED {
         return Err(10);
     }
     let stays = After::default;
@@ -210,7 +211,7 @@ fn solved_answer(call: Call, job: Job, given: &[&[u8]], solved: Option<&Solved>)
         let found = slow::bottleneck(&job, &s.quick);
         return Ok(vec![stays(), stays(), front(&s.quick), answer(given[3], &[found.0, found.1])]);
     };
-    let work = After { front: Vec::new(), free: 4 * 5 * (job.weights.len() + 1) };
+    let work = After { front: Vec::new(), free: 4 * limits::work_numbers(job.weights.len()) };
     let figures = [
         s.counts[method as usize - 1] as u128,
         methods::allowance(&job, method) as u128,

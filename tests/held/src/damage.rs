@@ -2,6 +2,7 @@
 
 use crate::check::Check;
 use crate::job::{machine, tile, Job, Record};
+use crate::limits::{plan_bytes, MACHINES, SPEED, TILES, WEIGHT};
 use crate::planner::Call;
 use crate::{every, grades, small};
 
@@ -34,9 +35,9 @@ fn some_method(c: &mut Check) -> u32 {
 
 fn some_room(c: &mut Check, machines: usize) -> usize {
     match c.rng.below(6) {
-        0 => c.rng.below(16 * machines + 1),
-        1 => 16 * machines + c.rng.below(50),
-        _ => 16 * machines,
+        0 => c.rng.below(plan_bytes(machines) + 1),
+        1 => plan_bytes(machines) + c.rng.below(50),
+        _ => plan_bytes(machines),
     }
 }
 
@@ -65,12 +66,12 @@ fn random_records(c: &mut Check) {
     let mut records: Vec<Record> = Vec::new();
     for _ in 0..machines {
         let bad = c.rng.once_in(rare);
-        let v = if bad { c.rng.pick(&[0, 10_001, 1_000_000, u32::MAX]) } else { c.rng.pick(&[1, 2, 9_999, 10_000]) };
+        let v = if bad { c.rng.pick(&[0, SPEED + 1, WEIGHT, u32::MAX]) } else { c.rng.pick(&[1, 2, SPEED - 1, SPEED]) };
         records.push(machine(v));
     }
     for _ in 0..tiles {
         let bad = c.rng.once_in(rare);
-        let v = if bad { c.rng.pick(&[1_000_001, 1_048_576, u32::MAX]) } else { c.rng.pick(&[0, 1, 999_999, 1_000_000]) };
+        let v = if bad { c.rng.pick(&[WEIGHT + 1, 1_048_576, u32::MAX]) } else { c.rng.pick(&[0, 1, WEIGHT - 1, WEIGHT]) };
         records.push(if c.rng.once_in(4 * rare) { machine(v) } else { tile(v) });
     }
     let method = some_method(c);
@@ -138,7 +139,7 @@ pub fn run(c: &mut Check, times: usize) {
         random_bytes(c);
         random_records(c);
     }
-    for (rounds, machines, tiles) in [(100_000, 4, 8), (3_000, 40, 200), (600, 258, 2_049)] {
+    for (rounds, machines, tiles) in [(100_000, 4, 8), (3_000, 40, 200), (600, MACHINES + 2, TILES + 1)] {
         for _ in 0..rounds * times {
             damaged(c, machines, tiles);
         }

@@ -5,6 +5,7 @@ use crate::check::Check;
 use crate::damage::is_tiny;
 use crate::grades;
 use crate::job::Job;
+use crate::limits::{job_bytes, plan_bytes, work_numbers, BOUND_LOAD, BOUND_SPEED};
 use crate::methods::{self, Tried};
 use crate::planner::Call;
 use crate::rng::Rng;
@@ -65,7 +66,7 @@ fn files(c: &mut Check, s: &Solved, e: &[u8], w: &[u8], thorough: bool) {
         let (lent_e, lent_w, answer) = (c.rng.pattern(4 * l[0]), c.rng.pattern(4 * l[1]), c.rng.pattern(8 * l[2]));
         c.judge(Call::Read, &[&file, &lent_e, &lent_w, &answer], Some(s));
     }
-    for l in lengths(&mut c.rng, &[8 * (p + n), 1], thorough) {
+    for l in lengths(&mut c.rng, &[job_bytes(p, n), 1], thorough) {
         let (lent, answer) = (c.rng.pattern(l[0]), c.rng.pattern(8 * l[1]));
         c.judge(Call::Write, &[e, w, &lent, &answer], Some(s));
     }
@@ -103,7 +104,7 @@ fn measures(c: &mut Check, s: &Solved, e: &[u8], w: &[u8], thorough: bool) {
         let (list, answer) = (with_length(&mut c.rng, &list, l[0]), c.rng.pattern(8 * l[1]));
         c.judge(Call::Measure, &[e, w, &list, &answer], Some(s));
     }
-    for l in lengths(&mut c.rng, &[p + 1, 16 * p, 1], thorough) {
+    for l in lengths(&mut c.rng, &[p + 1, plan_bytes(p), 1], thorough) {
         let list = division(&mut c.rng, s);
         let (list, plan, answer) = (with_length(&mut c.rng, &list, l[0]), c.rng.pattern(l[1]), c.rng.pattern(8 * l[2]));
         c.judge(Call::PlanFile, &[e, w, &list, &plan, &answer], Some(s));
@@ -141,12 +142,12 @@ fn bound(r: &mut Rng, s: &Solved) -> (u64, u64) {
         1 => (near.0 * times, near.1 * times),
         _ => ((near.0 * times + off).saturating_sub(1), near.1 * times),
     };
-    let near = (near.0.min(100_000_000_000_000) as u64, near.1.min(1_000_000_000) as u64);
+    let near = (near.0.min(BOUND_LOAD as u128) as u64, near.1.min(BOUND_SPEED as u128) as u64);
     match r.below(24) {
-        0 => (r.pick(&[0, 1, 100_000_000_000_000]), r.pick(&[1, 1_000_000_000])),
-        1 => (r.pick(&[100_000_000_000_001, u64::MAX, 1 << 63]), near.1),
-        2 => (near.0, r.pick(&[0, 1_000_000_001, 1 << 32, u64::MAX])),
-        3 => (r.next() % 100_000_000_000_001, 1 + r.next() % 1_000_000_000),
+        0 => (r.pick(&[0, 1, BOUND_LOAD]), r.pick(&[1, BOUND_SPEED])),
+        1 => (r.pick(&[BOUND_LOAD + 1, u64::MAX, 1 << 63]), near.1),
+        2 => (near.0, r.pick(&[0, BOUND_SPEED + 1, 1 << 32, u64::MAX])),
+        3 => (r.next() % (BOUND_LOAD + 1), 1 + r.next() % BOUND_SPEED),
         _ => near,
     }
 }
@@ -171,7 +172,7 @@ fn trials(c: &mut Check, s: &Solved, e: &[u8], w: &[u8], thorough: bool) {
     for l in lengths(&mut c.rng, &[p + 1, 3], thorough) {
         for _ in 0..2 {
             let (load, speed) = bound(&mut c.rng, s);
-            if speed != 0 && load <= 100_000_000_000_000 {
+            if speed != 0 && load <= BOUND_LOAD {
                 sound(c, s, (load as u128, speed as u128));
             }
             let (lent, answer) = (c.rng.pattern(4 * l[0]), c.rng.pattern(8 * l[1]));
@@ -218,7 +219,7 @@ fn plans(c: &mut Check, s: &Solved, e: &[u8], w: &[u8], thorough: bool) {
         if s.counts[method as usize - 1] > methods::allowance(&s.job, method) {
             c.fail("the solver's own count is above the allowance", format!("  {:?}", s));
         }
-        for l in lengths(&mut c.rng, &[p + 1, 5 * (n + 1), 5], thorough) {
+        for l in lengths(&mut c.rng, &[p + 1, work_numbers(n), 5], thorough) {
             let (lent, work, answer) = (c.rng.pattern(4 * l[0]), c.rng.pattern(4 * l[1]), c.rng.pattern(8 * l[2]));
             c.judge(Call::Plan { method }, &[e, w, &lent, &work, &answer], Some(s));
         }

@@ -1,13 +1,14 @@
 //! The fast reference, for jobs up to the limits.
 //!
-//! Two unequal bounds with speeds up to 10,000 lie at least 1/100,000,000 apart. On a grid of steps of half of that, the least
+//! Two unequal bounds lie at least 1 over the square of the greatest speed apart. On a grid of steps of half of that, the least
 //! step t at which a walk fits has exactly one share's bound between t − 1 (excluded) and t, and it is the least bottleneck. So
 //! the search is a halving of whole numbers t. The result is then checked exactly: no division keeps every share strictly below
 //! the bottleneck found, and the walk at the bottleneck itself gives the furthest division.
 
 use crate::job::Job;
+use crate::limits::SPEED;
 
-const STEPS: i128 = 200_000_000;
+const STEPS: i128 = 2 * SPEED as i128 * SPEED as i128;
 
 /// Gives each machine but the last as many tiles as `within(load, speed)` allows; None if the last one's rest is too much.
 fn walk(job: &Job, within: impl Fn(i128, i128) -> bool) -> Option<Vec<usize>> {

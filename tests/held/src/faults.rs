@@ -6,6 +6,8 @@ use std::sync::OnceLock;
 use crate::answers;
 use crate::grading;
 use crate::job::{self, Job};
+use crate::limits::{job_bytes, plan_bytes, work_numbers, BOUND_LOAD, BOUND_SPEED, FORMER, JOB_INTAKE, LISTING, LONGEST_JOB};
+use crate::limits::{MACHINES, SPEED, TILES, WEIGHT};
 use crate::listing;
 use crate::methods::{self, Tried};
 use crate::planner::{self, At, Call, Slot};
@@ -29,7 +31,7 @@ pub unsafe fn call(call: Call, at: &[At]) -> u32 {
 
 fn chosen() -> Run {
     let name = std::env::var("HELD_FAULT").unwrap_or_default();
-    match FAULTS.iter().find(|f| f.0 == name) {
+    match FAULTS.iter().chain(ROWS).find(|f| f.0 == name) {
         Some(f) => f.2,
         None => panic!("no fault named '{}'", name),
     }
@@ -37,7 +39,7 @@ fn chosen() -> Run {
 
 /// Prints the name of every fault, and what it is.
 pub fn list() {
-    for (name, what, _) in FAULTS {
+    for (name, what, _) in FAULTS.iter().chain(ROWS) {
         println!("{}\t{}", name, what);
     }
 }
@@ -156,17 +158,17 @@ impl Lists<'_> {
         let has = |slot| self.call.slots().contains(&slot);
         let lends = has(Slot::Separators);
         let mut short = lends && s.len() < e.len() + 1;
-        short |= has(Slot::Work) && self.words(Slot::Work).len() < 5 * (w.len() + 1);
-        short |= has(Slot::Plan) && self.bytes(Slot::Plan).len() < 16 * e.len();
-        short |= self.call == Call::Write && self.bytes(Slot::File).len() < 8 * (e.len() + w.len());
+        short |= has(Slot::Work) && self.words(Slot::Work).len() < work_numbers(w.len());
+        short |= has(Slot::Plan) && self.bytes(Slot::Plan).len() < plan_bytes(e.len());
+        short |= self.call == Call::Write && self.bytes(Slot::File).len() < job_bytes(e.len(), w.len());
         let divides = matches!(self.call, Call::Measure | Call::PlanFile);
-        let out = |load, speed| load > 100_000_000_000_000 || !(1..=1_000_000_000).contains(&speed);
+        let out = |load, speed| load > BOUND_LOAD || !(1..=BOUND_SPEED).contains(&speed);
         let tests = [
             (matches!(self.call, Call::Plan { method } if !(1..=4).contains(&method)), 1),
-            (e.iter().any(|&e| e == 0 || e > 10_000), 5),
-            (w.iter().any(|&w| w > 1_000_000), 6),
-            (e.is_empty() || e.len() > 256, 7),
-            (w.len() > 2_048, 8),
+            (e.iter().any(|&e| e == 0 || e > SPEED), 5),
+            (w.iter().any(|&w| w > WEIGHT), 6),
+            (e.is_empty() || e.len() > MACHINES, 7),
+            (w.len() > TILES, 8),
             (short, 9),
             (matches!(self.call, Call::Trial { load, speed } if out(load, speed)), 10),
             (divides && s.len() > e.len() && !answers::is_division(&s[..e.len() + 1], w.len()), 11),
@@ -233,6 +235,64 @@ impl Lists<'_> {
         let mut file = self.bytes(Slot::File).to_vec();
         change(&mut file);
         self.with(Slot::File, &mut file)
+    }
+
+    /// The lists of the job of a call, where no test before 7 fails.
+    fn counted(&self) -> Option<Job> {
+        match self.call {
+            Call::Plan { method } | Call::Host { method } if !(1..=4).contains(&method) => return None,
+            Call::Read | Call::List | Call::Host { .. } | Call::HostGrade => return job::parse(self.bytes(Slot::File)).ok(),
+            _ => {}
+        }
+        let job = Job::new(self.words(Slot::Speeds), self.words(Slot::Weights));
+        (![5, 6].contains(&answers::refuse_lists(&job.speeds, &job.weights))).then_some(job)
+    }
+
+    /// Whether no test after 7 fails.
+    fn but_for_its_row(&self, job: &Job) -> bool {
+        let (machines, tiles) = (job.speeds.len(), job.weights.len());
+        let is_true = || grading::read(job, self.bytes(Slot::Plan)).is_ok();
+        tiles <= TILES
+            && match self.call {
+                Call::Read => self.at[1].1 >= machines && self.at[2].1 >= tiles,
+                Call::Host { .. } => self.at[1].1 >= plan_bytes(machines),
+                Call::Grade => is_true(),
+                Call::HostGrade => self.at[2].1 > 0 && is_true(),
+                Call::List => self.at[1].1 >= LISTING,
+                _ => self.numbers().iter().all(|&n| n == 7),
+            }
+    }
+
+    /// Rows of just so many machines taken, or refused, where nothing else is wrong. A row that is taken gets no plan, but in a listing
+    /// its first line.
+    fn row(&self, wanted: bool, machines: usize, taken: bool) -> u32 {
+        let job = if wanted { self.counted() } else { None };
+        let Some(job) = job.filter(|job| job.speeds.len() == machines && self.but_for_its_row(job)) else { return self.real() };
+        let line = match taken {
+            true => format!("tiles {} machines {} total {}\n", job.weights.len(), machines, job.weight(0, job.weights.len())),
+            false => "refused 7\n".to_string(),
+        };
+        if self.call == Call::List {
+            self.bytes(Slot::Text)[..line.len()].copy_from_slice(line.as_bytes());
+            if let Some(v) = self.answer().first_mut() {
+                *v = line.len() as u64;
+            }
+        }
+        if taken || self.call == Call::List {
+            0
+        } else {
+            7
+        }
+    }
+
+    /// The listing of a file that is longer than what is taken in, judged by so many bytes. It is refused by any number of them.
+    fn judged_by(&self, bytes: usize) -> u32 {
+        self.listed(|l, n| {
+            let file = l.bytes(Slot::File);
+            if let Some(number) = job::read(&file[..file.len().min(bytes)], 1, usize::MAX).err().filter(|_| file.len() > JOB_INTAKE) {
+                l.bytes(Slot::Text)[n - 2] = b'0' + number as u8;
+            }
+        })
     }
 
     fn is_grading(&self) -> bool {
@@ -470,7 +530,7 @@ fn speed_before_place(file: &[u8]) -> Option<u32> {
         if r[1] != 0 || r[2] != 0 || r[3] != 0 || r[0] == 0 || r[0] > 2 {
             return None;
         }
-        let bad = r[0] == 1 && (value(r) == 0 || value(r) > 10_000);
+        let bad = r[0] == 1 && (value(r) == 0 || value(r) > SPEED);
         if tiles && r[0] == 1 {
             return bad.then_some(5);
         }
@@ -485,6 +545,9 @@ fn swap_fields(r: &mut [u8]) {
     }
 }
 
+/// Three quarters of the most machines.
+const MANY: usize = MACHINES * 3 / 4;
+
 #[rustfmt::skip]
 const FAULTS: &[(&str, &str, Run)] = &[
     ("none", "no fault: this one must pass", |l| l.real()),
@@ -492,7 +555,7 @@ const FAULTS: &[(&str, &str, Run)] = &[
     ("plan-separator-short", "the first inner separator one too small", |l| l.inner(l.is_plans(), |_, s| if s.len() > 2 && s[1] > 0 { s[1] -= 1 })),
     ("plan-separator-long", "the last inner separator one too great", |l| l.inner(l.is_plans(), |_, s| { let k = s.len() - 2; if k > 0 && s[k] < s[k + 1] { s[k] += 1 } })),
     ("plan-tie", "a share stopped before tiles of weight 0", |l| l.inner(l.is_plans(), |j, s| for k in 1..s.len() - 1 { if s[k] > s[k - 1] && j.weights[s[k] as usize - 1] == 0 { s[k] -= 1 } })),
-    ("plan-many", "one separator wrong, by bisection, with more than 200 machines", |l| l.inner(l.is_plan(3), |_, s| { let k = s.len() - 2; if k > 200 && s[k] > s[k - 1] { s[k] -= 1 } })),
+    ("plan-many", "one separator wrong, by bisection, with more than three quarters of the most machines", |l| l.inner(l.is_plan(3), |_, s| { let k = s.len() - 2; if k > MANY && s[k] > s[k - 1] { s[k] -= 1 } })),
     ("plan-seldom", "one separator wrong once in 50,000 plans", |l| l.inner(l.is_plans(), |_, s| if s.len() > 2 && s[1] > 0 && seldom(50_000) { s[1] -= 1 })),
     ("plan-quick", "the quick plan for bidding", |l| l.inner(l.is_plan(2), |j, s| for (to, from) in s.iter_mut().zip(methods::quick(j)) { *to = from as u32 })),
     ("plan-whole", "a bound rounded up to a whole number", |l| l.inner(l.is_plans(), |j, s| { let b = slow::bottleneck(j, &s.iter().map(|&x| x as usize).collect::<Vec<_>>()); if let Tried::Fits(d) = methods::trial(j, (b.0.div_ceil(b.1), 1)) { for (to, from) in s.iter_mut().zip(d) { *to = from as u32 } } })),
@@ -504,7 +567,7 @@ const FAULTS: &[(&str, &str, Run)] = &[
     ("plan-nothing", "no separators written", |l| { let before = l.words(Slot::Separators).to_vec(); l.then(l.is_plans(), |_| l.words(Slot::Separators).copy_from_slice(&before)) }),
     ("host-separator", "C call: a separator one too small", |l| l.inner(l.is_host(), |_, s| if s.len() > 2 && s[1] > 0 { s[1] -= 1 })),
     ("host-tie", "C call: a share stopped before tiles of weight 0", |l| l.inner(l.is_host(), |j, s| for k in 1..s.len() - 1 { if s[k] > s[k - 1] && j.weights[s[k] as usize - 1] == 0 { s[k] -= 1 } })),
-    ("host-many", "C call: a separator wrong with 256 machines only", |l| l.inner(l.is_host(), |_, s| { let k = s.len() - 2; if k == 255 && s[k] > s[k - 1] { s[k] -= 1 } })),
+    ("host-many", "C call: a separator wrong with the most machines only", |l| l.inner(l.is_host(), |_, s| { let k = s.len() - 2; if k + 1 == MACHINES && s[k] > s[k - 1] { s[k] -= 1 } })),
     ("host-big-endian", "C call: the load's bytes in the other order", |l| l.records(l.is_host(), |r| r[8..12].reverse())),
     ("host-exchanged", "C call: load and speed exchanged", |l| l.records(l.is_host(), swap_fields)),
     ("host-kind-3", "C call: a record of kind 3 taken for a tile", |l| l.seeing(l.is_host(), |f| f.chunks_exact_mut(8).for_each(|r| if r[0] == 3 { r[0] = 2 }))),
@@ -525,7 +588,7 @@ const FAULTS: &[(&str, &str, Run)] = &[
     ("count-nicol", "Nicol's search: the closing walk counted", |l| l.figure(l.is_plan(4), 0, |_, v| v + 1)),
     ("count-nicol-early", "Nicol's search: goes on where the empty share fits", |l| l.figure(l.is_plan(4), 0, |j, v| if methods::ideal(j).0 == 0 { times_digits(j, j.speeds.len() - 1, 0) } else { v })),
     ("count-nicol-high", "Nicol's search: N, known to fit, tried too", |l| l.figure(l.is_plan(4), 0, |j, v| v + j.speeds.len() as u64 - 1)),
-    ("count-nicol-many", "Nicol's search: a trial not counted, with more than 200 machines and 2,000 tiles", |l| l.figure(l.is_plan(4) && l.at[0].1 > 200 && l.at[1].1 > 2_000, 0, |_, v| v.saturating_sub(1))),
+    ("count-nicol-many", "Nicol's search: a trial not counted, with more than three quarters of the most machines and 2,000 tiles", |l| l.figure(l.is_plan(4) && l.at[0].1 > MANY && l.at[1].1 > 2_000, 0, |_, v| v.saturating_sub(1))),
     ("count-nicol-bisection", "Nicol's search: bisection's count", |l| l.figure(l.is_plan(4), 0, |j, _| methods::halvings(j))),
     ("count-zero", "table: moves over tiles of weight 0 not counted", |l| l.figure(l.is_plan(1), 0, |j, v| v.saturating_sub(j.weights.iter().filter(|&&w| w == 0).count() as u64))),
     ("allowance-table", "table: one too many", |l| l.figure(l.is_plan(1), 1, |_, v| v + 1)),
@@ -553,12 +616,11 @@ const FAULTS: &[(&str, &str, Run)] = &[
     ("order-rules", "reading: 3 to 6 rule by rule, not record by record", |l| l.by_records(rule_by_rule)),
     ("order-5-4", "reading: 5 before 4 in one record", |l| l.by_records(speed_before_place)),
     ("order-2-late", "reading: the length tested after the records", |l| if l.call == Call::Read && l.at[0].1 % 8 != 0 { let mut f = l.bytes(Slot::File).to_vec(); f.truncate(l.at[0].1 / 8 * 8); match l.with(Slot::File, &mut f) { n @ 3..=6 => n, _ => 2 } } else { l.real() }),
-    ("limit-speed", "speed 10,000 refused", |l| if l.call == Call::Test && l.words(Slot::Speeds).contains(&10_000) { 5 } else { l.real() }),
-    ("limit-weight", "weight 1,000,001 passes", |l| if l.call == Call::Test && l.numbers() == [6] && l.words(Slot::Weights).iter().all(|&w| w <= 1_000_001) { 0 } else { l.real() }),
-    ("limit-machines", "257 machines pass", |l| if l.call == Call::Test && l.numbers() == [7] && l.at[0].1 == 257 { 0 } else { l.real() }),
-    ("limit-tiles", "2,048 tiles refused", |l| if l.call == Call::Test && l.numbers().is_empty() && l.at[1].1 == 2_048 { 8 } else { l.real() }),
-    ("limit-load", "a bound's load of 100,000,000,000,000 refused", |l| if matches!(l.call, Call::Trial { load: 100_000_000_000_000, .. }) && l.numbers().is_empty() { 10 } else { l.real() }),
-    ("limit-bound", "a bound's speed of 1,000,000,001 passes", |l| match l.call { Call::Trial { load, speed: 1_000_000_001 } => l.other(Call::Trial { load, speed: 1_000_000_000 }), _ => l.real() }),
+    ("limit-speed", "the greatest speed refused", |l| if l.call == Call::Test && l.words(Slot::Speeds).contains(&SPEED) { 5 } else { l.real() }),
+    ("limit-weight", "one more than the greatest weight passes", |l| if l.call == Call::Test && l.numbers() == [6] && l.words(Slot::Weights).iter().all(|&w| w <= WEIGHT + 1) { 0 } else { l.real() }),
+    ("limit-tiles", "the most tiles refused", |l| if l.call == Call::Test && l.numbers().is_empty() && l.at[1].1 == TILES { 8 } else { l.real() }),
+    ("limit-load", "the greatest load of a bound refused", |l| if matches!(l.call, Call::Trial { load: BOUND_LOAD, .. }) && l.numbers().is_empty() { 10 } else { l.real() }),
+    ("limit-bound", "one more than the greatest speed of a bound passes", |l| match l.call { Call::Trial { load, speed } if speed == BOUND_SPEED + 1 => l.other(Call::Trial { load, speed: BOUND_SPEED }), _ => l.real() }),
     ("short-separators", "P separators taken for enough", |l| if l.call == Call::Quick && l.numbers() == [9] && l.at[2].1 == l.at[0].1 { 0 } else { l.real() }),
     ("short-work", "5 N work numbers taken for enough", |l| if l.is_plans() && l.numbers() == [9] && l.at[3].1 >= 5 * l.at[1].1 { 0 } else { l.real() }),
     // Stores.
@@ -593,7 +655,7 @@ const FAULTS: &[(&str, &str, Run)] = &[
     ("grading-whole", "grading: bottlenecks compared in whole numbers", |l| l.best_if(|j, b| b.0 / b.1 <= best_bound(j).0 / best_bound(j).1)),
     ("grading-quick", "grading: compared with the quick plan", |l| l.best_if(|j, b| !less(slow::bottleneck(j, &methods::quick(j)), b))),
     ("grading-ideal", "grading: best only where the ideal is met", |l| l.best_if(|j, b| !less(methods::ideal(j), b))),
-    ("grading-many", "grading: best always with more than 200 machines", |l| l.regrade(|j, _, v| if j.speeds.len() > 200 { 1 } else { v })),
+    ("grading-many", "grading: best always with more than three quarters of the most machines", |l| l.regrade(|j, _, v| if j.speeds.len() > MANY { 1 } else { v })),
     ("grading-13-11", "grading: 13 before 11", |l| l.renumber(|j, r, n| if n == 11 && r.iter().enumerate().any(|(p, r)| untrue(j, r, p)) { 13 } else { n })),
     ("grading-record", "grading: 11 and 13 record by record", |l| l.renumber(record_by_record)),
     ("grading-12-11", "grading: 12 after 11", |l| l.renumber(|j, r, n| if n == 12 && r.len() >= j.speeds.len() && grading::read(j, &job::encode(&r[..j.speeds.len()].to_vec())) == Err(11) { 11 } else { n })),
@@ -636,14 +698,18 @@ const FAULTS: &[(&str, &str, Run)] = &[
     ("list-space", "listing: two spaces in the place of the first digit and its space", |l| l.listed(|l, _| if let Some(k) = l.bytes(Slot::Text).iter().position(|&b| b == b' ') { l.bytes(Slot::Text)[k + 1] = b' ' })),
     ("list-count", "listing: a byte too many counted", |l| l.listed(|l, _| if let Some(v) = l.answer().first_mut() { *v += 1 })),
     ("list-fourth", "listing: the fourth line numbered 3", |l| l.listed(|l, n| { let text = l.bytes(Slot::Text); if let Some(k) = text[..n - 1].iter().rposition(|&b| b == b'\n') { text[k + 1] = b'3' } })),
-    ("list-short", "listing: a buffer one byte too short taken for enough", |l| match l.real() { 9 if l.call == Call::List && l.at[1].1 + 1 == listing::ROOM => 0, code => code }),
+    ("list-intake-less", "listing: a record too little taken in", |l| if l.call == Call::List && l.at[0].1 > LONGEST_JOB { let mut f = l.bytes(Slot::File).to_vec(); f.truncate(LONGEST_JOB); l.with(Slot::File, &mut f) } else { l.real() }),
+    ("list-intake-more", "listing: a record too many taken in", |l| l.judged_by(JOB_INTAKE + 8)),
+    ("list-intake-byte", "listing: a byte too many taken in", |l| l.judged_by(JOB_INTAKE + 1)),
+    ("list-intake-whole", "listing: a longer file judged whole", |l| l.judged_by(usize::MAX)),
+    ("list-short", "listing: a buffer one byte too short taken for enough", |l| match l.real() { 9 if l.call == Call::List && l.at[1].1 + 1 == LISTING => 0, code => code }),
     // Measuring, trial, quick plan.
     ("measure-no-division", "measuring: a division that does not begin at 0 taken", |l| match l.real() { 11 if l.call == Call::Measure => { let (s, n) = (l.words(Slot::Separators), l.at[0].1); let first = std::mem::replace(&mut s[0], 0); let code = l.real(); s[0] = first; if n > 0 { code } else { 11 } } n => n }),
     ("measure-load", "measuring: the greatest load, not the greatest bound", |l| { let s = l.words(Slot::Separators).to_vec(); l.pair(l.call == Call::Measure, 0, |j, _| (0..j.speeds.len()).map(|p| (j.weight(s[p] as usize, s[p + 1] as usize), j.speeds[p] as u128)).reduce(|a, b| if b.0 > a.0 { b } else { a }).unwrap()) }),
     ("measure-last", "measuring: the pair of the highest-numbered machine", |l| { let s = l.words(Slot::Separators).to_vec(); l.pair(l.call == Call::Measure, 0, |j, b| of_last_machine(j, &s, b)) }),
     ("measure-reduced", "measuring: the pair reduced", |l| l.pair(l.call == Call::Measure, 0, |_, b| reduced(b))),
-    ("trial-lax", "trial: fits at a bound that is one below", |l| match l.call { Call::Trial { load, speed } if load < 100_000_000_000_000 => l.other(Call::Trial { load: load + 1, speed }), _ => l.real() }),
-    ("trial-strict", "trial: a share equal to the bound is too much", |l| match l.call { Call::Trial { load, speed } if (1..=100_000_000_000_000).contains(&load) && (1..=1_000_000_000).contains(&speed) => l.other(Call::Trial { load: load - 1, speed }), _ => l.real() }),
+    ("trial-lax", "trial: fits at a bound that is one below", |l| match l.call { Call::Trial { load, speed } if load < BOUND_LOAD => l.other(Call::Trial { load: load + 1, speed }), _ => l.real() }),
+    ("trial-strict", "trial: a share equal to the bound is too much", |l| match l.call { Call::Trial { load, speed } if (1..=BOUND_LOAD).contains(&load) && (1..=BOUND_SPEED).contains(&speed) => l.other(Call::Trial { load: load - 1, speed }), _ => l.real() }),
     ("trial-writes", "trial: separators written by a trial that fails", |l| l.then(l.is_trial(), |_| if l.answer().first() == Some(&0) { l.words(Slot::Separators)[0] ^= 1 })),
     ("trial-silent", "trial: no separators written by a fit", |l| { let before = l.words(Slot::Separators).to_vec(); l.then(l.is_trial(), |_| l.words(Slot::Separators).copy_from_slice(&before)) }),
     ("trial-fails", "trial: fails always", |l| l.figure(l.is_trial(), 0, |_, _| 0)),
@@ -654,4 +720,30 @@ const FAULTS: &[(&str, &str, Run)] = &[
     ("quick-tie", "quick plan: the greatest of the nearest indices", |l| requick(l, |new, old| new.abs() <= old.abs())),
     ("quick-below", "quick plan: the last index below the target, not the nearest", |l| requick(l, |new, _| new <= 0)),
     ("quick-best", "quick plan: the bottleneck of the best plan", |l| l.pair(l.call == Call::Quick, 0, |j, _| best_bound(j))),
+];
+
+/// Of each call alone: a row of the most machines refused, one of a machine more taken, one of as many as the limit was before taken.
+macro_rules! rows {
+    ($(($name:literal, $words:literal, $call:pat),)*) => {
+        &[$(
+            (concat!("row-most-", $name), concat!($words, ": the most machines refused"), |l| l.row(matches!(l.call, $call), MACHINES, false)),
+            (concat!("row-more-", $name), concat!($words, ": one machine too many taken"), |l| l.row(matches!(l.call, $call), MACHINES + 1, true)),
+            (concat!("row-former-", $name), concat!($words, ": the most machines of before taken"), |l| l.row(matches!(l.call, $call), FORMER, true)),
+        )*]
+    };
+}
+
+const ROWS: &[(&str, &str, Run)] = rows![
+    ("test", "testing", Call::Test),
+    ("read", "reading", Call::Read),
+    ("write", "writing", Call::Write),
+    ("measure", "measuring", Call::Measure),
+    ("trial", "trial", Call::Trial { .. }),
+    ("quick", "quick plan", Call::Quick),
+    ("plan", "plan", Call::Plan { .. }),
+    ("planfile", "plan file", Call::PlanFile),
+    ("list", "listing", Call::List),
+    ("host", "C call", Call::Host { .. }),
+    ("grade", "grading", Call::Grade),
+    ("hostgrade", "C grading", Call::HostGrade),
 ];

@@ -8,10 +8,11 @@ use crate::check::{self, Check};
 use crate::damage::{self, is_tiny};
 use crate::grading::{self, Grade};
 use crate::job::{self, machine, Job, Plan};
+use crate::limits::{plan_bytes, work_numbers, JOB_INTAKE, LONGEST_PLAN, MACHINES, PLAN_INTAKE, SPEED, TILES, TOO_MANY, WEIGHT};
 use crate::lists::job_with;
 use crate::planner::Call;
 use crate::rng::Rng;
-use crate::{methods, slow, small};
+use crate::{listing, methods, slow, small};
 
 use Grade::{Best, Valid};
 
@@ -131,19 +132,20 @@ fn worked(c: &mut Check) {
     both(c, &a, &bytes, Ok(Best));
 }
 
-/// The longest job of equal tiles and machines: 8 tiles on each machine, and all on one.
+/// The longest job of equal tiles and machines: as many tiles on each machine, but for one, and all on one.
 fn longest(c: &mut Check) {
-    let s = Solved::of(&Job::new(&[10_000; 256], &[1_000_000; 2_048]));
-    let even: Vec<usize> = (0..=256).map(|p| 8 * p).collect();
+    let s = Solved::of(&Job::new(&[SPEED; MACHINES], &[WEIGHT; TILES]));
+    let even: Vec<usize> = (0..=MACHINES).map(|p| p * TILES / MACHINES).collect();
     of_division(c, &s, &even, Best);
     damaged(c, &s, &even);
-    for first in [0, 1, 100, 255] {
-        let all: Vec<usize> = (0..=256).map(|p| if p > first { 2_048 } else { 0 }).collect();
+    lengths(c, &s, &even);
+    for first in [0, 1, MACHINES / 2, MACHINES - 1] {
+        let all: Vec<usize> = (0..=MACHINES).map(|p| if p > first { TILES } else { 0 }).collect();
         of_division(c, &s, &all, Valid);
     }
-    let nothing = Solved::of(&Job::new(&[1; 256], &[0; 2_048]));
+    let nothing = Solved::of(&Job::new(&[1; MACHINES], &[0; TILES]));
     for _ in 0..20 {
-        let division = some_division(&mut c.rng, 256, 2_048);
+        let division = some_division(&mut c.rng, MACHINES, TILES);
         of_division(c, &nothing, &division, Best);
     }
 }
@@ -192,11 +194,11 @@ fn own(c: &mut Check, job: &Job) {
     let (e, w) = (bytes_of(&job.speeds), bytes_of(&job.weights));
     let separators = c.rng.pattern(4 * (machines + 1));
     for method in 1..=4 {
-        let work = c.rng.pattern(4 * 5 * (tiles + 1));
+        let work = c.rng.pattern(4 * work_numbers(tiles));
         c.judge(Call::Plan { method }, &[&e, &w, &separators, &work, &[]], Some(&s));
         let plan = written(c, &e, &w, &s);
         both(c, &s, &plan, Ok(Best));
-        let room = c.rng.pattern(16 * machines);
+        let room = c.rng.pattern(plan_bytes(machines));
         c.judge(Call::Host { method }, &[&job.file(), &room], Some(&s));
         let plan = c.after(1);
         both(c, &s, &plan, Ok(Best));
@@ -209,7 +211,7 @@ fn own(c: &mut Check, job: &Job) {
 
 /// The plan file that the planner writes of the separators that its last call left.
 fn written(c: &mut Check, e: &[u8], w: &[u8], s: &Solved) -> Vec<u8> {
-    let (separators, room) = (c.after(2), c.rng.pattern(16 * s.job.speeds.len()));
+    let (separators, room) = (c.after(2), c.rng.pattern(plan_bytes(s.job.speeds.len())));
     c.judge(Call::PlanFile, &[e, w, &separators, &room, &[]], Some(s));
     c.after(3)
 }
@@ -222,7 +224,7 @@ fn lengths(c: &mut Check, s: &Solved, division: &[usize]) {
     }
     let last = plan[plan.len() - 16..].to_vec();
     let end = job::encode(&vec![[s.job.weights.len() as u32, s.job.weights.len() as u32, 0, 1]]);
-    for more in [1, 2, 8, 15, 16, 17, 32, 160, 4_096] {
+    for more in [1, 2, 8, 15, 16, 17, 32, 160, LONGEST_PLAN, PLAN_INTAKE, 4_096] {
         for filler in [vec![0; more], c.rng.pattern(more)] {
             both(c, s, &[&plan[..], &filler].concat(), Err(12));
         }
@@ -236,7 +238,7 @@ fn lengths(c: &mut Check, s: &Solved, division: &[usize]) {
 fn damaged(c: &mut Check, s: &Solved, division: &[usize]) {
     let plan = job::plan_of(&s.job, division);
     let few = plan.len() <= 4;
-    for p in (0..plan.len()).filter(|&p| few || p < 2 || p + 2 >= plan.len() || p % 37 == 0) {
+    for p in (0..plan.len()).filter(|&p| few || p < 2 || p + 2 >= plan.len() || p % 13 == 0) {
         for field in 0..4 {
             one_field(c, s, &plan, p, field);
         }
@@ -378,8 +380,8 @@ fn plan_with(r: &mut Rng, speeds: &[u32], weights: &[u32], faults: &[u32], made:
     if has(12) {
         match r.below(5) {
             0 if machines > 0 => bytes.truncate(0),
-            1 if machines > 0 => bytes.truncate(16 * machines - 1),
-            2 if machines > 0 => bytes.truncate(16 * machines - 16),
+            1 if machines > 0 => bytes.truncate(plan_bytes(machines) - 1),
+            2 if machines > 0 => bytes.truncate(plan_bytes(machines - 1)),
             3 => bytes.extend([0; 16]),
             _ => bytes.push(0),
         }
@@ -467,10 +469,6 @@ pub fn beside(c: &mut Check, file: &[u8]) {
     c.judge(Call::HostGrade, &[file, &plan, &grade], None);
 }
 
-/// What the program takes in: one record more than the longest job, and one more than the longest plan.
-const JOB_INTAKE: usize = 8 * (256 + 2_048 + 1);
-const PLAN_INTAKE: usize = 16 * (256 + 1);
-
 /// What the program must say of two files.
 fn line(file: &[u8], plan: &[u8]) -> String {
     let (file, plan) = (&file[..file.len().min(JOB_INTAKE)], &plan[..plan.len().min(PLAN_INTAKE)]);
@@ -493,13 +491,44 @@ fn said(c: &mut Check, program: &str, folder: &std::path::Path, file: &[u8], pla
     }
 }
 
+/// A refusal whose number is also known by a rule.
+fn said_refused(c: &mut Check, program: &str, folder: &std::path::Path, file: &[u8], plan: &[u8], number: u32) {
+    let (must, rule) = (line(file, plan), format!("refused {}\n", number));
+    if must != rule {
+        c.fail(&format!("the solver says {} the rule {}", must, rule), check::describe(Call::HostGrade, &[file, plan, &[]]));
+    }
+    said(c, program, folder, file, plan);
+}
+
+/// The program on rows of machines at the limit and past it, beside plans that would be true, and beside others.
+fn rows(c: &mut Check, program: &str, folder: &std::path::Path) {
+    for machines in [MACHINES - 1, MACHINES] {
+        for tiles in [0, 1, TILES] {
+            let job = some_job(&mut c.rng, machines, tiles);
+            let plan = grading::file(&job, &some_division(&mut c.rng, machines, tiles));
+            said(c, program, folder, &job.file(), &plan);
+            said_refused(c, program, folder, &job.file(), &[&plan[..], &[0; 16]].concat(), 12);
+            said_refused(c, program, folder, &job.file(), &plan[16..], 12);
+        }
+    }
+    for machines in TOO_MANY {
+        for tiles in [0, 1, TILES, TILES + 1] {
+            let job = some_job(&mut c.rng, machines, tiles);
+            let plan = grading::file(&job, &some_division(&mut c.rng, machines, tiles));
+            said_refused(c, program, folder, &job.file(), &plan, 7);
+            said_refused(c, program, folder, &job.file(), &[], 7);
+        }
+    }
+}
+
 /// The program on random jobs and plans, some damaged, and on longer files than it takes in.
 fn program(c: &mut Check, times: usize) {
     let program = std::env::var("HELD_GRADE").unwrap_or_else(|_| concat!(env!("CARGO_MANIFEST_DIR"), "/../../target/bin/grade").to_string());
     let folder = std::env::temp_dir().join(format!("held-{}", std::process::id()));
     std::fs::create_dir_all(&folder).unwrap();
     for k in 0..300 * times {
-        let (machines, tiles) = if k % 10 == 0 { (1 + c.rng.below(256), c.rng.below(2_049)) } else { (1 + c.rng.below(4), c.rng.below(8)) };
+        let (most, longest) = if k % 10 == 0 { (MACHINES, TILES + 1) } else { (4, 8) };
+        let (machines, tiles) = (1 + c.rng.below(most), c.rng.below(longest));
         let job = some_job(&mut c.rng, machines, tiles);
         let s = Solved::of(&job);
         let (mut file, plan) = (job.file(), some_plan(&mut c.rng, &s));
@@ -508,13 +537,17 @@ fn program(c: &mut Check, times: usize) {
         }
         said(c, &program, &folder, &file, &plan);
     }
-    let job = some_job(&mut c.rng, 256, 2_048);
+    let job = some_job(&mut c.rng, MACHINES, TILES);
     let (file, plan) = (job.file(), grading::file(&job, &methods::quick(&job)));
     for more in [0, 1, 8, 9, 16, 17, 100_000] {
         let filler = c.rng.pattern(more);
         said(c, &program, &folder, &file, &[&plan[..], &filler].concat());
         said(c, &program, &folder, &[&file[..], &vec![0; more]].concat(), &plan);
     }
+    for (file, number) in listing::around_intake(&job) {
+        said_refused(c, &program, &folder, &file, &plan, number);
+    }
+    rows(c, &program, &folder);
     let _ = std::fs::remove_dir_all(&folder);
 }
 
@@ -549,7 +582,7 @@ pub fn run(c: &mut Check, times: usize) {
         random(c, machines, tiles);
     }
     for _ in 0..20 * times {
-        let (machines, tiles) = (1 + c.rng.below(256), c.rng.below(2_049));
+        let (machines, tiles) = (1 + c.rng.below(MACHINES), c.rng.below(TILES + 1));
         random(c, machines, tiles);
     }
     together(c, 24 * times);

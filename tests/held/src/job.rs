@@ -1,5 +1,7 @@
 //! Job files, read and written from the document alone.
 
+use crate::limits::{plan_bytes, MACHINES, SPEED, TILES, WEIGHT};
+
 #[derive(Clone, Debug, PartialEq)]
 pub struct Job {
     pub speeds: Vec<u32>,
@@ -50,10 +52,10 @@ impl Job {
         if is_machine && !self.weights.is_empty() {
             return Err(4);
         }
-        if is_machine && (value < 1 || value > 10_000) {
+        if is_machine && (value < 1 || value > SPEED) {
             return Err(5);
         }
-        if is_tile && value > 1_000_000 {
+        if is_tile && value > WEIGHT {
             return Err(6);
         }
         let list = if is_machine { &mut self.speeds } else { &mut self.weights };
@@ -62,11 +64,8 @@ impl Job {
     }
 }
 
-/// The tests of the C call in their order: the job, or the number of the refusal.
-pub fn read(file: &[u8], method: u32, plan_len: usize) -> Result<Job, u32> {
-    if method != 1 && method != 2 && method != 3 && method != 4 {
-        return Err(1);
-    }
+/// The tests 2 to 6 of a file: its lists, however long, or the number of the refusal.
+pub fn parse(file: &[u8]) -> Result<Job, u32> {
     if file.len() % 8 != 0 {
         return Err(2);
     }
@@ -74,13 +73,22 @@ pub fn read(file: &[u8], method: u32, plan_len: usize) -> Result<Job, u32> {
     for r in file.chunks(8) {
         job.take(r)?;
     }
-    if job.speeds.is_empty() || job.speeds.len() > 256 {
+    Ok(job)
+}
+
+/// The tests of the C call in their order: the job, or the number of the refusal.
+pub fn read(file: &[u8], method: u32, plan_len: usize) -> Result<Job, u32> {
+    if method != 1 && method != 2 && method != 3 && method != 4 {
+        return Err(1);
+    }
+    let job = parse(file)?;
+    if job.speeds.is_empty() || job.speeds.len() > MACHINES {
         return Err(7);
     }
-    if job.weights.len() > 2_048 {
+    if job.weights.len() > TILES {
         return Err(8);
     }
-    if plan_len < 16 * job.speeds.len() {
+    if plan_len < plan_bytes(job.speeds.len()) {
         return Err(9);
     }
     Ok(job)

@@ -4,6 +4,7 @@ use crate::answers::{bytes_of, After, Solved};
 use crate::check::Check;
 use crate::damage::is_tiny;
 use crate::job::{self, machine, tile, Job, Record};
+use crate::limits::{BOUND_LOAD, BOUND_SPEED, LISTING, LONGEST_PLAN, MACHINES, PLAN_INTAKE, SPEED, TILES, TOO_MANY, WEIGHT};
 use crate::planner::Call;
 use crate::slow::Bound;
 use crate::{every, fast, methods};
@@ -53,9 +54,9 @@ const ROUNDED: [Known; 5] = [
 ];
 
 /// As many and as heavy tiles as there can be, but the first one unit lighter.
-const ONE_LIGHTER: [u32; 2_048] = {
-    let mut weights = [1_000_000; 2_048];
-    weights[0] = 999_999;
+const ONE_LIGHTER: [u32; TILES] = {
+    let mut weights = [WEIGHT; TILES];
+    weights[0] = WEIGHT - 1;
     weights
 };
 
@@ -106,7 +107,36 @@ pub fn run(c: &mut Check) {
     }
     lines_of_a(c);
     files_of_a_and_d(c);
+    sentences(c);
     edges(c);
+}
+
+/// A number as the scope writes it.
+fn figure(number: u64) -> String {
+    match number {
+        0..=999 => number.to_string(),
+        _ => format!("{},{:03}", figure(number / 1000), number % 1000),
+    }
+}
+
+/// The limits of this test stand in the scope's sentences.
+fn sentences(c: &mut Check) {
+    let scope = include_str!("../../../docs/SCOPE.md");
+    let (machines, tiles) = (MACHINES as u64, TILES as u64);
+    for words in [
+        format!("A job has N tiles, 0 to {},", figure(tiles)),
+        format!("Each tile has a weight w, 0 to {}.", figure(WEIGHT as u64)),
+        format!("A job has P machines, 1 to {},", figure(machines)),
+        format!("Each machine has a speed e, 1 to {}.", figure(SPEED as u64)),
+        format!("has a load of 0 to {} and a speed of 1 to {}.", figure(BOUND_LOAD), figure(BOUND_SPEED)),
+        format!("; {} bytes for a listing;", figure(LISTING as u64)),
+        format!("An empty file and {} machines are refused with 7.", figure(machines + 1)),
+        format!("{} tiles are refused with 8.", figure(tiles + 1)),
+    ] {
+        if !scope.contains(&words) {
+            c.fail(&format!("docs/SCOPE.md does not say: {}", words), String::new());
+        }
+    }
 }
 
 /// A and D byte by byte.
@@ -135,38 +165,40 @@ fn files_of_a_and_d(c: &mut Check) {
 
 /// The limits, and what lies just past them.
 fn edges(c: &mut Check) {
-    // Speeds: 10,000 passes; 0 and 10,001 give 5. Weights: 1,000,000 passes, 1,000,001 gives 6.
-    c.accepted(&Job::new(&[10_000], &[5]), &[0, 1]);
+    // Speeds: the greatest passes; 0 and one more give 5. Weights: the greatest passes, one more gives 6.
+    c.accepted(&Job::new(&[SPEED], &[5]), &[0, 1]);
     c.accepted(&Job::new(&[1], &[5]), &[0, 1]);
-    c.accepted(&Job::new(&[1], &[1_000_000]), &[0, 1]);
+    c.accepted(&Job::new(&[1], &[WEIGHT]), &[0, 1]);
     c.accepted(&Job::new(&[1], &[0]), &[0, 1]);
-    for speed in [0, 10_001, 65_536, 65_537, 65_536 + 10_000, 0x0100_0001, 0x7FFF_FFFF, 0x8000_0001, u32::MAX] {
+    for speed in [0, SPEED + 1, 65_536, 65_537, 65_536 + SPEED, 0x0100_0001, 0x7FFF_FFFF, 0x8000_0001, u32::MAX] {
         single(c, &[machine(speed), tile(5)], 5);
         single(c, &[machine(1), machine(speed)], 5);
     }
-    for weight in [1_000_001, 0x0010_0000, 0x0100_0000, 0x0100_0001, 0x7FFF_FFFF, 0x8000_0000, u32::MAX] {
+    for weight in [WEIGHT + 1, 0x0010_0000, 0x0100_0000, 0x0100_0001, 0x7FFF_FFFF, 0x8000_0000, u32::MAX] {
         single(c, &[machine(1), tile(weight)], 6);
         single(c, &[machine(1), tile(0), tile(weight), tile(0)], 6);
     }
 
-    // Machines: none and 257 give 7, 256 pass. Tiles: 2,049 give 8, 2,048 pass. A 7-byte file gives 2.
+    // Machines: none and more than the most give 7, the most pass; counts that look like a good one when cut to 8 or 16 bits, too.
+    // Tiles: more than the most give 8, the most pass. A 7-byte file gives 2.
     single(c, &[], 7);
     single(c, &[tile(1)], 7);
-    for many in [257, 258, 512, 513, 65_536, 65_537, 65_536 + 256] {
+    let cut = [2 * MACHINES, 2 * MACHINES + 1, 256 + MACHINES, 512, 513, 65_536, 65_537, 65_536 + MACHINES, 65_536 + 256];
+    for many in TOO_MANY.into_iter().chain(cut) {
         single(c, &vec![machine(1); many], 7);
     }
-    for many in [2_049, 2_050, 4_096, 65_536, 65_537, 65_536 + 2_048] {
+    for many in [TILES + 1, TILES + 2, 2 * TILES, 65_536, 65_537, 65_536 + TILES] {
         let mut records = vec![machine(1)];
         records.extend(vec![tile(0); many]);
         single(c, &records, 8);
     }
-    let full = Job::new(&[1; 256], &[]);
-    c.accepted(&full, &[0; 257]);
-    let full = Job::new(&[1], &[1; 2_048]);
-    c.accepted(&full, &[0, 2_048]);
-    let mut first = vec![0; 257];
-    first[1..].fill(2_048);
-    c.accepted(&Job::new(&[10_000; 256], &[0; 2_048]), &first);
+    let full = Job::new(&[1; MACHINES], &[]);
+    c.accepted(&full, &[0; MACHINES + 1]);
+    let full = Job::new(&[1], &[1; TILES]);
+    c.accepted(&full, &[0, TILES]);
+    let mut first = vec![0; MACHINES + 1];
+    first[1..].fill(TILES);
+    c.accepted(&Job::new(&[SPEED; MACHINES], &[0; TILES]), &first);
     for method in 1..=4 {
         for plan_len in [0, 16, 33] {
             c.call(&[1, 0, 0, 0, 1, 0, 0], method, plan_len, Err(2));
@@ -177,7 +209,7 @@ fn edges(c: &mut Check) {
 fn single(c: &mut Check, records: &[Record], number: u32) {
     let file = records.concat();
     for method in 1..=4 {
-        for plan_len in [0, 16, 4_096] {
+        for plan_len in [0, 16, LONGEST_PLAN, PLAN_INTAKE] {
             c.call(&file, method, plan_len, Err(number));
         }
     }

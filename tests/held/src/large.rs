@@ -3,6 +3,7 @@
 use crate::answers::Solved;
 use crate::check::Check;
 use crate::job::Job;
+use crate::limits::{LONGEST_PLAN, MACHINES, SPEED, TILES, WEIGHT};
 use crate::planner::{self, Call};
 use crate::rng::Rng;
 use crate::{every, fast, guard, job, small};
@@ -10,9 +11,6 @@ use crate::{every, fast, guard, job, small};
 fn one(c: &mut Check, job: &Job) {
     every::job(c, &Solved::of(job), false);
 }
-
-const N: usize = 2_048;
-const P: usize = 256;
 
 /// A middle-sized job of any style.
 pub fn middle(c: &mut Check) {
@@ -22,8 +20,8 @@ pub fn middle(c: &mut Check) {
 
 /// Any size up to the limits, often the limits themselves.
 pub fn any_size(c: &mut Check) {
-    let machines = if c.rng.once_in(3) { P } else { 1 + c.rng.below(P) };
-    let tiles = if c.rng.once_in(3) { N } else { c.rng.below(N + 1) };
+    let machines = if c.rng.once_in(3) { MACHINES } else { 1 + c.rng.below(MACHINES) };
+    let tiles = if c.rng.once_in(3) { TILES } else { c.rng.below(TILES + 1) };
     sized(c, machines, tiles);
 }
 
@@ -41,11 +39,11 @@ pub fn run(c: &mut Check, times: usize) {
         any_size(c);
     }
     for _ in 0..200 * times {
-        sized(c, P, N);
+        sized(c, MACHINES, TILES);
     }
     // Two machines, bounds as near as they can be.
     for _ in 0..300 * times {
-        let sides = 1 + c.rng.below(1_023);
+        let sides = 1 + c.rng.below(TILES / 2 - 1);
         let job = small::neighbours(&mut c.rng, sides);
         one(c, &job);
     }
@@ -68,42 +66,42 @@ fn but_one<const LEN: usize>(at: usize, there: u32, elsewhere: u32) -> Vec<u32> 
 
 fn speed_shapes(r: &mut Rng) -> Vec<Vec<u32>> {
     vec![
-        vec![1; P],
-        vec![10_000; P],
-        (0..P).map(|_| r.range(1, 10_000)).collect(),
-        (0..P).map(|p| if p % 2 == 0 { 1 } else { 10_000 }).collect(),
-        but_one::<P>(0, 10_000, 1),
-        but_one::<P>(P - 1, 10_000, 1),
-        but_one::<P>(0, 1, 10_000),
-        but_one::<P>(P - 1, 1, 10_000),
+        vec![1; MACHINES],
+        vec![SPEED; MACHINES],
+        (0..MACHINES).map(|_| r.range(1, SPEED)).collect(),
+        (0..MACHINES).map(|p| if p % 2 == 0 { 1 } else { SPEED }).collect(),
+        but_one::<MACHINES>(0, SPEED, 1),
+        but_one::<MACHINES>(MACHINES - 1, SPEED, 1),
+        but_one::<MACHINES>(0, 1, SPEED),
+        but_one::<MACHINES>(MACHINES - 1, 1, SPEED),
         vec![1],
-        vec![10_000],
-        vec![1, 10_000],
-        vec![10_000, 1],
-        (0..P).map(|p| 9_745 + p as u32).collect(),
+        vec![SPEED],
+        vec![1, SPEED],
+        vec![SPEED, 1],
+        (1..=MACHINES).map(|p| SPEED - (MACHINES - p) as u32).collect(),
     ]
 }
 
 fn weight_shapes(r: &mut Rng) -> Vec<Vec<u32>> {
     vec![
-        vec![0; N],
-        vec![1; N],
-        vec![1_000_000; N],
-        (0..N).map(|_| r.range(0, 1_000_000)).collect(),
-        (0..N).map(|_| r.range(0, 1)).collect(),
-        but_one::<N>(0, 1_000_000, 0),
-        but_one::<N>(N - 1, 1_000_000, 0),
-        but_one::<N>(N / 2, 1_000_000, 0),
-        but_one::<N>(N / 2, 1_000_000, 1),
-        (0..N as u32).collect(),
-        (0..N as u32).rev().collect(),
-        (0..N).map(|k| if k % 97 == 0 { 1_000_000 } else { 0 }).collect(),
+        vec![0; TILES],
+        vec![1; TILES],
+        vec![WEIGHT; TILES],
+        (0..TILES).map(|_| r.range(0, WEIGHT)).collect(),
+        (0..TILES).map(|_| r.range(0, 1)).collect(),
+        but_one::<TILES>(0, WEIGHT, 0),
+        but_one::<TILES>(TILES - 1, WEIGHT, 0),
+        but_one::<TILES>(TILES / 2, WEIGHT, 0),
+        but_one::<TILES>(TILES / 2, WEIGHT, 1),
+        (0..TILES as u32).collect(),
+        (0..TILES as u32).rev().collect(),
+        (0..TILES).map(|k| if k % 97 == 0 { WEIGHT } else { 0 }).collect(),
         vec![],
-        vec![1_000_000],
+        vec![WEIGHT],
         vec![0],
-        (0..100).map(|_| r.range(0, 1_000_000)).collect(),
-        vec![7; 255],
-        vec![999_983; 257],
+        (0..MACHINES / 2).map(|_| r.range(0, WEIGHT)).collect(),
+        vec![7; MACHINES - 1],
+        vec![999_983; MACHINES + 1],
     ]
 }
 
@@ -111,8 +109,8 @@ fn weight_shapes(r: &mut Rng) -> Vec<Vec<u32>> {
 fn threads(c: &mut Check) {
     let list: Vec<(Vec<u8>, Vec<u8>)> = (0..4)
         .map(|_| {
-            let speeds: Vec<u32> = (0..P).map(|_| c.rng.range(1, 10_000)).collect();
-            let weights: Vec<u32> = (0..N).map(|_| c.rng.range(0, 1_000_000)).collect();
+            let speeds: Vec<u32> = (0..MACHINES).map(|_| c.rng.range(1, SPEED)).collect();
+            let weights: Vec<u32> = (0..TILES).map(|_| c.rng.range(0, WEIGHT)).collect();
             let job = Job { speeds, weights };
             let (separators, _) = fast::solve(&job);
             (job.file(), job::encode(&job::plan_of(&job, &separators)))
@@ -126,7 +124,7 @@ fn threads(c: &mut Check) {
             .map(|(file, wanted)| {
                 let work = move || {
                     (0..8u32).all(|k| {
-                        let mut plan = vec![0xA5u8; 16 * P];
+                        let mut plan = vec![0xA5u8; LONGEST_PLAN];
                         let at = [(file.as_ptr() as *mut u8, file.len()), (plan.as_mut_ptr(), plan.len())];
                         let code = unsafe { planner::call(Call::Host { method: 1 + k % 4 }, &at) };
                         let mut grade = [0xA5u8; 2];

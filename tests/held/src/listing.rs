@@ -7,19 +7,14 @@ use std::time::Duration;
 
 use crate::answers::Solved;
 use crate::check::{self, Check};
-use crate::job::{self, machine, tile, Job};
+use crate::job::{self, machine, record, tile, Job, Record};
+use crate::limits::{JOB_INTAKE, LISTING, MACHINES, SPEED, TILES, TOO_MANY, WEIGHT};
 use crate::planner::Call;
 use crate::{damage, methods, small};
 
-/// One record more than the longest job: what the program takes in.
-const INTAKE: usize = 8 * (256 + 2_048 + 1);
-
-/// Four lines of a plan with 256 machines and the first line, each number taken for one of 20 digits.
-pub const ROOM: usize = 84 + 4 * (126 + 21 * 257);
-
 /// What the program must write.
 pub fn wanted(file: &[u8]) -> String {
-    let taken = &file[..file.len().min(INTAKE)];
+    let taken = &file[..file.len().min(JOB_INTAKE)];
     let job = match job::read(taken, 1, usize::MAX) {
         Ok(job) => job,
         Err(number) => return format!("refused {}\n", number),
@@ -80,14 +75,34 @@ fn one(c: &mut Check, program: &str, file: &[u8]) {
 /// By the call: a buffer of just enough room or of more, now and then one that is too short.
 fn called(c: &mut Check, file: &[u8]) {
     let room = match c.rng.below(8) {
-        0 => c.rng.below(ROOM),
-        1 => ROOM - 1,
-        2..=4 => ROOM,
-        _ => ROOM + 1 + c.rng.below(300),
+        0 => c.rng.below(LISTING),
+        1 => LISTING - 1,
+        2..=4 => LISTING,
+        _ => LISTING + 1 + c.rng.below(300),
     };
+    called_with(c, file, room);
+}
+
+fn called_with(c: &mut Check, file: &[u8], room: usize) {
     let (text, entries) = (c.rng.pattern(room), c.rng.below(3));
     let answer = c.rng.pattern(8 * entries);
     c.judge(Call::List, &[file, &text, &answer], None);
+}
+
+/// By the call with each room: as long as a listing can be, one byte less, which is too short whatever the file is, and others.
+pub fn called_with_rooms(c: &mut Check, file: &[u8]) {
+    for room in [0, 1, LISTING - 1, LISTING, LISTING + 1] {
+        called_with(c, file, room);
+    }
+}
+
+/// A file that must be refused; the number is also known by a rule.
+pub fn must_refuse(c: &mut Check, file: &[u8], number: u32) {
+    let (must, rule) = (wanted(file), format!("refused {}\n", number));
+    if must != rule {
+        let what = format!("the solver's listing is {} the rule says {}", must, rule);
+        c.fail(&what, check::describe(Call::Host { method: 0 }, &[file, &[]]));
+    }
 }
 
 fn random_job(c: &mut Check, machines: usize, tiles: usize) -> Job {
@@ -98,7 +113,7 @@ fn random_job(c: &mut Check, machines: usize, tiles: usize) -> Job {
 
 /// Files about as long as the intake.
 fn long_files(c: &mut Check, program: &str) {
-    let full = random_job(c, 256, 2_048).file();
+    let full = random_job(c, MACHINES, TILES).file();
     one(c, program, &full);
     for more in [1, 4, 7, 8, 9, 15, 16, 100_000, 300_000] {
         let filler: Vec<u8> = tile(3).iter().copied().cycle().take(more).collect();
@@ -106,15 +121,80 @@ fn long_files(c: &mut Check, program: &str) {
         one(c, program, &[&full[..], &vec![0; more]].concat());
     }
     one(c, program, &[&full[..], &machine(1)].concat());
-    one(c, program, &[&full[..], &tile(1_000_001)].concat());
+    one(c, program, &[&full[..], &tile(WEIGHT + 1)].concat());
     one(c, program, &vec![machine(1); 3_000].concat());
     one(c, program, &[machine(1).to_vec(), vec![tile(1); 3_000].concat()].concat());
+}
+
+/// A record with what it gives as the last one that is taken in: behind the longest job, and behind as many machines.
+const LAST: [(Record, u32, u32); 7] = [
+    ([0; 8], 3, 3),
+    ([1, 0, 0, 1, 1, 0, 0, 0], 3, 3),
+    ([1, 0, 0, 0, 1, 0, 0, 0], 4, 7),
+    ([1, 0, 0, 0, 0, 0, 0, 0], 4, 5),
+    ([1, 0, 0, 0, 0xFF, 0xFF, 0, 0], 4, 5),
+    ([2, 0, 0, 0, 0, 0, 0, 1], 6, 6),
+    ([2, 0, 0, 0, 1, 0, 0, 0], 8, 7),
+];
+
+/// Files around the end of what is taken in, each with its number: what stands in the last record inside counts, what stands in the
+/// next one does not, and a byte behind the end does not spoil the length.
+pub fn around_intake(job: &Job) -> Vec<(Vec<u8>, u32)> {
+    let (full, row) = (job.file(), vec![machine(1); MACHINES + TILES].concat());
+    let mut list = Vec::new();
+    for more in 1..8 {
+        list.push(([&full[..], &vec![2; more]].concat(), 2));
+        list.push(([&row[..], &vec![2; more]].concat(), 2));
+    }
+    for (r, behind_job, behind_row) in LAST {
+        for (front, inside, good, past) in [(&full, behind_job, tile(1), 8), (&row, behind_row, machine(1), 7)] {
+            list.push(([&front[..], &r].concat(), inside));
+            list.push(([&front[..], &r, &[0]].concat(), inside));
+            list.push(([&front[..], &r, &r[..7]].concat(), inside));
+            list.push(([&front[..], &good, &r].concat(), past));
+            list.push(([&front[..], &good, &r[..1]].concat(), past));
+            list.push(([&front[..], &good, &r, &r[..5]].concat(), past));
+        }
+    }
+    list
+}
+
+/// Rows of machines at the limit and past it.
+fn rows(c: &mut Check, program: &str) {
+    for machines in [MACHINES - 1, MACHINES] {
+        for tiles in [0, 1, TILES] {
+            let file = random_job(c, machines, tiles).file();
+            one(c, program, &file);
+            called_with_rooms(c, &file);
+        }
+    }
+    for machines in TOO_MANY {
+        for tiles in [0, 1, TILES, TILES + 1] {
+            let file = random_job(c, machines, tiles).file();
+            must_refuse(c, &file, 7);
+            one(c, program, &file);
+        }
+        let last = machines - 1;
+        let bad = [(0, machine(0), 5), (last, machine(SPEED + 1), 5), (machines, tile(WEIGHT + 1), 6), (machines, record(3, 1), 3)];
+        for (place, bad, number) in bad {
+            let mut file = random_job(c, machines, 1).file();
+            file[8 * place..8 * place + 8].copy_from_slice(&bad);
+            must_refuse(c, &file, number);
+            one(c, program, &file);
+        }
+    }
 }
 
 pub fn run(c: &mut Check, times: usize) {
     let program = std::env::var("HELD_STRIPS").unwrap_or_else(|_| concat!(env!("CARGO_MANIFEST_DIR"), "/../../target/bin/strips").to_string());
     one(c, &program, &[]);
     long_files(c, &program);
+    let longest = random_job(c, MACHINES, TILES);
+    for (file, number) in around_intake(&longest) {
+        must_refuse(c, &file, number);
+        one(c, &program, &file);
+    }
+    rows(c, &program);
     for _ in 0..1_500 * times {
         let (machines, tiles) = (1 + c.rng.below(5), c.rng.below(12));
         let mut file = random_job(c, machines, tiles).file();
@@ -124,7 +204,7 @@ pub fn run(c: &mut Check, times: usize) {
         one(c, &program, &file);
     }
     for _ in 0..60 * times {
-        let (machines, tiles) = (1 + c.rng.below(256), c.rng.below(2_049));
+        let (machines, tiles) = (1 + c.rng.below(MACHINES), c.rng.below(TILES + 1));
         let file = random_job(c, machines, tiles).file();
         one(c, &program, &file);
     }

@@ -2,6 +2,7 @@
 
 use crate::answers::bytes_of;
 use crate::check::Check;
+use crate::limits::{job_bytes, plan_bytes, work_numbers, BOUND_LOAD, BOUND_SPEED, LONGEST_JOB, MACHINES, SPEED, TILES, TOO_MANY, WEIGHT};
 use crate::planner::Call;
 use crate::rng::Rng;
 
@@ -42,9 +43,9 @@ fn call_of(name: &str, i: &Input) -> Call {
 /// The entries that the call's other list must have.
 fn room_needed(name: &str, machines: usize, tiles: usize) -> usize {
     match name {
-        "write" => 8 * (machines + tiles),
-        "plan" => 5 * (tiles + 1),
-        "plan file" => 16 * machines,
+        "write" => job_bytes(machines, tiles),
+        "plan" => work_numbers(tiles),
+        "plan file" => plan_bytes(machines),
         _ => 0,
     }
 }
@@ -75,18 +76,23 @@ fn some_division(r: &mut Rng, machines: usize, tiles: usize) -> Vec<u32> {
     inner
 }
 
-const BAD_SPEED: [u32; 5] = [0, 10_001, 65_537, 1_000_000, u32::MAX];
-const BAD_WEIGHT: [u32; 5] = [1_000_001, 1 << 20, 1 << 24, 1 << 31, u32::MAX];
+const BAD_SPEED: [u32; 5] = [0, SPEED + 1, 65_537, WEIGHT, u32::MAX];
+const BAD_WEIGHT: [u32; 5] = [WEIGHT + 1, 1 << 20, 1 << 24, 1 << 31, u32::MAX];
 const BAD_METHOD: [u32; 7] = [0, 5, 255, 257, 260, 65_538, u32::MAX];
 
 /// Counts and values: the lists of a job with these faults of 5 to 8, and the numbers of those that could be made.
 pub fn job_with(r: &mut Rng, faults: &[u32]) -> (Vec<u32>, Vec<u32>, Vec<u32>) {
     let has = |n: u32| faults.contains(&n);
     let mut made: Vec<u32> = faults.iter().copied().filter(|n| (6..=8).contains(n)).collect();
-    let machines = if has(7) { r.pick(&[0, 257, 258, 600]) } else { r.pick(&[1, 2, 3, 5, 255, 256]) };
-    let tiles = if has(8) { r.pick(&[2_049, 2_050, 5_000]) } else { r.pick(&[1, 2, 4, 7, 2_048]) };
-    let mut speeds: Vec<u32> = (0..machines).map(|_| r.pick(&[1, 2, 9_999, 10_000])).collect();
-    let mut weights: Vec<u32> = (0..tiles).map(|_| r.pick(&[0, 1, 999_999, 1_000_000])).collect();
+    let machines = match has(7) {
+        true if r.once_in(4) => 0,
+        true if r.once_in(3) => 600,
+        true => r.pick(&TOO_MANY),
+        false => r.pick(&[1, 2, 3, 5, MACHINES - 1, MACHINES]),
+    };
+    let tiles = if has(8) { r.pick(&[TILES + 1, TILES + 2, 5_000]) } else { r.pick(&[1, 2, 4, 7, TILES]) };
+    let mut speeds: Vec<u32> = (0..machines).map(|_| r.pick(&[1, 2, SPEED - 1, SPEED])).collect();
+    let mut weights: Vec<u32> = (0..tiles).map(|_| r.pick(&[0, 1, WEIGHT - 1, WEIGHT])).collect();
     if has(5) && machines > 0 {
         let k = r.pick(&[0, machines / 2, machines - 1]);
         speeds[k] = r.pick(&BAD_SPEED);
@@ -142,7 +148,7 @@ fn input_with(r: &mut Rng, name: &str, faults: &[u32]) -> (Input, u32) {
         made.push(1);
     }
     if faults.contains(&10) {
-        i.bound = r.pick(&[(100_000_000_000_001, 1), (0, 0), (5, 1_000_000_001), (u64::MAX, u64::MAX), (1, 1 << 32)]);
+        i.bound = r.pick(&[(BOUND_LOAD + 1, 1), (0, 0), (5, BOUND_SPEED + 1), (u64::MAX, u64::MAX), (1, 1 << 32)]);
         made.push(10);
     }
     let number = made.into_iter().min().unwrap_or(0);
@@ -164,7 +170,7 @@ fn together(c: &mut Check, rounds: usize) {
 }
 
 /// Entries that are enough for any other list.
-const PLENTY: usize = 8 * 2_060;
+const PLENTY: usize = LONGEST_JOB;
 
 fn smallest_input(speeds: &[u32], weights: &[u32], separators: &[u32], room: usize) -> Input {
     Input { method: 1, bound: (0, 1), speeds: speeds.to_vec(), weights: weights.to_vec(), separators: separators.to_vec(), room }
@@ -172,22 +178,22 @@ fn smallest_input(speeds: &[u32], weights: &[u32], separators: &[u32], room: usi
 
 /// The smallest lists that cause 5 to 8, and those beside them that pass.
 fn smallest_jobs(c: &mut Check, name: &str) {
-    let (many, row) = ([1u32; 257], [0u32; 2_049]);
+    let (many, row) = ([1u32; MACHINES + 1], [0u32; TILES + 1]);
     let none: &[u32] = &[];
     for (speeds, weights, number) in [
         (&[0u32][..], none, 5),
-        (&[10_001], none, 5),
-        (&[1], &[1_000_001], 6),
-        (none, &[1_000_001], 6),
+        (&[SPEED + 1], none, 5),
+        (&[1], &[WEIGHT + 1], 6),
+        (none, &[WEIGHT + 1], 6),
         (none, none, 7),
         (&many, none, 7),
         (&[1], &row, 8),
     ] {
         refuse(c, name, &smallest_input(speeds, weights, &[], 0), number);
     }
-    refuse(c, name, &smallest_input(&[10_000], &[1_000_000], &[0, 1], PLENTY), 0);
-    refuse(c, name, &smallest_input(&many[1..], none, &[0; 257], PLENTY), 0);
-    refuse(c, name, &smallest_input(&[1], &row[1..], &[0, 2_048], PLENTY), 0);
+    refuse(c, name, &smallest_input(&[SPEED], &[WEIGHT], &[0, 1], PLENTY), 0);
+    refuse(c, name, &smallest_input(&many[1..], none, &[0; MACHINES + 1], PLENTY), 0);
+    refuse(c, name, &smallest_input(&[1], &row[1..], &[0, TILES as u32], PLENTY), 0);
 }
 
 /// The smallest lists that cause 9 and 11, the nearest bounds that cause 10, and any method for 1.
@@ -200,8 +206,8 @@ fn smallest_lists(c: &mut Check, name: &str, numbers: &[u32]) {
     for room in 0..=needed {
         refuse(c, name, &smallest_input(&[1], &[], &[0, 0], room), if room < needed { 9 } else { 0 });
     }
-    let out = [(0, 0), (100_000_000_000_001, 1), (0, 1_000_000_001)];
-    let within = [(0, 1), (100_000_000_000_000, 1_000_000_000)];
+    let out = [(0, 0), (BOUND_LOAD + 1, 1), (0, BOUND_SPEED + 1)];
+    let within = [(0, 1), (BOUND_LOAD, BOUND_SPEED)];
     for bound in out.into_iter().chain(within).filter(|_| name == "trial") {
         let number = if within.contains(&bound) { 0 } else { 10 };
         refuse(c, name, &Input { bound, ..smallest_input(&[1], &[], &[7, 7], 0) }, number);

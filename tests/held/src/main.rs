@@ -3,6 +3,7 @@
 
 mod answers;
 mod check;
+mod counts;
 mod damage;
 mod every;
 #[cfg(feature = "faults")]
@@ -15,6 +16,7 @@ mod job;
 mod known;
 mod large;
 mod lent;
+mod limits;
 mod listing;
 mod lists;
 mod long;
@@ -43,9 +45,10 @@ fn number(name: &str, otherwise: u64) -> u64 {
 fn whole(c: &mut Check) {
     let times = number("HELD_TIMES", 1) as usize;
     let talk = number("HELD_TALK", 0) != 0;
-    let parts: [(&'static str, &dyn Fn(&mut Check)); 8] = [
+    let parts: [(&'static str, &dyn Fn(&mut Check)); 9] = [
         ("known jobs", &known::run),
         ("refusals", &refusals::run),
+        ("counts", &counts::run),
         ("lists", &|c| lists::run(c, times)),
         ("damaged files", &|c| damage::run(c, times)),
         ("listings", &|c| listing::run(c, times)),

@@ -3,6 +3,7 @@
 use crate::check::{self, Check};
 use crate::guard;
 use crate::job::{machine, record, tile, Record};
+use crate::limits::{plan_bytes, JOB_INTAKE, LONGEST_JOB, MACHINES, SPEED, TILES, TOO_MANY, WEIGHT};
 use crate::planner::{self, At, Call};
 
 /// Methods that are none, some of which look like one when cut short.
@@ -50,7 +51,7 @@ fn no_method(c: &mut Check) {
 
 /// The smallest file that causes each number from 2 to 7.
 fn smallest(c: &mut Check, plan_len: usize) {
-    for len in (1..8).chain(9..16).chain([17, 8 * 2_304 + 1, 8 * 2_305 + 4]) {
+    for len in (1..8).chain(9..16).chain([17, LONGEST_JOB + 1, JOB_INTAKE + 4]) {
         refuse_all(c, &vec![0; len], plan_len, 2);
         refuse_all(c, &vec![1; len], plan_len, 2);
         let mut good = vec![machine(1); len / 8 + 1].concat();
@@ -67,25 +68,27 @@ fn smallest(c: &mut Check, plan_len: usize) {
     }
     refuse_all(c, &[tile(0), machine(1)].concat(), plan_len, 4);
     refuse_all(c, &machine(0), plan_len, 5);
-    refuse_all(c, &machine(10_001), plan_len, 5);
-    refuse_all(c, &tile(1_000_001), plan_len, 6);
+    refuse_all(c, &machine(SPEED + 1), plan_len, 5);
+    refuse_all(c, &tile(WEIGHT + 1), plan_len, 6);
     refuse_all(c, &[], plan_len, 7);
     refuse_all(c, &tile(0), plan_len, 7);
 }
 
 /// The smallest files that cause 7 by too many machines, 8 and 9.
 fn smallest_counts(c: &mut Check) {
-    for plan_len in [0, 16 * 257 - 1, 16 * 257] {
-        refuse_all(c, &vec![machine(1); 257].concat(), plan_len, 7);
+    for machines in TOO_MANY {
+        for plan_len in [0, plan_bytes(MACHINES), plan_bytes(machines) - 1, plan_bytes(machines)] {
+            refuse_all(c, &vec![machine(1); machines].concat(), plan_len, 7);
+        }
     }
     for plan_len in [0, 15, 16] {
         let mut records = vec![machine(1)];
-        records.extend(vec![tile(0); 2_049]);
+        records.extend(vec![tile(0); TILES + 1]);
         refuse_all(c, &records.concat(), plan_len, 8);
     }
-    for machines in [1, 2, 3, 255, 256] {
+    for machines in [1, 2, 3, MACHINES - 1, MACHINES] {
         let file = vec![machine(1); machines].concat();
-        for plan_len in (0..16).chain(16 * machines - 16..16 * machines) {
+        for plan_len in (0..16).chain(plan_bytes(machines - 1)..plan_bytes(machines)) {
             refuse_all(c, &file, plan_len, 9);
         }
     }
@@ -109,10 +112,10 @@ const FAULTS: [Fault; 13] = [
     Fault { number: 3, on_machine: true, on_tile: true, after_tile: false, make: |r| r[3] = 0xFF },
     Fault { number: 4, on_machine: false, on_tile: false, after_tile: true, make: |r| *r = machine(3) },
     Fault { number: 4, on_machine: false, on_tile: false, after_tile: true, make: |r| *r = machine(0) },
-    Fault { number: 4, on_machine: false, on_tile: false, after_tile: true, make: |r| *r = machine(1_000_001) },
+    Fault { number: 4, on_machine: false, on_tile: false, after_tile: true, make: |r| *r = machine(WEIGHT + 1) },
     Fault { number: 5, on_machine: true, on_tile: false, after_tile: false, make: |r| *r = machine(0) },
-    Fault { number: 5, on_machine: true, on_tile: false, after_tile: false, make: |r| *r = machine(10_001) },
-    Fault { number: 6, on_machine: false, on_tile: true, after_tile: false, make: |r| *r = tile(1_000_001) },
+    Fault { number: 5, on_machine: true, on_tile: false, after_tile: false, make: |r| *r = machine(SPEED + 1) },
+    Fault { number: 6, on_machine: false, on_tile: true, after_tile: false, make: |r| *r = tile(WEIGHT + 1) },
     Fault { number: 6, on_machine: false, on_tile: true, after_tile: false, make: |r| *r = tile(u32::MAX) },
 ];
 
@@ -127,12 +130,12 @@ impl Fault {
     }
 }
 
-/// The machines and tiles of the file that is spoilt, and the bytes of its plan.
-const MACHINES: usize = 3;
-const EXACT: usize = 16 * MACHINES;
+/// The machines of the file that is spoilt, and the bytes of its plan.
+const FEW: usize = 3;
+const EXACT: usize = plan_bytes(FEW);
 
 fn good_records() -> Vec<Record> {
-    vec![machine(2), machine(1), machine(10_000), tile(4), tile(0), tile(1_000_000), tile(3)]
+    vec![machine(2), machine(1), machine(SPEED), tile(4), tile(0), tile(WEIGHT), tile(3)]
 }
 
 /// One fault, alone and with a length or a plan buffer that is wrong.
@@ -151,7 +154,7 @@ fn one_fault(c: &mut Check, one: &[Record], number: u32) {
 
 /// A fault with a wrong count: no machine, too many, too many tiles, both.
 fn with_counts(c: &mut Check, f: &Fault, on_machines: bool) {
-    for (m, t) in [(0, 4), (257, 4), (3, 2_049), (0, 2_049), (257, 2_049)] {
+    for (m, t) in [(0, 4), (MACHINES + 1, 4), (3, TILES + 1), (0, TILES + 1), (MACHINES + 1, TILES + 1)] {
         if on_machines && m == 0 {
             continue;
         }
@@ -161,7 +164,7 @@ fn with_counts(c: &mut Check, f: &Fault, on_machines: bool) {
         for place in places.into_iter().filter(|&place| f.stands(place, m)) {
             let mut broken = records.clone();
             (f.make)(&mut broken[place]);
-            for plan_len in [0, 16 * m] {
+            for plan_len in [0, plan_bytes(m)] {
                 refuse_all(c, &broken.concat(), plan_len, f.number);
             }
         }
@@ -172,13 +175,13 @@ fn with_counts(c: &mut Check, f: &Fault, on_machines: bool) {
 fn pairs(c: &mut Check) {
     let good = good_records();
     for f in &FAULTS {
-        for i in (0..good.len()).filter(|&i| f.stands(i, MACHINES)) {
+        for i in (0..good.len()).filter(|&i| f.stands(i, FEW)) {
             let mut one = good.clone();
             (f.make)(&mut one[i]);
             one_fault(c, &one, f.number);
-            with_counts(c, f, i < MACHINES);
+            with_counts(c, f, i < FEW);
             for g in &FAULTS {
-                for j in (i + 1..good.len()).filter(|&j| g.stands(j, MACHINES)) {
+                for j in (i + 1..good.len()).filter(|&j| g.stands(j, FEW)) {
                     let mut two = one.clone();
                     (g.make)(&mut two[j]);
                     refuse_all(c, &two.concat(), EXACT, f.number);
@@ -195,7 +198,7 @@ fn pairs_in_one(c: &mut Check) {
     let good = good_records();
     for f in FAULTS.iter().filter(|f| f.number > 3) {
         for g in FAULTS.iter().filter(|g| g.number == 3) {
-            for i in (0..good.len()).filter(|&i| f.stands(i, MACHINES)) {
+            for i in (0..good.len()).filter(|&i| f.stands(i, FEW)) {
                 let mut two = good.clone();
                 (f.make)(&mut two[i]);
                 (g.make)(&mut two[i]);
@@ -204,15 +207,15 @@ fn pairs_in_one(c: &mut Check) {
         }
     }
     // A machine after a tile with a speed out of range.
-    for speed in [0, 10_001, 1_000_000, 1_000_001, u32::MAX] {
-        for i in MACHINES + 1..good.len() {
+    for speed in [0, SPEED + 1, WEIGHT, WEIGHT + 1, u32::MAX] {
+        for i in FEW + 1..good.len() {
             let mut two = good.clone();
             two[i] = machine(speed);
             refuse_all(c, &two.concat(), EXACT, 4);
         }
     }
     // A value good for the other kind only.
-    for speed in [0, 10_001, 1_000_000] {
+    for speed in [0, SPEED + 1, WEIGHT] {
         let mut one = good.clone();
         one[1] = machine(speed);
         refuse_all(c, &one.concat(), EXACT, 5);
@@ -223,13 +226,14 @@ fn pairs_in_one(c: &mut Check) {
 #[rustfmt::skip]
 fn pairs_of_counts(c: &mut Check) {
     for (m, t, number) in [
-        (0, 0, 7), (0, 4, 7), (257, 0, 7), (257, 4, 7), (0, 2_049, 7), (257, 2_049, 7), (1, 2_049, 8), (256, 2_049, 8), (256, 2_048, 9), (1, 0, 9),
+        (0, 0, 7), (0, 4, 7), (MACHINES + 1, 0, 7), (MACHINES + 1, 4, 7), (0, TILES + 1, 7), (MACHINES + 1, TILES + 1, 7),
+        (1, TILES + 1, 8), (MACHINES, TILES + 1, 8), (MACHINES, TILES, 9), (1, 0, 9),
     ] {
         let mut records = vec![machine(7); m];
         records.extend(vec![tile(9); t]);
         let file = records.concat();
-        for plan_len in [0, (16 * m).saturating_sub(1), 16 * m, 16 * m + 9] {
-            if number == 9 && plan_len >= 16 * m {
+        for plan_len in [0, plan_bytes(m).saturating_sub(1), plan_bytes(m), plan_bytes(m) + 9] {
+            if number == 9 && plan_len >= plan_bytes(m) {
                 continue;
             }
             refuse_all(c, &file, plan_len, number);

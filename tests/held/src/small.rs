@@ -3,6 +3,7 @@
 use crate::check::Check;
 use crate::every;
 use crate::job::Job;
+use crate::limits::{SPEED, WEIGHT};
 use crate::rng::Rng;
 
 /// Every call on the job; now and then with lists of all lengths together.
@@ -13,13 +14,13 @@ fn both(c: &mut Check, job: &Job) {
 
 pub fn speeds(r: &mut Rng, machines: usize) -> Vec<u32> {
     let style = r.below(8);
-    let same = r.range(1, 10_000);
-    let near = r.range(9_000, 9_990);
+    let same = r.range(1, SPEED);
+    let near = r.range(SPEED - 1_000, SPEED - 10);
     (0..machines)
         .map(|_| match style {
             0..=2 => r.range(1, 4),
-            3 => r.pick(&[1, 10_000]),
-            4 => r.range(1, 10_000),
+            3 => r.pick(&[1, SPEED]),
+            4 => r.range(1, SPEED),
             5 => near + r.range(0, 10),
             6 => same,
             _ => r.range(1, 2),
@@ -29,7 +30,7 @@ pub fn speeds(r: &mut Rng, machines: usize) -> Vec<u32> {
 
 pub fn weights(r: &mut Rng, tiles: usize, speeds: &[u32]) -> Vec<u32> {
     let style = r.below(12);
-    let same = r.range(0, 1_000_000);
+    let same = r.range(0, WEIGHT);
     let rare = 1 + r.below(tiles + 1);
     let near = r.range(1, 99);
     (0..tiles)
@@ -39,16 +40,16 @@ pub fn weights(r: &mut Rng, tiles: usize, speeds: &[u32]) -> Vec<u32> {
             2 => r.range(0, 9),
             3 => r.pick(&[0, 0, 0, 1, 2]),
             4 => r.pick(&[0, 1, 2, 4, 8, 16]),
-            5 => r.range(0, 1_000_000),
-            6 => r.range(999_990, 1_000_000),
+            5 => r.range(0, WEIGHT),
+            6 => r.range(WEIGHT - 10, WEIGHT),
             7 => same,
-            8 => r.pick(&[0, 1, 1_000_000]),
+            8 => r.pick(&[0, 1, WEIGHT]),
             9 => 0,
             // Loads that are nearly, or exactly, the same number of turns of some machine.
             10 => r.pick(speeds) * near + r.range(0, 2) - 1,
             _ => {
                 if r.once_in(rare) {
-                    r.range(1, 1_000_000)
+                    r.range(1, WEIGHT)
                 } else {
                     0
                 }
@@ -91,17 +92,17 @@ pub fn every_list(len: usize, least: u32, greatest: u32, visit: &mut dyn FnMut(&
 /// With `tiles` tiles on each side of the tile between the cuts.
 pub fn neighbours(r: &mut Rng, tiles: usize) -> Job {
     loop {
-        let (e1, e2) = (r.range(1, 10_000) as i64, r.range(1, 10_000) as i64);
+        let (e1, e2) = (r.range(1, SPEED) as i64, r.range(1, SPEED) as i64);
         let apart = r.range(0, 2) as i64 - 1;
         let Some(start) = (0..e1).find(|w| (w * e2 - apart).rem_euclid(e1) == 0) else { continue };
-        let most = tiles as i64 * 1_000_000;
+        let most = tiles as i64 * WEIGHT as i64;
         let w1 = start + e1 * r.below((most / e1) as usize + 1) as i64;
         let w2 = (w1 * e2 - apart) / e1;
         if w1 < 1 || w2 < 1 || w1 > most || w2 > most {
             continue;
         }
         // W1 is the left side with the middle tile, W2 the middle tile with the right side.
-        let middle = r.range(1, w1.min(w2).min(1_000_000) as u32);
+        let middle = r.range(1, w1.min(w2).min(WEIGHT as i64) as u32);
         let mut weights = pieces(r, (w1 - middle as i64) as u32, tiles);
         weights.push(middle);
         weights.extend(pieces(r, (w2 - middle as i64) as u32, tiles));
@@ -114,8 +115,8 @@ fn pieces(r: &mut Rng, sum: u32, tiles: usize) -> Vec<u32> {
     let mut left = sum;
     let mut list = Vec::new();
     for k in (0..tiles as u32).rev() {
-        let least = left.saturating_sub(k * 1_000_000);
-        let w = if k == 0 { left } else { r.range(least, left.min(1_000_000).min(2 * (left / (k + 1)) + 1).max(least)) };
+        let least = left.saturating_sub(k * WEIGHT);
+        let w = if k == 0 { left } else { r.range(least, left.min(WEIGHT).min(2 * (left / (k + 1)) + 1).max(least)) };
         list.push(w);
         left -= w;
     }
@@ -127,7 +128,7 @@ pub fn near(c: &mut Check) {
     let sides = 1 + c.rng.below(3);
     let mut job = neighbours(&mut c.rng, sides);
     if c.rng.once_in(2) {
-        let (e, w) = (c.rng.range(1, 10_000), c.rng.range(0, 1_000_000));
+        let (e, w) = (c.rng.range(1, SPEED), c.rng.range(0, WEIGHT));
         let (p, i) = c.rng.pick(&[(0, 0), (2, job.weights.len())]);
         job.speeds.insert(p, e);
         job.weights.insert(i, w);

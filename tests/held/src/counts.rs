@@ -1,0 +1,123 @@
+//! How many machines and tiles a job may have, asked of every call that takes a job, by lists and by file: the most pass, one more and
+//! many more are refused, after a bad speed or weight and before a list that is too short.
+
+use crate::answers::{bytes_of, Solved};
+use crate::check::Check;
+use crate::job::{self, Job};
+use crate::limits::{job_bytes, plan_bytes, work_numbers, BOUND_LOAD, LISTING, MACHINES, SPEED, TILES, TOO_MANY, WEIGHT};
+use crate::planner::Call;
+use crate::{every, listing, small};
+
+/// Lists of so many machines and tiles, with good speeds and weights.
+fn sized(c: &mut Check, machines: usize, tiles: usize) -> Job {
+    let speeds = small::speeds(&mut c.rng, machines);
+    let weights = (0..tiles).map(|_| c.rng.range(0, 9)).collect();
+    Job { speeds, weights }
+}
+
+/// All tiles on the last machine: a division but for rows without a machine.
+fn division(job: &Job) -> Vec<usize> {
+    let mut list = vec![0; job.speeds.len() + 1];
+    list[job.speeds.len()] = job.weights.len();
+    list
+}
+
+/// Every call on lists: with lent lists that are long enough for so many, then with none, and with another fault that comes later.
+fn by_lists(c: &mut Check, job: &Job, number: u32) {
+    let (machines, tiles) = (job.speeds.len(), job.weights.len());
+    let (e, w) = (bytes_of(&job.speeds), bytes_of(&job.weights));
+    let separators: Vec<u32> = division(job).iter().map(|&s| s as u32).collect();
+    let separators = bytes_of(&separators);
+    let plan = job::encode(&job::plan_of(job, &division(job)));
+    let answer = c.rng.pattern(8 * 5);
+    c.refuse(Call::Test, &[&e, &w], number);
+    for enough in [true, false] {
+        let len = |needed: usize| if enough { needed } else { 0 };
+        let s = &separators[..len(separators.len())];
+        let (file, room) = (c.rng.pattern(len(job_bytes(machines, tiles))), c.rng.pattern(len(plan_bytes(machines))));
+        let work = c.rng.pattern(len(4 * work_numbers(tiles)));
+        let (load, speed) = if enough { (BOUND_LOAD, 1) } else { (0, 0) };
+        c.refuse(Call::Write, &[&e, &w, &file, &answer], number);
+        c.refuse(Call::Measure, &[&e, &w, s, &answer], number);
+        c.refuse(Call::Trial { load, speed }, &[&e, &w, s, &answer], number);
+        c.refuse(Call::Quick, &[&e, &w, s, &answer], number);
+        for method in 1..=4 {
+            c.refuse(Call::Plan { method }, &[&e, &w, s, &work, &answer], number);
+        }
+        c.refuse(Call::Plan { method: 5 }, &[&e, &w, s, &work, &answer], 1);
+        c.refuse(Call::PlanFile, &[&e, &w, s, &room, &answer], number);
+        c.refuse(Call::Grade, &[&e, &w, &plan[..len(plan.len())], &answer], number);
+    }
+}
+
+/// Every call on files, likewise. The call that lists a file tests its buffer first, and sees of a longer file what the program takes in.
+fn by_file(c: &mut Check, job: &Job, number: u32) {
+    let (machines, tiles) = (job.speeds.len(), job.weights.len());
+    let file = job.file();
+    let plan = job::encode(&job::plan_of(job, &division(job)));
+    for len in [plan_bytes(machines), plan_bytes(machines.saturating_sub(1)), 0] {
+        let room = c.rng.pattern(len);
+        for method in 1..=4 {
+            c.refuse(Call::Host { method }, &[&file, &room], number);
+        }
+        c.refuse(Call::Host { method: 0 }, &[&file, &room], 1);
+    }
+    let (speeds, weights, answer) = (c.rng.pattern(4 * machines), c.rng.pattern(4 * tiles), c.rng.pattern(8 * 2));
+    c.refuse(Call::Read, &[&file, &speeds, &weights, &answer], number);
+    c.refuse(Call::Read, &[&file, &[], &[], &[]], number);
+    let grade = c.rng.pattern(1);
+    c.refuse(Call::HostGrade, &[&file, &plan, &grade], number);
+    c.refuse(Call::HostGrade, &[&file, &[], &[]], number);
+    listing::called_with_rooms(c, &file);
+    let text = c.rng.pattern(LISTING - 1);
+    c.refuse(Call::List, &[&file, &text, &answer], 9);
+}
+
+fn refused(c: &mut Check, job: &Job, number: u32) {
+    c.jobs_seen += 1;
+    by_lists(c, job, number);
+    by_file(c, job, number);
+}
+
+/// The counts alone; then a bad speed, a bad weight, and both, at the first place, at the last, and at the first past the limit.
+fn too_much(c: &mut Check, machines: usize, tiles: usize, number: u32) {
+    let job = sized(c, machines, tiles);
+    refused(c, &job, number);
+    let speeds: Vec<usize> = [0, MACHINES, machines.saturating_sub(1)].into_iter().filter(|&p| p < machines).collect();
+    let weights: Vec<usize> = [0, TILES, tiles.saturating_sub(1)].into_iter().filter(|&i| i < tiles).collect();
+    for &p in &speeds {
+        let mut bad = job.clone();
+        bad.speeds[p] = c.rng.pick(&[0, SPEED + 1]);
+        refused(c, &bad, 5);
+        if let Some(&i) = weights.last() {
+            bad.weights[i] = WEIGHT + 1;
+            refused(c, &bad, 5);
+        }
+    }
+    for &i in &weights {
+        let mut bad = job.clone();
+        bad.weights[i] = WEIGHT + 1;
+        refused(c, &bad, 6);
+    }
+}
+
+pub fn run(c: &mut Check) {
+    let most = [(1, 0), (1, TILES), (MACHINES - 1, 1), (MACHINES, 0), (MACHINES, 1), (MACHINES, TILES - 1), (MACHINES, TILES)];
+    for (machines, tiles) in most {
+        for _ in 0..4 {
+            let job = sized(c, machines, tiles);
+            every::job(c, &Solved::of(&job), false);
+            listing::called_with_rooms(c, &job.file());
+        }
+    }
+    for tiles in [0, 3, TILES, TILES + 1] {
+        for machines in TOO_MANY {
+            too_much(c, machines, tiles, 7);
+        }
+        too_much(c, 0, tiles, 7);
+    }
+    for machines in [1, 2, MACHINES - 1, MACHINES] {
+        too_much(c, machines, TILES + 1, 8);
+        too_much(c, machines, TILES + 2, 8);
+    }
+}
