@@ -201,14 +201,14 @@ refused 6 "weight 1,000,001"
 record 2 5 >"$work/job"
 refused 7 "no machine"
 
-# rows: as many machines as there may be, and more, beside a plan of as many records; 256 was the most before
+# rows: as many machines as there may be, and more, beside a plan of as many records
 for row in $((machines - 1)) "$machines"; do
     records "$row" 1 1 >"$work/job"
     empty_parts "$row" >"$work/plan"
     says "$row machines" best "$work/job" "$work/plan"
     says "$row machines, an empty plan" "refused 12" "$work/job" "$work/empty"
 done
-for row in $((machines + 1)) $((machines + 2)) 128 255 256 257; do
+for row in $((machines + 1)) $((machines + 2)) $((2 * machines - 1)) $((2 * machines)) $((3 * machines + 1)); do
     records "$row" 1 1 >"$work/job"
     empty_parts "$row" >"$work/plan"
     refused 7 "$row machines"

@@ -146,12 +146,12 @@ gives "weight 1,000,001" "refused 6"
 record 2 5 >"$work/job"
 gives "no machine" "refused 7"
 
-# rows: as many machines as there may be, and more; 256 was the most before
+# rows: as many machines as there may be, and more
 for row in $((machines - 1)) "$machines"; do
     records "$row" 1 1 >"$work/job"
     first "$row machines" "tiles 0 machines $row total 0"
 done
-for row in $((machines + 1)) $((machines + 2)) 128 255 256 257; do
+for row in $((machines + 1)) $((machines + 2)) $((2 * machines - 1)) $((2 * machines)) $((3 * machines + 1)); do
     records "$row" 1 1 >"$work/job"
     gives "$row machines" "refused 7"
     record 2 1 >>"$work/job"

@@ -6,6 +6,13 @@
 uint32_t __real_plan_job(const uint8_t *job, size_t job_len, uint32_t method, uint8_t *plan, size_t plan_len);
 uint32_t __wrap_plan_job(const uint8_t *job, size_t job_len, uint32_t method, uint8_t *plan, size_t plan_len);
 
+/* How many machines a job begins with. */
+static size_t row(const uint8_t *job, size_t job_len) {
+    size_t n = 0;
+    while (8 * n + 8 <= job_len && job[8 * n] == 1) n++;
+    return n;
+}
+
 volatile uint8_t seen;
 void *volatile lost;
 
@@ -21,6 +28,8 @@ uint32_t __wrap_plan_job(const uint8_t *job, size_t job_len, uint32_t method, ui
     if (FAULT == 8 && number == 9 && plan_len % 16 == 15) return 0; /* a buffer one short taken */
     if (FAULT == 9 && number == 0) lost = calloc(1, 1);            /* memory asked for and lost */
     if (FAULT == 10 && number == 0) plan[8] ^= 1;                  /* a wrong load */
+    if (FAULT == 21 && number == 0 && row(job, job_len) == PELSHAQU_MAX_MACHINES) return 7;     /* the most machines refused */
+    if (FAULT == 22 && number == 7 && row(job, job_len) == PELSHAQU_MAX_MACHINES + 1) return 0; /* one machine too many taken */
     return number;
 }
 
@@ -39,5 +48,7 @@ uint32_t __wrap_grade_plan(const uint8_t *job, size_t job_len, const uint8_t *pl
     if (FAULT == 18 && number == 0) *(uint8_t *)plan ^= 1;         /* grading: the plan changed */
     if (FAULT == 19 && number == 0) grade[0] ^= 3;                 /* grading: best and valid exchanged */
     if (FAULT == 20 && number == 9) return 12;                     /* grading: 12 for a grade buffer of no bytes */
+    if (FAULT == 23 && number == 0 && row(job, job_len) == PELSHAQU_MAX_MACHINES) return 7;     /* grading: the most machines refused */
+    if (FAULT == 24 && number == 7 && row(job, job_len) == PELSHAQU_MAX_MACHINES + 1) return 0; /* grading: one machine too many taken */
     return number;
 }

@@ -255,10 +255,9 @@ static size_t fill(uint8_t *job, size_t machines, size_t tiles) {
     return 8 * (machines + tiles);
 }
 
-/* Rows of the most machines and longer ones, by plan buffers and plans that would do for them: 128, and 255 to 257, where 256 was the
- * most before, too. */
+/* Rows of the most machines and longer ones, by plan buffers and plans that would do for them. */
 static void rows(void) {
-    static const size_t longer[] = {PELSHAQU_MAX_MACHINES + 1, PELSHAQU_MAX_MACHINES + 2, 128, 255, 256, 257};
+    const size_t most = PELSHAQU_MAX_MACHINES, longer[] = {most + 1, most + 2, 2 * most - 1, 2 * most, 3 * most + 1};
     static uint8_t job[LARGEST], plan[LARGEST];
     size_t n, m = 0;
     for (size_t p = 0; p < LARGEST / 16; p++) m += part(plan + m, 0, 0, 0, 1);

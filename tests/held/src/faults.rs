@@ -6,7 +6,7 @@ use std::sync::OnceLock;
 use crate::answers;
 use crate::grading;
 use crate::job::{self, Job};
-use crate::limits::{job_bytes, plan_bytes, work_numbers, BOUND_LOAD, BOUND_SPEED, FORMER, JOB_INTAKE, LISTING, LONGEST_JOB};
+use crate::limits::{job_bytes, plan_bytes, work_numbers, BOUND_LOAD, BOUND_SPEED, JOB_INTAKE, LISTING, LONGEST_JOB};
 use crate::limits::{MACHINES, SPEED, TILES, WEIGHT};
 use crate::listing;
 use crate::methods::{self, Tried};
@@ -722,13 +722,12 @@ const FAULTS: &[(&str, &str, Run)] = &[
     ("quick-best", "quick plan: the bottleneck of the best plan", |l| l.pair(l.call == Call::Quick, 0, |j, _| best_bound(j))),
 ];
 
-/// Of each call alone: a row of the most machines refused, one of a machine more taken, one of as many as the limit was before taken.
+/// Of each call alone: a row of the most machines refused, one of a machine more taken.
 macro_rules! rows {
     ($(($name:literal, $words:literal, $call:pat),)*) => {
         &[$(
             (concat!("row-most-", $name), concat!($words, ": the most machines refused"), |l| l.row(matches!(l.call, $call), MACHINES, false)),
             (concat!("row-more-", $name), concat!($words, ": one machine too many taken"), |l| l.row(matches!(l.call, $call), MACHINES + 1, true)),
-            (concat!("row-former-", $name), concat!($words, ": the most machines of before taken"), |l| l.row(matches!(l.call, $call), FORMER, true)),
         )*]
     };
 }

@@ -130,8 +130,8 @@ fn sentences(c: &mut Check) {
         format!("Each machine has a speed e, 1 to {}.", figure(SPEED as u64)),
         format!("has a load of 0 to {} and a speed of 1 to {}.", figure(BOUND_LOAD), figure(BOUND_SPEED)),
         format!("; {} bytes for a listing;", figure(LISTING as u64)),
-        format!("An empty file and {} machines are refused with 7.", figure(machines + 1)),
-        format!("{} tiles are refused with 8.", figure(tiles + 1)),
+        format!("{} machines are taken; none and {} are refused with 7, with {} tiles too.", figure(machines), figure(machines + 1), figure(tiles + 1)),
+        format!("{} tiles are taken; {} are refused with 8.", figure(tiles), figure(tiles + 1)),
     ] {
         if !scope.contains(&words) {
             c.fail(&format!("docs/SCOPE.md does not say: {}", words), String::new());
@@ -183,7 +183,7 @@ fn edges(c: &mut Check) {
     // Tiles: more than the most give 8, the most pass. A 7-byte file gives 2.
     single(c, &[], 7);
     single(c, &[tile(1)], 7);
-    let cut = [2 * MACHINES, 2 * MACHINES + 1, 256 + MACHINES, 512, 513, 65_536, 65_537, 65_536 + MACHINES, 65_536 + 256];
+    let cut = [1 << 8, (1 << 8) + 1, (1 << 8) + MACHINES, 1 << 9, 1 << 16, (1 << 16) + 1, (1 << 16) + MACHINES];
     for many in TOO_MANY.into_iter().chain(cut) {
         single(c, &vec![machine(1); many], 7);
     }

@@ -37,16 +37,5 @@ pub const PLAN_INTAKE: usize = LONGEST_PLAN + 16;
 /// The room of a listing: the first line, and four lines of a plan with the most machines, each number taken for one of 20 digits.
 pub const LISTING: usize = 84 + 4 * (126 + 21 * (MACHINES + 1));
 
-/// The most machines that a job had before.
-pub const FORMER: usize = 256;
-
-/// Rows that are too long: just past the limit, at a power of two, and around the limit of before.
-pub const TOO_MANY: [usize; 6] = [MACHINES + 1, MACHINES + 2, 128, FORMER - 1, FORMER, FORMER + 1];
-
-const _: () = {
-    let mut k = 0;
-    while k < TOO_MANY.len() {
-        assert!(TOO_MANY[k] > MACHINES, "a row of TOO_MANY is not too long");
-        k += 1;
-    }
-};
+/// Rows that are too long: just past the limit, twice the most and about it, and longer.
+pub const TOO_MANY: [usize; 5] = [MACHINES + 1, MACHINES + 2, 2 * MACHINES - 1, 2 * MACHINES, 3 * MACHINES + 1];
