@@ -163,6 +163,8 @@ says $text '' 'A job has at most # machines' "$machines"
 says $text '' 'the largest job, # tiles' "$tiles"
 says $text '' "the largest job, $(grouped "$tiles") tiles on # machines" "$machines"
 says $text '' '100 on), at most #' "$weight"
+says $text '' 'The largest job, N = #' "$tiles"
+says $text '' "The largest job, N = $(grouped "$tiles") on P = #" "$machines"
 
 # The helps and the manual pages
 says strips '' 'speed (1 to #)' "$speed"

@@ -127,8 +127,8 @@ fn two_records() {
 fn counts() {
     measure(11, &[1; MAX_PROCESSORS], &[], &[]); // the most machines pass
     measure(12, &[1; MAX_PROCESSORS + 1], &[], &[]); // one more: 7
-    measure(13, &[1], &[0; MAX_TASKS], &[]); // 2,048 tiles pass
-    measure(14, &[1], &[0; MAX_TASKS + 1], &[]); // 2,049 tiles: 8
+    measure(13, &[1], &[0; MAX_TASKS], &[]); // the most tiles pass
+    measure(14, &[1], &[0; MAX_TASKS + 1], &[]); // one more: 8
 }
 
 fn calls_on_a() {
