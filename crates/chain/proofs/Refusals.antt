@@ -43,11 +43,11 @@ pub numbered-map : {A : Type 0} (f : A → Test) → ((a : A) → 0 < (f a) .num
 numbered-map f h l =
     record { positive = λ t m. let r = Memᴰ·of-map f l m in subst (λ (x : Test). 0 < x .number) (r .2) (h (r .0)) }
 
-numbered-tail : {t : Test} {ts : List Test} → Numbered (t ∷ ts) → Numbered ts
+pub numbered-tail : {t : Test} {ts : List Test} → Numbered (t ∷ ts) → Numbered ts
 numbered-tail n = record { positive = λ u m. n .positive u (List·Memᴰ·tail m) }
 
 -- The first test of a list passes and the others decide, or its number is given.
-pass-head : (t : Test) (ts : List Test) → 0 < t .number → firstRefusal (t ∷ ts) ≡ 0 → T (t .passes)
+pub pass-head : (t : Test) (ts : List Test) → 0 < t .number → firstRefusal (t ∷ ts) ≡ 0 → T (t .passes)
 unfolding firstRefusal
 pass-head t ts h e = go (t .passes) e
   where
@@ -55,7 +55,7 @@ pass-head t ts h e = go (t .passes) e
     go true x = tt
     go false x = absurd (let z : ⊥ = omega arith in z)
 
-pass-skip : (t : Test) (ts : List Test) → T (t .passes) → firstRefusal (t ∷ ts) ≡ firstRefusal ts
+pub pass-skip : (t : Test) (ts : List Test) → T (t .passes) → firstRefusal (t ∷ ts) ≡ firstRefusal ts
 unfolding firstRefusal
 pass-skip t ts p = go (t .passes) p
   where

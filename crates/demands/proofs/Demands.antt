@@ -146,7 +146,7 @@ ranged (PlanJob file m plan) = tt
 ranged (GradePlan file plan grade) = tt
 
 -- No test has the number 0.
-numbered : (call : Call) → Numbered (tests call)
+pub numbered : (call : Call) → Numbered (tests call)
 unfolding hostTests hostFileTests listTests gradeTests methodTest lengthTest
 numbered (TestJob es ws) = job-numbered (jobOf es ws)
 numbered (ReadJob file es ws) = read-numbered file (length es) (length ws)

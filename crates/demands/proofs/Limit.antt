@@ -1,20 +1,22 @@
 -- A job is answered alike with every limit of machines that it is within: `any-limit`.
 -- Assumes nothing.
-use Prim.Native.Nat.{ℕ, zero, suc, _+_, _*_, _/_, _%_, _≤_}
+use Prim.Native.Nat.{ℕ, zero, suc, _+_, _*_, _/_, _%_, _≤_, _<_}
 use mathlib.Core.Path.{_≡_, refl, sym, ap, ap₂, subst, _∙_}
-use mathlib.Core.Bool.{Bool, cond, _&&_}
-use mathlib.Core.List.{List, [], _∷_, _++_, map, map-append}
-use mathlib.Core.Logic.{_↔_}
+use mathlib.Core.Bool.{Bool, true, false, cond, _&&_}
+use mathlib.Core.List.{List, [], _∷_, _++_, map, map-append, List·Memᴰ, List·Memᴰ·head, List·Memᴰ·tail, List·Memᴰ·not-nil, List·Memᴰ·cases-cons, Memᴰ·append-left, Memᴰ·append-right}
+use mathlib.Core.Logic.{_↔_, inl, inr}
 use native.Mathlib.Omega.{arith}
-use lib.Dec.{leb, eqb}
+use lib.Dec.{T, leb, eqb, leb→le}
 use lib.ListN.{length, take}
 use lib.Seq.{take-all}
 use borrow.Author.Tests.{le-leb}
 use Rattle.chain.specs.Limits.{maxProcessors}
 use Rattle.chain.specs.Job.{Job, processors, speedOf}
 use Rattle.chain.specs.Plan.{planOf, Best}
-use Rattle.chain.specs.Refusal.{Test, test, methodTest, speedsTest, weightsTest, processorsTest, tasksTest, lengthTest, boundTest, partitionTest, planLengthTest, joinedTest, trueTest, firstRefusal, jobTests, planTests, callTests, refusal}
+use Rattle.chain.specs.Refusal.{Test, test, between, methodTest, speedsTest, weightsTest, processorsTest, tasksTest, lengthTest, boundTest, partitionTest, planLengthTest, joinedTest, trueTest, firstRefusal, jobTests, planTests, callTests, refusal}
 use Rattle.chain.proofs.Best.{best-unique}
+use Rattle.chain.proofs.Refusals.{Numbered, numbered-tail, pass-head, pass-skip}
+use Rattle.chain.proofs.Tests.{and-right}
 use Rattle.chain.proofs.Demand.{plan-of-best}
 use Rattle.refusals.specs.Inputs.{planNeeded}
 use Rattle.refusals.specs.Answers.{saidBy}
@@ -33,10 +35,10 @@ use Rattle.listing.specs.Room.{roomFor, listingRoom}
 use Rattle.listing.specs.Listing.{listingOf, intakeFor, intake, listing}
 use Rattle.listing.specs.Answers.{listTests, listRefusal, listWrites}
 use Rattle.listing.proofs.Listings.{listed-whole}
-use Rattle.demands.specs.Call.{Call, TestJob, ReadJob, WriteJob, Measure, Probe, Heuristic, Plan, WritePlan, Grade, ListJob, PlanJob, GradePlan, values, tests, Leaves}
+use Rattle.demands.specs.Call.{Call, TestJob, ReadJob, WriteJob, Measure, Probe, Heuristic, Plan, WritePlan, Grade, ListJob, PlanJob, GradePlan, values, tests, recordsOrder, fileOrder, order, Leaves}
 use Rattle.demands.specs.Demands.{Accepts}
-use Rattle.demands.specs.Limit.{processorsIn, limited, limitedTo, numberWith, LeavesBy, listingWith, Alike, AnyLimit}
-use Rattle.demands.proofs.Demands.{tested, demand-one, left}
+use Rattle.demands.specs.Limit.{processorsIn, limited, limitedTo, numberWith, LeavesBy, Counts, listingWith, Alike, AnyLimit}
+use Rattle.demands.proofs.Demands.{tested, numbered, demand-one, left}
 
 -- Tests that are within both limits are the same tests.
 limits-same : {l m p : ℕ} → p ≤ l → p ≤ m → (ts : List Test) → limitedTo l p ts ≡ limitedTo m p ts
@@ -116,10 +118,52 @@ within-both : (limit : ℕ) (call : Call) → processorsIn call ≤ limit → pr
     → limitedTo limit (processorsIn call) (tests call) ≡ tests call
 within-both limit call h k = limits-same {l = limit} {m = maxProcessors} h k (tests call) ∙ call-ours call
 
-kept : (limit : ℕ) (call : Call) → maxProcessors ≤ limit → processorsIn call ≤ maxProcessors → numberWith limit call ≡ 0
-    → Accepts call × Alike limit call
-kept limit call g k z =
-    let same = within-both limit call (omega arith) k in
+-- Accepted with a limit a job is within it, since its test 7 passes: of any tests,
+module _ (l p : ℕ) where
+  limited-number : (t : Test) → 0 < t .number → 0 < (limited l p t) .number
+  limited-number t h = go (eqb (t .number) 7)
+    where
+      go : (b : Bool) → 0 < (cond b (test 7 (between 1 l p)) t) .number
+      go true = omega arith
+      go false = h
+
+  limited-within : (ts : List Test) → Numbered ts → firstRefusal (limitedTo l p ts) ≡ 0 → List·Memᴰ 7 (map (λ t. t .number) ts) → p ≤ l
+  limited-within [] n e m = absurd (List·Memᴰ·not-nil m)
+  limited-within (t ∷ ts) n e m =
+      let h : T ((limited l p t) .passes) = pass-head (limited l p t) (limitedTo l p ts) (limited-number t (n .positive t (List·Memᴰ·head refl))) e in
+      elim (List·Memᴰ·cases-cons m) [
+        | inl k ↦
+            leb→le p l (and-right (leb 1 p) (leb p l)
+            (subst (λ (i : ℕ). T ((cond (eqb i 7) (test 7 (between 1 l p)) t) .passes)) (sym k) h))
+        | inr k ↦ limited-within ts (numbered-tail n) (sym (pass-skip (limited l p t) (limitedTo l p ts) h) ∙ e) k
+      ]
+
+-- and of the calls that have it.
+in-file : (file : List ℕ) → List·Memᴰ 7 (fileOrder file)
+unfolding fileOrder
+in-file file = List·Memᴰ·tail (Memᴰ·append-right (recordsOrder (recordCount file)) (List·Memᴰ·head refl))
+
+in-order : (call : Call) → Counts call → List·Memᴰ 7 (order call)
+in-order (TestJob es ws) c = c
+in-order (ReadJob file es ws) c = Memᴰ·append-left (9 ∷ 9 ∷ []) (in-file file)
+in-order (WriteJob es ws file) c = c
+in-order (Measure es ws s) c = c
+in-order (Probe es ws B s) c = c
+in-order (Heuristic es ws s) c = c
+in-order (Plan m es ws s t) c = Memᴰ·append-left (9 ∷ []) c
+in-order (WritePlan es ws s plan) c = List·Memᴰ·tail (List·Memᴰ·tail (List·Memᴰ·head refl))
+in-order (Grade es ws plan) c = c
+in-order (ListJob file out) c = c
+in-order (PlanJob file m plan) c = List·Memᴰ·tail (Memᴰ·append-left (9 ∷ []) (in-file file))
+in-order (GradePlan file plan grade) c = Memᴰ·append-left (9 ∷ 12 ∷ 11 ∷ 13 ∷ []) (in-file file)
+
+accepted-within : (limit : ℕ) (call : Call) → Counts call → numberWith limit call ≡ 0 → processorsIn call ≤ limit
+accepted-within limit call c z =
+    limited-within limit (processorsIn call) (tests call) (numbered call) z (subst (List·Memᴰ 7) (sym ((demand-one call) .ordered)) (in-order call c))
+
+kept : (limit : ℕ) (call : Call) → Counts call → processorsIn call ≤ maxProcessors → numberWith limit call ≡ 0 → Accepts call × Alike limit call
+kept limit call c k z =
+    let same = within-both limit call (accepted-within limit call c z) k in
     (tested call ∙ ap firstRefusal (sym same) ∙ z, alike-by limit call same)
 
 -- A file that is accepted is not longer than its job.
@@ -161,7 +205,7 @@ any-limit =
       ours = λ call. alike-by maxProcessors call (call-ours call);
       ours-listing = ours-listing;
       alike = λ limit call c h k. alike-by limit call (within-both limit call h k);
-      kept = λ limit call g c k z. kept limit call g k z;
+      kept = kept;
       plan = left;
       best = best;
       listed = listed;

@@ -96,9 +96,9 @@ pub record AnyLimit : Type 0 where
   pub ours-listing : (file : List ℕ) → listingWith maxProcessors file ≡ listing file
   -- Scope 15.2: "A call that tests the number of machines answers and leaves the same with every limit that its job is within."
   pub alike : (limit : ℕ) (call : Call) → Counts call → processorsIn call ≤ limit → processorsIn call ≤ maxProcessors → Alike limit call
-  -- Scope 15.3: "A job of up to 96 machines that a greater limit accepts is accepted, and keeps its plan." What is said and left of it
+  -- Scope 15.3: "A job of up to 96 machines that any other limit accepts is accepted, and keeps its plan." What is said and left of it
   -- is the same,
-  pub kept : (limit : ℕ) (call : Call) → maxProcessors ≤ limit → Counts call → processorsIn call ≤ maxProcessors → numberWith limit call ≡ 0
+  pub kept : (limit : ℕ) (call : Call) → Counts call → processorsIn call ≤ maxProcessors → numberWith limit call ≡ 0
       → Accepts call × Alike limit call
   -- the plan that a call leaves is the definition's,
   pub plan : (m : ℕ) (es ws s t : List ℕ) → Accepts (Plan m es ws s t)
