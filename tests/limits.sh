@@ -1,7 +1,7 @@
 #!/bin/sh
-# The limits stand once, in crates/chain/specs/Limits.antt. Every text that gives one of them, or an amount that follows from one, must
-# have the figure that follows: it is looked for by the few words beside it, and fails where the words are there no more. No text
-# for users speaks of more tiles or machines than the refusal's example does, one above the limit. It needs sh, sed, awk and od.
+# The limits stand in crates/chain/specs/Limits.antt. The texts below that give one of them, or an amount that follows from one, must have
+# the figure that follows: it is looked for by the few words beside it, and fails where the words are there no more. The texts for users
+# speak of no more tiles or machines than one above the limit, as an example of a refusal does. It needs sh, sed, awk and od.
 set -u
 case $0 in
 */*) cd "${0%/*}/.." || exit 1 ;;
@@ -118,6 +118,9 @@ says $text 11.7 '; # are refused' $((tiles + 1))
 says $text 15.3 'up to # machines' "$machines"
 
 # The pages for users
+text=README.md
+says $text '' '1 to # machines' "$machines"
+says $text '' 'at most # tiles' "$tiles"
 text=docs/FORMATS.md
 says $text '' 'speed, 1 to #' "$speed"
 says $text '' 'weight, 0 to #' "$weight"
