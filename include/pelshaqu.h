@@ -19,8 +19,9 @@ extern "C" {
 #define PELSHAQU_BISECTION 3
 #define PELSHAQU_NICOL 4
 
-/* The most machines of a job, and the bytes of its plan. */
+/* The most machines and the most tiles of a job, and the bytes of its plan. */
 #define PELSHAQU_MAX_MACHINES 96
+#define PELSHAQU_MAX_TILES 2048
 #define PELSHAQU_PLAN_RECORD 16
 #define PELSHAQU_MAX_PLAN (PELSHAQU_PLAN_RECORD * PELSHAQU_MAX_MACHINES)
 

@@ -13,37 +13,7 @@ trap 'chmod -R u+rwx "$work"; rm -rf "$work"' EXIT
 passed=0
 failed=0
 
-# the most machines and the most tiles of a job; the bytes of the longest job and the longest plan, and of what is taken in of each:
-# one record more
-machines=96
-tiles=2048
-longest_job=$((8 * (machines + tiles)))
-longest_plan=$((16 * machines))
-job_intake=$((longest_job + 8))
-plan_intake=$((longest_plan + 16))
-
-# figure NUMBER: with a comma before the last three digits
-figure() {
-    if [ "$1" -lt 1000 ]; then echo "$1"; else printf '%d,%03d\n' $(($1 / 1000)) $(($1 % 1000)); fi
-}
-
-# same NAME FILE FILE
-same() {
-    if cmp -s "$2" "$3"; then
-        passed=$((passed + 1))
-    else
-        failed=$((failed + 1))
-        echo "tests/grade.sh: $1: differs:" >&2
-        diff "$2" "$3" | cut -c 1-200 | head -n 10 >&2 || :
-    fi
-}
-
-# equal NAME WANTED GOT
-equal() {
-    printf '%s\n' "$2" >"$work/wanted"
-    printf '%s\n' "$3" >"$work/got"
-    same "$1" "$work/wanted" "$work/got"
-}
+. tests/common
 
 # says NAME LINE JOB PLAN: the program answers the line, and has nothing to say on standard error
 says() {
@@ -67,22 +37,6 @@ silent() {
     equal "$name: said so" "grade: yes" "$(begins)$([ "$(wc -c <"$work/said")" -gt 12 ] && echo yes || echo no)"
 }
 
-# bytes VALUE: a number of 32 bits, little-endian, as printf wants it
-bytes() {
-    printf '\\%03o\\%03o\\%03o\\%03o' $(($1 % 256)) $(($1 / 256 % 256)) $(($1 / 65536 % 256)) $(($1 / 16777216 % 256))
-}
-
-# record KIND VALUE: one record of a job file
-record() {
-    printf "$(bytes "$1")$(bytes "$2")"
-}
-
-# records COUNT KIND VALUE
-records() {
-    one="$(bytes "$2")$(bytes "$3")"
-    printf "$(ONE=$one awk -v n="$1" 'BEGIN { for (i = 0; i < n; i++) printf "%s", ENVIRON["ONE"] }')"
-}
-
 # fields VALUE..: numbers of 32 bits, as a plan file has them, four to a record
 fields() {
     for value; do
@@ -92,8 +46,12 @@ fields() {
 
 # empty_parts COUNT: records of machines of speed 1 without tiles, in a job without tiles
 empty_parts() {
-    one="$(bytes 0)$(bytes 0)$(bytes 0)$(bytes 1)"
-    printf "$(ONE=$one awk -v n="$1" 'BEGIN { for (i = 0; i < n; i++) printf "%s", ENVIRON["ONE"] }')"
+    repeated "$1" "$(bytes 0)$(bytes 0)$(bytes 0)$(bytes 1)"
+}
+
+# judged NAME LINE: what is said of $work/job beside the longest plan
+judged() {
+    says "$1" "$2" "$work/job" "$long"
 }
 
 a=examples/A.job
@@ -208,7 +166,7 @@ for row in $((machines - 1)) "$machines"; do
     says "$row machines" best "$work/job" "$work/plan"
     says "$row machines, an empty plan" "refused 12" "$work/job" "$work/empty"
 done
-for row in $((machines + 1)) $((machines + 2)) $((2 * machines - 1)) $((2 * machines)) $((3 * machines + 1)); do
+for row in $(too_long); do
     records "$row" 1 1 >"$work/job"
     empty_parts "$row" >"$work/plan"
     refused 7 "$row machines"
@@ -321,47 +279,14 @@ for more in 1 4 7 8 9 15 16; do
     } >"$work/job"
     says "a job of $(figure $((longest_job + more))) bytes" "refused $([ "$more" -lt 8 ] && echo 2 || echo 8)" "$work/job" "$long"
 done
-# The last record inside is judged, the next one is not: behind the longest job, and behind as many machines.
-last=$(figure $((job_intake / 8)))
-next=$(figure $((job_intake / 8 + 1)))
-records $((longest_job / 8)) 1 1 >"$work/row"
-# around NAME KIND VALUE NUMBER NUMBER: the two numbers that the record gives inside
-around() {
-    for front in examples/large2.job "$work/row"; do
-        case $front in
-        examples/*) behind="the longest job" number=$4 good=2 past=8 ;;
-        *) behind="machines alone" number=$5 good=1 past=7 ;;
-        esac
-        {
-            cat "$front"
-            record "$2" "$3"
-        } >"$work/job"
-        says "$1 as record $last, behind $behind" "refused $number" "$work/job" "$long"
-        printf '\001' >>"$work/job"
-        says "$1 as record $last and a byte, behind $behind" "refused $number" "$work/job" "$long"
-        {
-            cat "$front"
-            record "$good" 1
-            record "$2" "$3"
-        } >"$work/job"
-        says "$1 as record $next, behind $behind" "refused $past" "$work/job" "$long"
-        printf '\001\002\003' >>"$work/job"
-        says "$1 as record $next and three bytes, behind $behind" "refused $past" "$work/job" "$long"
-    done
-}
-around "kind 9" 9 9 3 3
-around "a machine" 1 1 4 7
-around "a machine of speed 0" 1 0 4 5
-around "a machine of speed 10,001" 1 10001 4 5
-around "a tile" 2 1 8 7
-around "a tile of weight 1,000,001" 2 1000001 6 6
+around_intake
 {
     cat examples/large2.job
     head -c 300000 /dev/zero
 } >"$work/job"
 says "zeros behind the longest job" "refused 3" "$work/job" "$long"
 records $((job_intake / 8 + 1)) 1 1 >"$work/job"
-says "$next machines" "refused 7" "$work/job" "$long"
+says "$(figure $((job_intake / 8 + 1))) machines" "refused 7" "$work/job" "$long"
 
 # pipes as files
 printf 'best\n' >"$work/wanted"

@@ -192,6 +192,7 @@ done
 # The header
 text=include/pelshaqu.h
 says $text '#define PELSHAQU_MAX_MACHINES' 'PELSHAQU_MAX_MACHINES #' "$machines"
+says $text '#define PELSHAQU_MAX_TILES' 'PELSHAQU_MAX_TILES #' "$tiles"
 says $text '' 'speed (1 to #)' "$speed"
 says $text '' 'weight (0 to #)' "$weight"
 says $text '' '1 to # machines' "$machines"

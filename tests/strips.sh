@@ -13,34 +13,7 @@ trap 'rm -rf "$work"' EXIT
 passed=0
 failed=0
 
-# the most machines and the most tiles of a job; the bytes of the longest job, and of what is taken in: one record more
-machines=96
-tiles=2048
-longest=$((8 * (machines + tiles)))
-intake=$((longest + 8))
-
-# figure NUMBER: with a comma before the last three digits
-figure() {
-    if [ "$1" -lt 1000 ]; then echo "$1"; else printf '%d,%03d\n' $(($1 / 1000)) $(($1 % 1000)); fi
-}
-
-# same NAME FILE FILE
-same() {
-    if cmp -s "$2" "$3"; then
-        passed=$((passed + 1))
-    else
-        failed=$((failed + 1))
-        echo "tests/strips.sh: $1: differs:" >&2
-        diff "$2" "$3" | head -n 10 >&2 || :
-    fi
-}
-
-# equal NAME WANTED GOT
-equal() {
-    printf '%s\n' "$2" >"$work/wanted"
-    printf '%s\n' "$3" >"$work/got"
-    same "$1" "$work/wanted" "$work/got"
-}
+. tests/common
 
 # gives NAME LINE: the program answers the line to what is in $work/job
 gives() {
@@ -54,24 +27,13 @@ first() {
     equal "$1" "$2" "$("$program" <"$work/job" | head -n 1)"
 }
 
-# bytes KIND VALUE: a record of a job file as printf wants it
-bytes() {
-    printf '\\%03o\\000\\000\\000\\%03o\\%03o\\%03o\\%03o' "$1" \
-        $(($2 % 256)) $(($2 / 256 % 256)) $(($2 / 65536 % 256)) $(($2 / 16777216 % 256))
-}
-
-# record KIND VALUE: one record of a job file
-record() {
-    printf "$(bytes "$1" "$2")"
-}
-
-# records COUNT KIND VALUE
-records() {
-    printf "$(ONE=$(bytes "$2" "$3") awk -v n="$1" 'BEGIN { for (i = 0; i < n; i++) printf "%s", ENVIRON["ONE"] }')"
+# judged NAME LINE
+judged() {
+    gives "$1" "$2"
 }
 
 # the longest example is the longest job that there may be
-equal "large2: its bytes" "$longest" "$(wc -c <examples/large2.job | tr -d ' ')"
+equal "large2: its bytes" "$longest_job" "$(wc -c <examples/large2.job | tr -d ' ')"
 equal "large2: its tiles and machines" "tiles $tiles machines $machines" \
     "$("$program" <examples/large2.job | head -n 1 | cut -d ' ' -f 1-4)"
 
@@ -151,7 +113,7 @@ for row in $((machines - 1)) "$machines"; do
     records "$row" 1 1 >"$work/job"
     first "$row machines" "tiles 0 machines $row total 0"
 done
-for row in $((machines + 1)) $((machines + 2)) $((2 * machines - 1)) $((2 * machines)) $((3 * machines + 1)); do
+for row in $(too_long); do
     records "$row" 1 1 >"$work/job"
     gives "$row machines" "refused 7"
     record 2 1 >>"$work/job"
@@ -189,56 +151,23 @@ for more in 1 2 3 4 5 6 7; do
         cat examples/large2.job
         head -c "$more" "$work/tail"
     } >"$work/job"
-    gives "$(figure $((longest + more))) bytes" "refused 2"
+    gives "$(figure $((longest_job + more))) bytes" "refused 2"
 done
 for more in 8 9 15 16; do
     {
         cat examples/large2.job
         head -c "$more" "$work/tail"
     } >"$work/job"
-    gives "$(figure $((longest + more))) bytes" "refused 8"
+    gives "$(figure $((longest_job + more))) bytes" "refused 8"
 done
-# The last record inside is judged, the next one is not: behind the longest job, and behind as many machines.
-last=$(figure $((intake / 8)))
-next=$(figure $((intake / 8 + 1)))
-records $((longest / 8)) 1 1 >"$work/row"
-# around NAME KIND VALUE NUMBER NUMBER: the two numbers that the record gives inside
-around() {
-    for front in examples/large2.job "$work/row"; do
-        case $front in
-        examples/*) behind="the longest job" number=$4 good=2 past=8 ;;
-        *) behind="machines alone" number=$5 good=1 past=7 ;;
-        esac
-        {
-            cat "$front"
-            record "$2" "$3"
-        } >"$work/job"
-        gives "$1 as record $last, behind $behind" "refused $number"
-        printf '\001' >>"$work/job"
-        gives "$1 as record $last and a byte, behind $behind" "refused $number"
-        {
-            cat "$front"
-            record "$good" 1
-            record "$2" "$3"
-        } >"$work/job"
-        gives "$1 as record $next, behind $behind" "refused $past"
-        printf '\001\002\003' >>"$work/job"
-        gives "$1 as record $next and three bytes, behind $behind" "refused $past"
-    done
-}
-around "kind 9" 9 9 3 3
-around "a machine" 1 1 4 7
-around "a machine of speed 0" 1 0 4 5
-around "a machine of speed 10,001" 1 10001 4 5
-around "a tile" 2 1 8 7
-around "a tile of weight 1,000,001" 2 1000001 6 6
+around_intake
 for more in 1 4 7; do
     {
         cat "$work/row"
         record 1 1
         record 1 1 | head -c "$more"
     } >"$work/job"
-    gives "$(figure $((intake + more))) bytes of machines" "refused 7"
+    gives "$(figure $((job_intake + more))) bytes of machines" "refused 7"
 done
 {
     cat examples/large2.job
@@ -246,10 +175,10 @@ done
 } >"$work/job"
 gives "zeros behind the longest job" "refused 3"
 {
-    records $((intake / 8)) 1 1
+    records $((job_intake / 8)) 1 1
     head -c 300000 /dev/zero
 } >"$work/job"
-gives "a longer file, $last machines" "refused 7"
+gives "a longer file, $(figure $((job_intake / 8))) machines" "refused 7"
 {
     {
         cat examples/large2.job
@@ -272,14 +201,14 @@ same "a pipe that gives nothing and closes late" "$work/wanted" "$work/got"
 
 # pauses at a record's end, within a record, and at each byte around the end of what is taken in
 {
-    head -c $((longest - 8)) examples/large2.job
+    head -c $((longest_job - 8)) examples/large2.job
     sleep 0.1
     tail -c 8 examples/large2.job
     sleep 0.1
 } | "$program" >"$work/got"
 same "a pause before the last record and after it" examples/large2.txt "$work/got"
 {
-    head -c $((longest - 4)) examples/large2.job
+    head -c $((longest_job - 4)) examples/large2.job
     tail -c 4 examples/large2.job >"$work/rest"
     for i in 1 2 3 4; do
         sleep 0.02

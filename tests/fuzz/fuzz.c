@@ -9,7 +9,7 @@
 #include "../../include/pelshaqu.h"
 
 /* The most tiles of a job; of machines the header has the most. tests/fuzz/run reads both. */
-#define TILES 2048
+#define TILES PELSHAQU_MAX_TILES
 
 void blocks_watch(void);
 

@@ -8,7 +8,7 @@
 
 #define GUARD 64
 /* The most tiles of a job; of machines the header has the most. */
-#define TILES 2048
+#define TILES PELSHAQU_MAX_TILES
 /* Room for a machine and a tile more than a job may have. */
 #define LARGEST (8 * (PELSHAQU_MAX_MACHINES + TILES + 2))
 

@@ -17,7 +17,7 @@
 #include "../../include/pelshaqu.h"
 
 #define MACHINES PELSHAQU_MAX_MACHINES
-#define TILES 2048
+#define TILES PELSHAQU_MAX_TILES
 #define RECORDS (MACHINES + TILES + 2)
 #define AREA (512 * 1024)
 /* What the thread did before the call lies within so many bytes above it. */
