@@ -3,10 +3,7 @@
 # the figure that follows: it is looked for by the few words beside it, and fails where the words are there no more. The texts for users
 # speak of no more tiles or machines than one above the limit, as an example of a refusal does. It needs sh, sed, awk and od.
 set -u
-case $0 in
-*/*) cd "${0%/*}/.." || exit 1 ;;
-*) cd .. || exit 1 ;;
-esac
+cd "$(dirname "$0")/.." || exit 1
 figures=0
 failed=0
 

@@ -166,7 +166,7 @@ kept limit call c k z =
     let same = within-both limit call (accepted-within limit call c z) k in
     (tested call ∙ ap firstRefusal (sym same) ∙ z, alike-by limit call same)
 
--- A file that is accepted is not longer than its job.
+-- An accepted file has the records of its job and no byte more.
 file-length : (file : List ℕ) → fileRefusal file ≡ 0 → length file ≡ 8 * (length (speedsOf file) + length (weightsOf file))
 file-length file e =
     let r = file-early file e in
