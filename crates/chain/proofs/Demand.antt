@@ -30,7 +30,7 @@ use Rattle.chain.proofs.Ideal.{ideal-finite}
 use Rattle.chain.proofs.Bidding.{ideal-below, bidding-least, bidding-allowed, bidding-ends}
 use Rattle.chain.proofs.Bisection.{first-allowed, bisection-least, bisection-allowed, bisection-ends}
 use Rattle.chain.proofs.Nicol.{candidate-above, candidate-met}
-use Rattle.chain.proofs.Halving.{nicol-counts, nicol-least, nicol-allowed, nicol-is}
+use Rattle.chain.proofs.NicolTrials.{nicol-counts, nicol-least, nicol-allowed, nicol-is}
 use Rattle.chain.proofs.Enumeration.{least-is-least, least-attained}
 
 -- The count of a method is one number.

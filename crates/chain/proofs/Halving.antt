@@ -1,254 +1,257 @@
--- The halving of Nicol's search: it finds the smallest index that fits, within digits(N) trials a processor; so the search ends within its
--- allowance.
+-- Halving the row gives a partition whose loads are at most Wtot/P + heaviest × (P − 1)/P: each split leaves at most half of its part and half
+-- the heaviest weight on either side.
 -- Assumes nothing.
 use Prim.Native.Nat.{ℕ, zero, suc, _+_, _-_, _*_, _/_, _^_, _≤_, _<_}
-use mathlib.Core.Path.{_≡_, refl, sym, subst, _∙_}
-use mathlib.Core.Bool.{Bool, true, false, not, cond}
-use mathlib.Core.Logic.{inl, inr}
+use mathlib.Core.Path.{_≡_, refl, sym, ap, subst, _∙_}
+use mathlib.Core.List.{List, [], _∷_, _++_, append-assoc}
+use mathlib.Core.Logic.{_↔_}
 use native.Mathlib.Omega.{arith}
 use native.Mathlib.Decide.{decLe}
-use native.Mathlib.Nat.{mul-le-mul-left, mul-le-mul-right}
-use lib.Dec.{T, eqb, ltb, T-not, eqb→eq}
-use borrow.Author.Tests.{eq-eqb, lt-ltb, le-ltb}
-use Rattle.bound.specs.declared.Bound.{Bound}
-use Rattle.bound.specs.Order.{nought, pick}
-use Rattle.chain.specs.Lists.{sumTo, all, isFirst, digits}
-use Rattle.chain.specs.Job.{Job, tasks, last}
-use Rattle.chain.specs.Nicol.{Range, fitsAt, firstFit, startOn, leastCandidate, emptyFits, Comes, nextRange, rangeAfter, single, settled}
-use Rattle.chain.specs.Plan.{TrialsTo, NicolEnds, early, whole, allowance, nicolTrials, nicolStop}
-use Rattle.chain.specs.declared.Method.the-variants.{Nicol}
-use Rattle.chain.proofs.Tests.{T-of, T-not-of}
-use Rattle.chain.proofs.Parts.{Proper, Plannable}
-use Rattle.chain.proofs.Sums.{sum-same-below, sum-below}
-use Rattle.chain.proofs.Digits.{digits-least}
-use Rattle.chain.proofs.Indices.{Smallest, smallest-is, all-at, all-of, first-holds, first-fails, first-of, first-unique, first-exists, smallest-first}
-use Rattle.chain.proofs.Best.{Least}
-use Rattle.chain.proofs.Nicol.{comes-sooner, first-fit-is, start-to, fits-at-raise, fails-at-lower, empty-least, rest-fits, candidates-least}
+use native.Mathlib.Nat.{mul-le-mul-left, le-of-mul-le-mul-right}
+use lib.Dec.{T, eqb, eqb→eq, eqb-refl}
+use lib.Pow.{pow-pos}
+use lib.ListN.{length, getD, length-append, List·getD-append, List·getD-eq-default}
+use lib.Seq.{getD-append-add}
+use Rattle.bound.proofs.Order.{open-le}
+use Rattle.chain.specs.Lists.{smallestLeast, distance, digits, digitsWithin, levels, powerOfTwo}
+use Rattle.chain.specs.Job.{Job, tasks, processors, last, speedOf, partWeight, partLoad, totalWeight, heaviest, partBound, at, Partition, boundAt, bottleneck}
+use Rattle.chain.specs.Halving.{Halvable, uneven, split, splits, halving}
+use Rattle.chain.specs.Refusal.{eachBetween, allEqual, rowTest}
+use Rattle.chain.proofs.Tests.{and-left, and-right, and-both}
+use Rattle.chain.proofs.Refusals.{each-at, each-of}
+use Rattle.chain.proofs.Digits.{digits-least, digits-below}
+use Rattle.chain.proofs.Parts.{Proper, weight-split, weight-empty, weight-all, load-le}
+use Rattle.chain.proofs.Indices.{SmallestLeast, smallest-least-is}
+use Rattle.chain.proofs.Extremes.{same-default, weight-step}
+use Rattle.chain.proofs.Bottleneck.{part-le-bottleneck, bottleneck-cases}
+use Rattle.chain.proofs.Heuristic.{half-step}
 
--- What holds of a range: it lies between a and N, every index before it fails, its high end fits, and n times its width is at most N.
-pub record Ranged (job : Job) (p a n : ℕ) (R : Range) : Type 0 where
-  pub from : a ≤ R .low
-  pub ordered : R .low ≤ R .high
-  pub to : R .high ≤ tasks job
-  pub before : (i : ℕ) → a ≤ i → i < R .low → T (not (fitsAt job p a i))
-  pub fitting : T (fitsAt job p a (R .high))
-  pub narrow : n * R .high ≤ n * R .low + tasks job
+-- A power of two is halved as often as it was doubled.
+pub levels-power : (k : ℕ) → levels (2 ^ k) ≡ k
+unfolding levels digits digitsWithin
+levels-power zero = refl
+levels-power (suc k) =
+    let e : 2 ^ suc k / 2 ≡ 2 ^ k = omega arith in
+    let below : 2 ^ k < 2 ^ suc k = omega (arith, pow-pos k) in
+    ap digits e ∙ (let d : digits (2 ^ k) ≡ suc k = omega (arith, digits-least (2 ^ k) k (omega arith), digits-below (2 ^ k) (suc k) below) in d)
 
-module _ {job : Job} (ok : Proper job) (p a : ℕ) where
-  pub ranged-start : a ≤ tasks job → T (fitsAt job p a (tasks job)) → Ranged job p a 1 (rangeAfter job p a 0)
-  unfolding rangeAfter
-  ranged-start h t =
+-- The test says what its name does.
+pub power-of-two : (n : ℕ) → T (powerOfTwo n) ↔ ((k : ℕ) × (n ≡ 2 ^ k))
+unfolding powerOfTwo
+power-of-two n = (
+  λ t. (levels n, sym (eqb→eq (2 ^ levels n) n t)),
+  λ (k, e). subst (λ (m : ℕ). T (powerOfTwo m)) (sym e) (again k),
+)
+  where
+    again : (k : ℕ) → T (eqb (2 ^ levels (2 ^ k)) (2 ^ k))
+    again k = subst (λ (l : ℕ). T (eqb (2 ^ l) (2 ^ k))) (sym (levels-power k)) (eqb-refl (2 ^ k))
+
+-- All speeds are equal exactly where the test says so.
+equal-each : (x : ℕ) (xs : List ℕ) → T (eachBetween x x xs) → (p : ℕ) → p < length xs → getD xs p 1 ≡ x
+equal-each x xs t p h = omega (arith, same-default xs p 1 x h, each-at x x x xs (omega arith) (omega arith) t p)
+
+each-equal : (x : ℕ) (xs : List ℕ) → ((p : ℕ) → p < length xs → getD xs p 1 ≡ x) → T (eachBetween x x xs)
+each-equal x xs h = each-of x x x xs (λ i. omega (arith, is i)) (λ i. omega (arith, is i))
+  where
+    is : (i : ℕ) → getD xs i x ≡ x
+    is i =
+        elim (decLe (length xs) i) [
+          | yes k ↦ List·getD-eq-default xs x {n = i} k
+          | no k ↦ same-default xs i x 1 (omega arith) ∙ h i (omega arith)
+        ]
+
+all-equal : (es : List ℕ) → T (allEqual es) ↔ ((p : ℕ) → p < length es → getD es p 1 ≡ getD es 0 1)
+unfolding allEqual
+all-equal [] = (λ t p h. absurd (let z : ⊥ = omega arith in z), λ h. tt)
+all-equal (x ∷ xs) = (λ t p h. go t p h, λ h. each-equal x xs (λ p l. h (suc p) (omega arith)))
+  where
+    go : T (eachBetween x x xs) → (p : ℕ) → p < suc (length xs) → getD (x ∷ xs) p 1 ≡ x
+    go t zero h = refl
+    go t (suc p) h = equal-each x xs t p (omega arith)
+
+-- Refusal 14 is given exactly for a row that cannot be halved.
+pub row-test : (es : List ℕ) → T ((rowTest es) .passes) ↔ Halvable es
+unfolding rowTest
+row-test es = (
+  λ t.
+      let k = (power-of-two (length es)) .0 (and-right (allEqual es) (powerOfTwo (length es)) t) in
+      record { equal = all-equal es .0 (and-left (allEqual es) (powerOfTwo (length es)) t); doublings = k .0; power = k .1 },
+  λ r. and-both (allEqual es) (powerOfTwo (length es)) (all-equal es .1 (r .equal)) ((power-of-two (length es)) .1 (r .doublings, r .power)),
+)
+
+doubled : (k : ℕ) → 2 ^ suc k ≡ 2 ^ k + 2 ^ k
+doubled k = omega arith
+
+-- What is at most half of u and half of h, and of that again: with n processors, then with twice as many.
+half-of : (n w v u h : ℕ) → n * w + h ≤ v + h * n → 2 * v ≤ u + h → (n + n) * w + h ≤ u + h * (n + n)
+half-of n w v u h x y = omega arith
+
+module _ (job : Job) where
+  -- The split of a part: it lies in the part, and either side weighs at most half of the part and half the heaviest.
+  split-is : (a b : ℕ) → SmallestLeast (λ d. uneven job a b (a + d)) (b - a) (smallestLeast (λ d. uneven job a b (a + d)) (b - a))
+  split-is a b = smallest-least-is (λ d. uneven job a b (a + d)) (b - a)
+
+  pub split-from : (a b : ℕ) → a ≤ split job a b
+  unfolding split
+  split-from a b = omega arith
+
+  pub split-to : (a b : ℕ) → a ≤ b → split job a b ≤ b
+  unfolding split
+  split-to a b h = omega (arith, split-is a b .to)
+
+  pub split-close : (a b : ℕ) → a ≤ b → uneven job a b (split job a b) ≤ heaviest job
+  unfolding split uneven
+  split-close a b h =
+      let d = distance (2 * partWeight job a (split job a b)) (partWeight job a b) in
+      let c : 2 * d ≤ 2 * heaviest job =
+      half-step (λ i. 2 * partWeight job a (a + i)) (2 * heaviest job) (partWeight job a b) d
+      (λ i.
+      subst (λ (n : ℕ). 2 * partWeight job a n ≤ 2 * partWeight job a (a + i) + 2 * heaviest job) (let e : suc (a + i) ≡ a + suc i = omega arith in e)
+      (omega (arith, weight-step job a (a + i) (omega arith))))
+      (subst (λ (n : ℕ). 2 * partWeight job a n ≤ partWeight job a b) (let e : a ≡ a + 0 = omega arith in e) (omega (arith, weight-empty job a)))
+      (b - a)
+      (subst (λ (n : ℕ). partWeight job a b ≤ 2 * partWeight job a n) (let e : b ≡ a + (b - a) = omega arith in e) (omega arith))
+      (split-is a b .least)
+      in
+      omega arith
+
+  pub left-light : (a b : ℕ) → a ≤ b → 2 * partWeight job a (split job a b) ≤ partWeight job a b + heaviest job
+  unfolding uneven
+  left-light a b h = omega (arith, split-close a b h)
+
+  pub right-light : (a b : ℕ) → a ≤ b → 2 * partWeight job (split job a b) b ≤ partWeight job a b + heaviest job
+  unfolding uneven
+  right-light a b h = omega (arith, split-close a b h, weight-split job a (split job a b) b (split-from a b) (split-to a b h))
+
+  pub length-splits : (k a b : ℕ) → suc (length (splits job k a b)) ≡ 2 ^ k
+  unfolding splits
+  length-splits zero a b = refl
+  length-splits (suc k) a b =
+      let i = split job a b in
+      omega (arith, length-append (splits job k a i) (i ∷ splits job k i b), length-splits k a i, length-splits k i b)
+
+  -- The separators of n processors from a to b, and the weights of their parts.
+  pub record Halves (n a b : ℕ) (s : List ℕ) : Type 0 where
+    pub count : length s ≡ suc n
+    pub first : at s 0 ≡ a
+    pub end : at s n ≡ b
+    pub grows : (p : ℕ) → p < n → at s p ≤ at s (suc p)
+    pub light : (p : ℕ) → p < n → n * partWeight job (at s p) (at s (suc p)) + heaviest job ≤ partWeight job a b + heaviest job * n
+
+  one-half : (a b : ℕ) → a ≤ b → Halves 1 a b (a ∷ b ∷ [])
+  one-half a b h =
       record {
-        from = omega arith;
-        ordered = h;
-        to = omega arith;
-        before = λ i k l. absurd (let z : ⊥ = omega arith in z);
-        fitting = t;
-        narrow = omega arith;
+        count = refl;
+        first = refl;
+        end = refl;
+        grows = λ p l. rw (let e : p ≡ 0 = omega arith in e) h;
+        light = λ p l. rw (let e : p ≡ 0 = omega arith in e) (omega arith);
       }
 
-  -- A trial at the middle keeps all that, and halves the width.
-  pub ranged-turn : {n : ℕ} {R : Range} → Ranged job p a n R → Ranged job p a (2 * n) (nextRange job p a R)
-  unfolding nextRange
-  ranged-turn {n} {R} w = go (fitsAt job p a m) refl
+  -- Two halves side by side, with the separator i between them.
+  module _ (n i : ℕ) (xs ys : List ℕ) (e : length xs ≡ n) where
+    at-right : (q : ℕ) → at (xs ++ i ∷ ys) (n + q) ≡ at (i ∷ ys) q
+    at-right q = ap (λ (m : ℕ). at (xs ++ i ∷ ys) (m + q)) (sym e) ∙ getD-append-add xs (i ∷ ys) q 0
+
+    at-left : (p : ℕ) → p ≤ n → at (xs ++ i ∷ ys) p ≡ at (xs ++ i ∷ []) p
+    at-left p l =
+        elim (decLe (suc p) n) [
+          | yes m ↦ List·getD-append xs (i ∷ ys) 0 p (omega arith) ∙ sym (List·getD-append xs (i ∷ []) 0 p (omega arith))
+          | no m ↦
+              let z : p ≡ length xs + 0 = omega arith in
+              ap (at (xs ++ i ∷ ys)) z ∙ getD-append-add xs (i ∷ ys) 0 0 ∙ sym (ap (at (xs ++ i ∷ [])) z ∙ getD-append-add xs (i ∷ []) 0 0)
+        ]
+
+    -- What holds of every part on the left and on the right holds of every part.
+    each : (Q : ℕ → ℕ → Type 0) → ((p : ℕ) → p < n → Q (at (xs ++ i ∷ []) p) (at (xs ++ i ∷ []) (suc p)))
+        → ((q : ℕ) → q < n → Q (at (i ∷ ys) q) (at (i ∷ ys) (suc q))) → (p : ℕ) → p < n + n → Q (at (xs ++ i ∷ ys) p) (at (xs ++ i ∷ ys) (suc p))
+    each Q f g p m =
+        elim (decLe (suc p) n) [
+          | yes k ↦ rw (at-left p (omega arith), at-left (suc p) k) (f p k)
+          | no k ↦
+              let q = p - n in
+              let y : p ≡ n + q = omega arith in
+              let z : suc p ≡ n + suc q = omega arith in
+              rw (ap (at (xs ++ i ∷ ys)) y ∙ at-right q, ap (at (xs ++ i ∷ ys)) z ∙ at-right (suc q)) (g q (omega arith))
+        ]
+
+    two-halves : {a b : ℕ} → 2 * partWeight job a i ≤ partWeight job a b + heaviest job → 2 * partWeight job i b ≤ partWeight job a b + heaviest job
+        → Halves n a i (xs ++ i ∷ []) → Halves n i b (i ∷ ys) → Halves (n + n) a b (xs ++ i ∷ ys)
+    two-halves {a} {b} x y l r =
+        record {
+          count = omega (arith, length-append xs (i ∷ ys), r .count);
+          first = at-left 0 (omega arith) ∙ l .first;
+          end = at-right n ∙ r .end;
+          grows = each (λ c d. c ≤ d) (l .grows) (r .grows);
+          light =
+              each (λ c d. (n + n) * partWeight job c d + heaviest job ≤ partWeight job a b + heaviest job * (n + n))
+              (λ p m. half-of n (partWeight job (at (xs ++ i ∷ []) p) (at (xs ++ i ∷ []) (suc p))) (partWeight job a i) (partWeight job a b) (heaviest job) (l .light p m) x)
+              (λ q m. half-of n (partWeight job (at (i ∷ ys) q) (at (i ∷ ys) (suc q))) (partWeight job i b) (partWeight job a b) (heaviest job) (r .light q m) y);
+        }
+
+  -- A row of 2 ^ k processors.
+  pub halves : (k a b : ℕ) → a ≤ b → Halves (2 ^ k) a b (a ∷ (splits job k a b ++ (b ∷ [])))
+  unfolding splits
+  halves zero a b h = one-half a b h
+  halves (suc k) a b h =
+      let i = split job a b in
+      let xs = a ∷ splits job k a i in
+      let ys = splits job k i b ++ (b ∷ []) in
+      subst (λ (n : ℕ). Halves n a b (a ∷ (splits job k a i ++ i ∷ splits job k i b ++ (b ∷ [])))) (sym (doubled k))
+      (subst (λ (s : List ℕ). Halves (2 ^ k + 2 ^ k) a b (a ∷ s)) (sym (append-assoc (splits job k a i) (i ∷ splits job k i b) (b ∷ [])))
+      (two-halves (2 ^ k) i xs ys (length-splits k a i) (left-light a b h) (right-light a b h) (halves k a i (split-from a b)) (halves k i b (split-to a b h))))
+
+module _ (job : Job) (row : Halvable (job .speeds)) where
+  -- It is halved as often as its number of processors was doubled.
+  processors-power : 2 ^ levels (processors job) ≡ processors job
+  processors-power = ap (λ (n : ℕ). 2 ^ levels n) (row .power) ∙ ap (λ (n : ℕ). 2 ^ n) (levels-power (row .doublings)) ∙ sym (row .power)
+
+  halved : Halves job (processors job) 0 (tasks job) (halving job)
+  unfolding halving
+  halved = subst (λ (n : ℕ). Halves job n 0 (tasks job) (halving job)) processors-power (halves job (levels (processors job)) 0 (tasks job) (omega arith))
+
+  -- Halving the row gives a partition.
+  pub halving-partition : Partition job (halving job)
+  halving-partition = record { count = halved .count; first = halved .first; grows = halved .grows; end = halved .end }
+
+  same-speed : (p : ℕ) → p < processors job → speedOf job p ≡ speedOf job 0
+  unfolding speedOf
+  same-speed p h = row .equal p h
+
+  -- P times every load is at most Wtot + heaviest × (P − 1).
+  halving-light : (p : ℕ) → p < processors job
+      → processors job * partLoad job (at (halving job) p) (at (halving job) (suc p)) ≤ totalWeight job + heaviest job * last job
+  halving-light p h =
+      let a = at (halving job) p in
+      let b = at (halving job) (suc p) in
+      let n = processors job in
+      omega (arith, mul-le-mul-left n (load-le job a b), halved .light p h, weight-all job, less (heaviest job) n (omega arith))
     where
-      m : ℕ
-      m = (R .low + R .high) / 2
+      less : (x n : ℕ) → 1 ≤ n → x * n ≡ x * (n - 1) + x
+      less x n k = let e : n ≡ (n - 1) + 1 = omega arith in ap (λ (m : ℕ). x * m) e ∙ (let f : x * ((n - 1) + 1) ≡ x * (n - 1) + x = omega arith in f)
 
-      half : n * (2 * m) ≤ n * (R .low + R .high)
-      half = mul-le-mul-left n (omega arith)
+  module _ (ok : Proper job) where
+    bottleneck-speed : (bottleneck job (halving job)) .speed ≡ speedOf job 0
+    unfolding boundAt partBound
+    bottleneck-speed = bottleneck-cases ok (λ B. B .speed ≡ speedOf job 0) (halving job) (λ p h. same-speed p h)
 
-      more : n * (R .low + R .high) ≤ n * (2 * suc m)
-      more = mul-le-mul-left n (omega arith)
+    -- So is P times the bottleneck's load, which is the greatest of all.
+    pub halving-bound : processors job * (bottleneck job (halving job)) .load ≤ totalWeight job + heaviest job * last job
+    unfolding boundAt partBound
+    halving-bound =
+        bottleneck-cases ok (λ B. processors job * B .load ≤ totalWeight job + heaviest job * last job) (halving job) halving-light
 
-      go : (t : Bool) → fitsAt job p a m ≡ t
-          → Ranged job p a (2 * n) (elim t [ true ↦ record { low = R .low; high = m } | false ↦ record { low = suc m; high = R .high } ])
-      go true e =
-          record {
-            from = w .from;
-            ordered = omega (arith, w .ordered);
-            to = omega (arith, w .ordered, w .to);
-            before = w .before;
-            fitting = T-of e;
-            narrow = omega (arith, half, w .narrow);
-          }
-      go false e =
-          record {
-            from = omega (arith, w .from, w .ordered);
-            ordered =
-                elim (decLe (suc m) (R .high)) [
-                  | yes x ↦ x
-                  | no x ↦
-                      absurd
-                      (T-not (fitsAt job p a m) (T-not-of e)
-                      (fits-at-raise ok p a {i = R .high} {j = m} (omega (arith, w .from, w .ordered)) (omega arith) (w .fitting)))
-                ];
-            to = w .to;
-            before = λ i h l. fails-at-lower ok p a h (omega arith) (T-not-of e);
-            fitting = w .fitting;
-            narrow = omega (arith, more, w .narrow);
-          }
+    pub halving-greatest : (p : ℕ) → p < processors job
+        → partLoad job (at (halving job) p) (at (halving job) (suc p)) ≤ (bottleneck job (halving job)) .load
+    unfolding boundAt partBound
+    halving-greatest p h =
+        let c = open-le (part-le-bottleneck ok (halving job) p h) in
+        le-of-mul-le-mul-right {k = speedOf job 0}
+        (subst (λ (e : ℕ). partLoad job (at (halving job) p) (at (halving job) (suc p)) * speedOf job 0 ≤ (bottleneck job (halving job)) .load * e) (same-speed p h)
+        (subst (λ (e : ℕ). partLoad job (at (halving job) p) (at (halving job) (suc p)) * e ≤ (bottleneck job (halving job)) .load * speedOf job p) bottleneck-speed c))
+        (ok .positive 0)
 
-  pub ranged-after : a ≤ tasks job → T (fitsAt job p a (tasks job)) → (k : ℕ) → Ranged job p a (2 ^ k) (rangeAfter job p a k)
-  unfolding rangeAfter
-  ranged-after h t zero = ranged-start h t
-  ranged-after h t (suc k) =
-      subst (λ (n : ℕ). Ranged job p a n (nextRange job p a (rangeAfter job p a k))) (let e : 2 * 2 ^ k ≡ 2 ^ suc k = omega arith in e)
-      (ranged-turn (ranged-after h t k))
-
-  -- A range of more than one index is no narrower than n allows.
-  pub ranged-apart : {n : ℕ} {R : Range} → Ranged job p a n R → T (not (single R)) → (R .low < R .high) × (n ≤ tasks job)
-  unfolding single
-  ranged-apart {n} {R} w t = (apart, omega (arith, mul-le-mul-left n apart, w .narrow))
-    where
-      apart : R .low < R .high
-      apart =
-          elim (decLe (suc (R .low)) (R .high)) [
-            | yes x ↦ x
-            | no x ↦
-                absurd
-                (T-not (eqb (R .low) (R .high)) t
-                (T-of (eq-eqb (R .low) (R .high) (let e : R .low ≡ R .high = omega (arith, w .ordered) in e))))
-          ]
-
-  -- A range of one index has the smallest that fits.
-  pub ranged-found : {n : ℕ} {R : Range} → Ranged job p a n R → R .low ≡ R .high → R .low ≡ firstFit job p a
-  ranged-found {n} {R} w e = go (firstFit job p a) (first-fit-is job p a)
-    where
-      here : T (fitsAt job p a (R .low))
-      here = subst (λ (i : ℕ). T (fitsAt job p a i)) (sym e) (w .fitting)
-
-      go : (j : ℕ) → Smallest (fitsAt job p a) a (tasks job - a) j → R .low ≡ j
-      go j s =
-          elim (decLe (suc (R .low)) j) [
-            | yes x ↦ absurd (T-not (fitsAt job p a (R .low)) (T-not-of (s .before (R .low) (w .from) x)) here)
-            | no x ↦ elim (decLe (suc j) (R .low)) [ yes y ↦ absurd (sooner y) | no y ↦ omega arith ]
-          ]
-        where
-          sooner : suc j ≤ R .low → ⊥
-          sooner y =
-              elim (s .found) [
-                | inl z ↦ omega (arith, w .from, w .ordered, w .to)
-                | inr z ↦ T-not (fitsAt job p a j) (w .before j (s .from) y) (T-of z)
-              ]
-
-module _ {job : Job} (can : Plannable job) (p : ℕ) (l : p ≤ last job) (c : Comes job p) where
-  pub ranged-at : (k : ℕ) → Ranged job p (startOn job p) (2 ^ k) (rangeAfter job p (startOn job p) k)
-  ranged-at k = ranged-after (can .proper) p (startOn job p) (start-to job p) (rest-fits can p l c) k
-
-  -- Trial k + 1 is made only where 2ᵏ is at most N, so k is below digits(N).
-  pub unsettled-below : (k : ℕ) → T (not (settled job p k)) → k < digits (tasks job)
-  unfolding settled
-  unsettled-below k t =
-      digits-least (tasks job) k (ranged-apart (can .proper) p (startOn job p) (ranged-at k) t .1)
-
-  -- The trials of a processor end, within digits(N),
-  pub trials-end : (k : ℕ) × (k ≤ digits (tasks job)) × T (isFirst (settled job p) k)
-  trials-end =
-      first-exists (settled job p) (digits (tasks job))
-      (λ h.
-      let x : digits (tasks job) < digits (tasks job) = unsettled-below (digits (tasks job)) (h (digits (tasks job)) (omega arith)) in
-      omega arith)
-
-  pub trials-within : (k : ℕ) → T (isFirst (settled job p) k) → k ≤ digits (tasks job)
-  trials-within zero t = omega arith
-  trials-within (suc k) t = unsettled-below k (first-fails (settled job p) (suc k) t k (omega arith))
-
-  pub trials-first : T (isFirst (settled job p) (nicolTrials job p))
-  unfolding nicolTrials
-  trials-first =
-      subst (λ (k : ℕ). T (isFirst (settled job p) k)) (sym (smallest-first (settled job p) (digits (tasks job)) (trials-end .0) (trials-end .1) (trials-end .2)))
-      (trials-end .2)
-
-  -- with the smallest index that fits.
-  pub settled-found : (k : ℕ) → T (settled job p k) → (rangeAfter job p (startOn job p) k) .low ≡ firstFit job p (startOn job p)
-  unfolding settled single
-  settled-found k t =
-      let R : Range = rangeAfter job p (startOn job p) k in
-      ranged-found (can .proper) p (startOn job p) (ranged-at k) (eqb→eq (R .low) (R .high) t)
-
--- The trials of several processors together are one number,
-pub trials-unique : {job : Job} {n c d : ℕ} → TrialsTo job n c → TrialsTo job n d → c ≡ d
-trials-unique {job} {n} x y =
-    x .counted
-    ∙ sum-same-below n (λ p h. first-unique (settled job p) (x .trials p) (y .trials p) (x .each p h) (y .each p h))
-    ∙ sym (y .counted)
-
-module _ {job : Job} (can : Plannable job) where
-  -- within the allowance,
-  pub trials-allowed : (n c : ℕ) → n ≤ last job → ((p : ℕ) → p < n → Comes job p) → TrialsTo job n c → c ≤ allowance Nicol job
-  unfolding allowance
-  trials-allowed n c h comes t =
-      omega (
-        arith,
-        t .counted,
-        sum-below (t .trials) (suc (digits (tasks job))) n
-            (λ p l. let x = trials-within can p (omega arith) (comes p l) (t .trials p) (t .each p l) in omega (arith, x)),
-        mul-le-mul-right (digits (tasks job)) h,
-      )
-
-  -- and that of the definition.
-  pub trials-are : (n : ℕ) → n ≤ last job → ((p : ℕ) → p < n → Comes job p) → TrialsTo job n (sumTo (nicolTrials job) n)
-  trials-are n h comes =
-      record { trials = nicolTrials job; each = λ p l. trials-first can p (omega arith) (comes p l); counted = refl }
-
--- The search comes as far as the first empty part that fits, and to the last processor where there is none.
-first-comes : {job : Job} {p : ℕ} → T (isFirst (emptyFits job) p) → Comes job p
-first-comes {job} {p} t = record { none = first-fails (emptyFits job) p t }
-
-none-comes : {job : Job} {n : ℕ} → T (all (λ p. not (emptyFits job p)) n) → Comes job n
-none-comes {job} {n} t = record { none = all-at (λ p. not (emptyFits job p)) n t }
-
--- The count of the search is one number.
-pub nicol-counts : {job : Job} {n k : ℕ} {B C : Bound} → NicolEnds job n B → NicolEnds job k C → n ≡ k
-nicol-counts {job} {n} {k} (early p l t c e) (early q m u d f) =
-    trials-unique c (subst (λ (i : ℕ). TrialsTo job (suc i) k) (first-unique (emptyFits job) q p u t) d)
-nicol-counts {job} (early p l t c e) (whole u d f) =
-    absurd (T-not (emptyFits job p) ((none-comes u) .none p l) (first-holds (emptyFits job) p t))
-nicol-counts {job} (whole t c e) (early p l u d f) =
-    absurd (T-not (emptyFits job p) ((none-comes t) .none p l) (first-holds (emptyFits job) p u))
-nicol-counts (whole t c e) (whole u d f) = trials-unique c d
-
-module _ {job : Job} (can : Plannable job) where
-  -- It ends at the least bound that fits,
-  pub nicol-least : {n : ℕ} {B : Bound} → NicolEnds job n B → Least job B
-  nicol-least (early p l t c e) = subst (Least job) (sym e) (empty-least (can .proper) p (first-holds (emptyFits job) p t))
-  nicol-least (whole t c e) = subst (Least job) (sym e) (candidates-least can (none-comes t))
-
-  -- within its allowance,
-  pub nicol-allowed : {n : ℕ} {B : Bound} → NicolEnds job n B → n ≤ allowance Nicol job
-  nicol-allowed {n} (early p l t c e) = trials-allowed can (suc p) n l (λ q h. comes-sooner (omega arith) (first-comes t)) c
-  nicol-allowed {n} (whole t c e) = trials-allowed can (last job) n (omega arith) (λ q h. comes-sooner (omega arith) (none-comes t)) c
-
-  -- with the count and the bottleneck of the definitions.
-  pub nicol-is : NicolEnds job (sumTo (nicolTrials job) (cond (ltb (nicolStop job) (last job)) (suc (nicolStop job)) (last job)))
-      (pick (ltb (nicolStop job) (last job)) nought (leastCandidate job))
-  unfolding nicolStop
-  nicol-is = go (nicolStop job) (smallest-is (emptyFits job) 0 (last job))
-    where
-      go : (r : ℕ) → Smallest (emptyFits job) 0 (last job) r
-          → NicolEnds job (sumTo (nicolTrials job) (cond (ltb r (last job)) (suc r) (last job))) (pick (ltb r (last job)) nought (leastCandidate job))
-      go r s = elim (decLe (suc r) (last job)) [ yes h ↦ ends-early h | no h ↦ ends-whole h ]
-        where
-          comes : Comes job r
-          comes = record { none = λ q l. T-not-of (s .before q (omega arith) l) }
-
-          ends-early : r < last job
-              → NicolEnds job (sumTo (nicolTrials job) (cond (ltb r (last job)) (suc r) (last job))) (pick (ltb r (last job)) nought (leastCandidate job))
-          ends-early h =
-              subst
-              (λ (t : Bool). NicolEnds job (sumTo (nicolTrials job) (cond t (suc r) (last job))) (pick t nought (leastCandidate job)))
-              (sym (lt-ltb r (last job) h))
-              (early r h (first-of (emptyFits job) r here (comes .none)) (trials-are can (suc r) h (λ q l. comes-sooner (omega arith) comes)) refl)
-            where
-              here : T (emptyFits job r)
-              here = elim (s .found) [ inl e ↦ absurd (let z : ⊥ = omega (arith, e, h) in z) | inr e ↦ T-of e ]
-
-          ends-whole : (suc r ≤ last job → ⊥)
-              → NicolEnds job (sumTo (nicolTrials job) (cond (ltb r (last job)) (suc r) (last job))) (pick (ltb r (last job)) nought (leastCandidate job))
-          ends-whole h =
-              subst
-              (λ (t : Bool). NicolEnds job (sumTo (nicolTrials job) (cond t (suc r) (last job))) (pick t nought (leastCandidate job)))
-              (sym (le-ltb r (last job) (omega arith)))
-              (whole (all-of (λ p. not (emptyFits job p)) (last job) (λ p l. comes .none p (omega (arith, l, h))))
-              (trials-are can (last job) (omega arith) (λ q l. comes-sooner (omega (arith, l, h)) comes)) refl)
+  -- One processor takes all tasks.
+  pub halving-one : processors job ≡ 1 → halving job ≡ 0 ∷ tasks job ∷ []
+  unfolding halving levels digits digitsWithin splits
+  halving-one e = ap (λ (n : ℕ). 0 ∷ (splits job (levels n) 0 (tasks job) ++ (tasks job ∷ []))) e

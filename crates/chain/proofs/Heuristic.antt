@@ -47,7 +47,7 @@ module _ (f : ℕ → ℕ) where
       wrong z = omega (arith, before-middle (f q) (f r) u (z .0) (y .least r (x .to)), z .1)
 
   -- Where f goes up by steps of at most g from below the target to above it, what is at most every distance is at most half of g.
-  half-step : (g t d : ℕ) → ((i : ℕ) → f (suc i) ≤ f i + g) → f 0 ≤ t → (m : ℕ) → t ≤ f m
+  pub half-step : (g t d : ℕ) → ((i : ℕ) → f (suc i) ≤ f i + g) → f 0 ≤ t → (m : ℕ) → t ≤ f m
       → ((k : ℕ) → k ≤ m → d ≤ distance (f k) t) → 2 * d ≤ g
   half-step g t d step h zero l x = omega (arith, x 0 (omega arith))
   half-step g t d step h (suc m) l x =

@@ -9,6 +9,7 @@ pub mod Digits
 pub mod Enumeration
 pub mod Extremes
 pub mod Grade
+pub mod NicolTrials
 pub mod Halving
 pub mod Heuristic
 pub mod Ideal

@@ -1,22 +1,23 @@
--- The worked jobs of the scope, section 11, and more beside them, hold of the definitions: the checker computes the whole table.
+-- The worked jobs of the scope, sections 11 and 16, and more beside them, hold of the definitions: the checker computes the whole table.
 -- Assumes nothing.
 use mathlib.Core.List.{_++_}
 use lib.Dec.{T}
 use Rattle.bound.specs.Order.{le, greater, lesser, leastTo, roundedUp}
 use Rattle.chain.specs.Limits.{maxTasks, maxWeight, maxProcessors, maxSpeed, maxBoundLoad, maxBoundSpeed}
-use Rattle.chain.specs.Lists.{sum, greatestOf, leastOf, tabulate, sumTo, all, greatestFrom, smallestFrom, smallestLeast, digitsWithin, digits}
+use Rattle.chain.specs.Lists.{sum, greatestOf, leastOf, tabulate, sumTo, all, greatestFrom, smallestFrom, smallestLeast, digitsWithin, digits, levels, powerOfTwo}
 use Rattle.chain.specs.Job.{speedOf, partOf, partWeight, partLoad, slowestOf, partBound, within, offer, boundAt, bottleneckTo, bottleneck, ideal}
 use Rattle.chain.specs.Probe.{reach, separator, walk, fits, bid, nextBid, probe}
 use Rattle.chain.specs.Heuristic.{miss, nearest, heuristic}
+use Rattle.chain.specs.Halving.{uneven, split, splits, halving}
 use Rattle.chain.specs.Dynamic.{startOf, candidate, crossingOf, lesserAt, tableValue, crossing, movesTo, moves}
 use Rattle.chain.specs.Bidding.{bidding}
 use Rattle.chain.specs.Bisection.{firstEnds, nextEnds, ends, meet}
 use Rattle.chain.specs.Nicol.{fitsAt, firstFit, startOn, candidateOn, leastCandidate, emptyFits, nextRange, rangeAfter, single, settled}
 use Rattle.chain.specs.Plan.{spread, onward, partitions, leastBound, leastBottleneck, planOf, difference, allowance, biddingFailures, bisectionRounds, nicolTrials, nicolStop, countBy, foundBy, imbalance}
-use Rattle.chain.specs.Refusal.{eachBetween, methodTest, speedsTest, weightsTest, processorsTest, tasksTest, lengthTest, boundTest, isPartition, partitionTest, separatorsOf, planLengthTest, joined, joinedTest, trueAt, trueTest, firstRefusal, jobTests, planTests, callTests, refusal}
+use Rattle.chain.specs.Refusal.{eachBetween, methodTest, speedsTest, weightsTest, processorsTest, tasksTest, allEqual, rowTest, lengthTest, boundTest, isPartition, partitionTest, separatorsOf, planLengthTest, joined, joinedTest, trueAt, trueTest, firstRefusal, jobTests, planTests, callTests, refusal}
 use Rattle.chain.specs.Grade.{every, unbeaten}
-use Rattle.chain.specs.Marked.{sameList, samePair, figuresAre, walksAre, rowAt, isFailing, isFitting, holds, everyHolds, marked, worked}
+use Rattle.chain.specs.Marked.{sameList, samePair, figuresAre, walksAre, rowAt, isFailing, isFitting, holds, everyHolds, marked, worked, rows}
 
-pub marked-jobs : T (everyHolds (marked ++ worked))
-unfolding le greater lesser leastTo roundedUp maxTasks maxWeight maxProcessors maxSpeed maxBoundLoad maxBoundSpeed sum greatestOf leastOf tabulate sumTo all greatestFrom smallestFrom smallestLeast digitsWithin digits speedOf partOf partWeight partLoad slowestOf partBound within offer boundAt bottleneckTo bottleneck ideal reach separator walk fits bid nextBid probe miss nearest heuristic startOf candidate crossingOf lesserAt tableValue crossing movesTo moves bidding firstEnds nextEnds ends meet fitsAt firstFit startOn candidateOn leastCandidate emptyFits nextRange rangeAfter single settled spread onward partitions leastBound leastBottleneck planOf difference allowance biddingFailures bisectionRounds nicolTrials nicolStop countBy foundBy imbalance eachBetween methodTest speedsTest weightsTest processorsTest tasksTest lengthTest boundTest isPartition partitionTest separatorsOf planLengthTest joined joinedTest trueAt trueTest firstRefusal jobTests planTests callTests refusal every unbeaten sameList samePair figuresAre walksAre rowAt isFailing isFitting holds everyHolds marked worked
+pub marked-jobs : T (everyHolds (marked ++ worked ++ rows))
+unfolding le greater lesser leastTo roundedUp maxTasks maxWeight maxProcessors maxSpeed maxBoundLoad maxBoundSpeed sum greatestOf leastOf tabulate sumTo all greatestFrom smallestFrom smallestLeast digitsWithin digits levels powerOfTwo speedOf partOf partWeight partLoad slowestOf partBound within offer boundAt bottleneckTo bottleneck ideal reach separator walk fits bid nextBid probe miss nearest heuristic uneven split splits halving startOf candidate crossingOf lesserAt tableValue crossing movesTo moves bidding firstEnds nextEnds ends meet fitsAt firstFit startOn candidateOn leastCandidate emptyFits nextRange rangeAfter single settled spread onward partitions leastBound leastBottleneck planOf difference allowance biddingFailures bisectionRounds nicolTrials nicolStop countBy foundBy imbalance eachBetween methodTest speedsTest weightsTest processorsTest tasksTest allEqual rowTest lengthTest boundTest isPartition partitionTest separatorsOf planLengthTest joined joinedTest trueAt trueTest firstRefusal jobTests planTests callTests refusal every unbeaten sameList samePair figuresAre walksAre rowAt isFailing isFitting holds everyHolds marked worked rows
 marked-jobs = tt

@@ -13,7 +13,7 @@ use lib.ListN.{length, getD}
 use Rattle.chain.specs.Limits.{maxTasks, maxWeight, maxProcessors, maxSpeed}
 use Rattle.chain.specs.Lists.{all}
 use Rattle.chain.specs.Job.{Job, tasks, processors, speedOf, partLoad, Valid, at, Partition}
-use Rattle.chain.specs.Refusal.{Test, between, eachBetween, methodTest, speedsTest, weightsTest, processorsTest, tasksTest, lengthTest, boundTest, isPartition, partitionTest, PlanRecords, separatorsOf, planLengthTest, joined, joinedTest, trueAt, trueTest, firstRefusal, FirstFailing, jobTests, Inputs, planTests, callTests, refusal}
+use Rattle.chain.specs.Refusal.{Test, between, eachBetween, methodTest, speedsTest, weightsTest, processorsTest, tasksTest, rowTest, lengthTest, boundTest, isPartition, partitionTest, PlanRecords, separatorsOf, planLengthTest, joined, joinedTest, trueAt, trueTest, firstRefusal, FirstFailing, jobTests, Inputs, planTests, callTests, refusal}
 use Rattle.chain.proofs.Tests.{T-of, and-left, and-right, and-both}
 use Rattle.chain.proofs.Indices.{all-at, all-of}
 
@@ -221,15 +221,16 @@ job-numbered job =
 
 -- The tests of a call have numbers above 0.
 pub call-numbered : (job : Job) (inputs : Inputs) → Numbered (callTests job inputs)
-unfolding callTests methodTest lengthTest boundTest planLengthTest partitionTest joinedTest trueTest
+unfolding callTests methodTest rowTest lengthTest boundTest planLengthTest partitionTest joinedTest trueTest
 call-numbered job inputs =
     numbered-append
     (numbered-append
     (numbered-append
     (numbered-append
     (numbered-append
+    (numbered-append
     (numbered-append (numbered-append (numbered-map methodTest (λ m. omega arith) (inputs .methods)) (job-numbered job))
-    (numbered-map (λ l. lengthTest (l .needed) (l .given)) (λ l. omega arith) (inputs .lists)))
+    (numbered-map rowTest (λ es. omega arith) (inputs .rows))) (numbered-map (λ l. lengthTest (l .needed) (l .given)) (λ l. omega arith) (inputs .lists)))
     (numbered-map boundTest (λ B. omega arith) (inputs .bounds))) (numbered-map planLengthTest (λ s. omega arith) (inputs .plans)))
     (numbered-map (partitionTest job) (λ s. omega arith) (inputs .divisions)))
     (numbered-map (joinedTest job) (λ s. omega arith) (inputs .plans))) (numbered-map (trueTest job) (λ s. omega arith) (inputs .plans))
@@ -240,7 +241,7 @@ plan-numbered job plan =
     numbered-cons (omega arith) (numbered-cons (omega arith) (numbered-cons (omega arith) numbered-nil))
 
 -- Every number of the list is in range exactly when every index reads one that is, the default included.
-each-at : (lo hi d : ℕ) (xs : List ℕ) → lo ≤ d → d ≤ hi → T (eachBetween lo hi xs) → (i : ℕ) → (lo ≤ getD xs i d) × (getD xs i d ≤ hi)
+pub each-at : (lo hi d : ℕ) (xs : List ℕ) → lo ≤ d → d ≤ hi → T (eachBetween lo hi xs) → (i : ℕ) → (lo ≤ getD xs i d) × (getD xs i d ≤ hi)
 unfolding eachBetween
 each-at lo hi d [] h k t i = (h, k)
 each-at lo hi d (x ∷ xs) h k t zero =
@@ -248,7 +249,7 @@ each-at lo hi d (x ∷ xs) h k t zero =
     (leb→le lo x (and-left (leb lo x) (leb x hi) u), leb→le x hi (and-right (leb lo x) (leb x hi) u))
 each-at lo hi d (x ∷ xs) h k t (suc i) = each-at lo hi d xs h k (and-right (between lo hi x) (eachBetween lo hi xs) t) i
 
-each-of : (lo hi d : ℕ) (xs : List ℕ) → ((i : ℕ) → lo ≤ getD xs i d) → ((i : ℕ) → getD xs i d ≤ hi) → T (eachBetween lo hi xs)
+pub each-of : (lo hi d : ℕ) (xs : List ℕ) → ((i : ℕ) → lo ≤ getD xs i d) → ((i : ℕ) → getD xs i d ≤ hi) → T (eachBetween lo hi xs)
 unfolding eachBetween
 each-of lo hi d [] h k = tt
 each-of lo hi d (x ∷ xs) h k =

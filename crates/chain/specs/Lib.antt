@@ -4,6 +4,7 @@ pub mod Lists
 pub mod Job
 pub mod Probe
 pub mod Heuristic
+pub mod Halving
 pub mod Dynamic
 pub mod Bidding
 pub mod Bisection

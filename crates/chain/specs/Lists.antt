@@ -1,5 +1,5 @@
 -- Sums, extremes and searches: the plain words that the other pages use.
-use Prim.Native.Nat.{ℕ, zero, suc, _+_, _-_, _/_}
+use Prim.Native.Nat.{ℕ, zero, suc, _+_, _-_, _/_, _^_}
 use mathlib.Core.Bool.{Bool, true, false, not, cond, _&&_}
 use mathlib.Core.List.{List, [], _∷_}
 use lib.Dec.{leb, eqb}
@@ -64,3 +64,11 @@ digitsWithin (suc fuel) n = elim (eqb n 0) [ true ↦ 0 | false ↦ suc (digitsW
 
 unfoldable pub digits : ℕ → ℕ
 digits n = digitsWithin n n
+
+-- How often n is halved, rounding down, until 1 is left.
+unfoldable pub levels : ℕ → ℕ
+levels n = digits (n / 2)
+
+-- Scope 16.1: "a power of two: 1, 2, 4 and so on"
+unfoldable pub powerOfTwo : ℕ → Bool
+powerOfTwo n = eqb (2 ^ levels n) n

@@ -1,21 +1,22 @@
--- The worked jobs of the scope, section 11, as one table, and what it means that a row holds.
-use Prim.Native.Nat.{ℕ, zero, suc}
+-- The worked jobs of the scope, sections 11 and 16, as one table, and what it means that a row holds.
+use Prim.Native.Nat.{ℕ, zero, suc, _+_, _*_}
 use mathlib.Core.Bool.{Bool, true, false, not, _&&_}
 use mathlib.Core.List.{List, [], _∷_}
 use lib.Dec.{eqb}
-use lib.ListN.{length}
+use lib.ListN.{length, replicate}
 use Rattle.bound.specs.declared.Bound.{Bound}
 use Rattle.bound.specs.Order.{over}
 use Rattle.chain.specs.declared.Method.{Method}
 use Rattle.chain.specs.declared.Method.the-variants.{Table, Bidding, Bisection, Nicol}
 use Rattle.chain.specs.declared.Outcome.{Outcome}
 use Rattle.chain.specs.declared.Outcome.the-variants.{Fits, Fails}
-use Rattle.chain.specs.Job.{Job, jobOf, processors, at, bottleneck}
+use Rattle.chain.specs.Job.{Job, jobOf, processors, last, totalWeight, heaviest, at, bottleneck}
 use Rattle.chain.specs.Probe.{walk, probe}
 use Rattle.chain.specs.Heuristic.{heuristic}
+use Rattle.chain.specs.Halving.{halving}
 use Rattle.chain.specs.Plan.{planOf, allowance, countBy, foundBy, imbalance}
 use Rattle.chain.specs.Grade.{unbeaten}
-use Rattle.chain.specs.Refusal.{isPartition, PlanRecords, firstRefusal, measureInputs, planTests, refusal}
+use Rattle.chain.specs.Refusal.{isPartition, PlanRecords, firstRefusal, measureInputs, halvingInputs, planTests, refusal}
 
 -- The same list; the same pair, load and speed.
 unfoldable pub sameList : List ℕ → List ℕ → Bool
@@ -84,6 +85,10 @@ pub data Row : Type 0 where
   -- a division that is best; one that is beaten
   best : Job → List ℕ → Row
   beaten : Job → List ℕ → Row
+  -- a halved row: separators and bottleneck; one whose P × load is all that is allowed; one that is refused, with a list of this length lent
+  halved : Job → List ℕ → Bound → Row
+  heavy : Job → Row
+  unhalved : Job → ℕ → ℕ → Row
   -- the records of a plan file, four fields each, and the number that their tests give
   filed : Job → List (List ℕ) → ℕ → Row
 
@@ -107,6 +112,9 @@ holds (measures job s B) = eqb (refusal job (measureInputs job s)) 0 && samePair
 holds (refused job s n) = eqb (refusal job (measureInputs job s)) n
 holds (best job s) = isPartition job s && unbeaten job s
 holds (beaten job s) = isPartition job s && not (unbeaten job s)
+holds (halved job s B) = eqb (refusal job (halvingInputs job (length s))) 0 && sameList (halving job) s && samePair (bottleneck job s) B
+holds (heavy job) = eqb (processors job * (bottleneck job (halving job)) .load) (totalWeight job + heaviest job * last job)
+holds (unhalved job lent n) = eqb (refusal job (halvingInputs job lent)) n
 holds (filed job rows n) = eqb (firstRefusal (planTests job (recordsIn job rows))) n
 
 unfoldable pub everyHolds : List Row → Bool
@@ -183,4 +191,46 @@ worked =
     ∷ best (jobOf (1 ∷ 2 ∷ []) (2 ∷ 2 ∷ [])) (0 ∷ 0 ∷ 2 ∷ [])
     ∷ measures (jobOf (1 ∷ 2 ∷ []) (2 ∷ 2 ∷ [])) (0 ∷ 0 ∷ 2 ∷ []) (over 4 2)
     ∷ planned (jobOf (1 ∷ 2 ∷ []) (2 ∷ 2 ∷ [])) (0 ∷ 1 ∷ 2 ∷ []) (over 2 1) 500 (four 1 2 1 2) (four 2 3 5 2)
+    ∷ []
+
+abbrev pub rowI : Job
+rowI = jobOf (3 ∷ 3 ∷ 3 ∷ 3 ∷ []) (5 ∷ 1 ∷ 1 ∷ 1 ∷ 4 ∷ 2 ∷ 2 ∷ 2 ∷ [])
+
+abbrev pub rowJ : Job
+rowJ = jobOf (1 ∷ 1 ∷ 1 ∷ 1 ∷ []) (1 ∷ 3 ∷ 1 ∷ 2 ∷ 3 ∷ [])
+
+abbrev pub rowL : Job
+rowL = jobOf (1 ∷ 1 ∷ 1 ∷ 1 ∷ []) (6 ∷ [])
+
+-- The rows F to L of the scope's section 16, with the quick plan of I and the plan of J. Scope 16.10: "Speeds 1 2 are refused with 14, and
+-- so are three machines of one speed, with no room for separators too." Beside them: six and 96 machines; 64, with room and without; a last
+-- speed that differs; 5, 6, 7 and 8 before 14.
+unfoldable pub rows : List Row
+rows =
+    halved (jobOf (7 ∷ []) (4 ∷ 3 ∷ 2 ∷ 6 ∷ 1 ∷ [])) (0 ∷ 5 ∷ []) (over 16 7)
+    ∷ halved (jobOf (1 ∷ 1 ∷ []) (1 ∷ 2 ∷ 1 ∷ [])) (0 ∷ 1 ∷ 3 ∷ []) (over 3 1)
+    ∷ halved (jobOf (1 ∷ 1 ∷ []) (2 ∷ 0 ∷ 0 ∷ 2 ∷ [])) (0 ∷ 1 ∷ 4 ∷ []) (over 2 1)
+    ∷ halved rowI (0 ∷ 1 ∷ 4 ∷ 5 ∷ 8 ∷ []) (over 6 3)
+    ∷ quick rowI (0 ∷ 1 ∷ 4 ∷ 6 ∷ 8 ∷ []) (over 6 3)
+    ∷ halved rowJ (0 ∷ 1 ∷ 3 ∷ 4 ∷ 5 ∷ []) (over 4 1)
+    ∷ beaten rowJ (0 ∷ 1 ∷ 3 ∷ 4 ∷ 5 ∷ [])
+    ∷ best rowJ (0 ∷ 1 ∷ 2 ∷ 4 ∷ 5 ∷ [])
+    ∷ measures rowJ (0 ∷ 1 ∷ 2 ∷ 4 ∷ 5 ∷ []) (over 3 1)
+    ∷ halved (jobOf (3 ∷ 3 ∷ []) []) (0 ∷ 0 ∷ 0 ∷ []) (over 0 3)
+    ∷ halved rowL (0 ∷ 0 ∷ 0 ∷ 0 ∷ 1 ∷ []) (over 6 1)
+    ∷ heavy rowL
+    ∷ unhalved (jobOf (1 ∷ 2 ∷ []) []) 3 14
+    ∷ unhalved (jobOf (1 ∷ 2 ∷ []) []) 0 14
+    ∷ unhalved (jobOf (1 ∷ 1 ∷ 1 ∷ []) []) 4 14
+    ∷ unhalved (jobOf (1 ∷ 1 ∷ 1 ∷ []) []) 0 14
+    ∷ unhalved (jobOf (1 ∷ 1 ∷ 1 ∷ 2 ∷ []) []) 5 14
+    ∷ unhalved (jobOf (replicate 6 1) []) 7 14
+    ∷ unhalved (jobOf (replicate 64 1) []) 65 0
+    ∷ unhalved (jobOf (replicate 64 1) []) 64 9
+    ∷ unhalved (jobOf (replicate 96 1) []) 97 14
+    ∷ unhalved (jobOf (replicate 97 1) []) 98 7
+    ∷ unhalved (jobOf [] []) 1 7
+    ∷ unhalved (jobOf (1 ∷ 2 ∷ []) (replicate 2049 0)) 3 8
+    ∷ unhalved (jobOf (1 ∷ 2 ∷ []) (1000001 ∷ [])) 3 6
+    ∷ unhalved (jobOf (1 ∷ 0 ∷ []) []) 3 5
     ∷ []

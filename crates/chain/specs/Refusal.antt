@@ -7,7 +7,7 @@ use lib.ListN.{length, take}
 use lib.Dec.{T, leb, eqb}
 use Rattle.bound.specs.declared.Bound.{Bound}
 use Rattle.chain.specs.Limits.{maxTasks, maxWeight, maxProcessors, maxSpeed, maxBoundLoad, maxBoundSpeed}
-use Rattle.chain.specs.Lists.{tabulate, all}
+use Rattle.chain.specs.Lists.{tabulate, all, powerOfTwo}
 use Rattle.chain.specs.Job.{Job, tasks, processors, speedOf, partLoad, at}
 
 -- A test: the number of its refusal, and whether it passes.
@@ -46,6 +46,15 @@ processorsTest es = test 7 (between 1 maxProcessors (length es))
 -- Refusal 8: "there are more than 2,048 tiles"
 unfoldable pub tasksTest : List ℕ → Test
 tasksTest ws = test 8 (leb (length ws) maxTasks)
+
+-- Every number of the list is its first one.
+unfoldable pub allEqual : List ℕ → Bool
+allEqual [] = true
+allEqual (x ∷ xs) = eachBetween x x xs
+
+-- Refusal 14: "the speeds are not all equal, or the number of machines is no power of two": of a row that is to be halved.
+unfoldable pub rowTest : List ℕ → Test
+rowTest es = test 14 (allEqual es && powerOfTwo (length es))
 
 -- Refusal 9: "a lent list is too short": a list of this length, where this much is needed.
 unfoldable pub lengthTest : ℕ → ℕ → Test
@@ -98,8 +107,8 @@ trueAt job plan p = eqb (plan .load p) (partLoad job (plan .from p) (plan .to p)
 unfoldable pub trueTest : Job → PlanRecords → Test
 trueTest job plan = test 13 (all (trueAt job plan) (processors job))
 
--- The number of the first test that fails, 0 where all pass. Scope 8.2: "The tests are made in the order of the numbers, but 12 before
--- 11, each call making those of the inputs that it takes."
+-- The number of the first test that fails, 0 where all pass. Scope 8.2: "The tests are made in the order of the numbers, but 14
+-- after 8 and 12 before 11, each call making those of the inputs that it takes."
 unfoldable pub firstRefusal : List Test → ℕ
 firstRefusal [] = 0
 firstRefusal (t ∷ ts) = cond (t .passes) (firstRefusal ts) (t .number)
@@ -124,9 +133,10 @@ pub record Lent : Type 0 where
   pub needed : ℕ
   pub given : ℕ
 
--- What a call takes beside the job's lists; nothing of a kind where it takes none.
+-- What a call takes beside the job's lists, and the speeds of a row that it halves; nothing of a kind where it takes none.
 pub record Inputs : Type 0 where
   pub methods : List ℕ
+  pub rows : List (List ℕ)
   pub lists : List Lent
   pub bounds : List Bound
   pub divisions : List (List ℕ)
@@ -134,13 +144,25 @@ pub record Inputs : Type 0 where
 
 -- A call that takes nothing more,
 abbrev pub nothing : Inputs
-nothing = record { methods = []; lists = []; bounds = []; divisions = []; plans = [] }
+nothing = record { methods = []; rows = []; lists = []; bounds = []; divisions = []; plans = [] }
 
 -- and one input more of a kind, before the others of that kind.
 abbrev pub withMethod : ℕ → Inputs → Inputs
 withMethod m inputs =
     record {
       methods = m ∷ inputs .methods;
+      rows = inputs .rows;
+      lists = inputs .lists;
+      bounds = inputs .bounds;
+      divisions = inputs .divisions;
+      plans = inputs .plans;
+    }
+
+abbrev pub withRow : List ℕ → Inputs → Inputs
+withRow es inputs =
+    record {
+      methods = inputs .methods;
+      rows = es ∷ inputs .rows;
       lists = inputs .lists;
       bounds = inputs .bounds;
       divisions = inputs .divisions;
@@ -151,6 +173,7 @@ abbrev pub lending : ℕ → ℕ → Inputs → Inputs
 lending needed given inputs =
     record {
       methods = inputs .methods;
+      rows = inputs .rows;
       lists = record { needed = needed; given = given } ∷ inputs .lists;
       bounds = inputs .bounds;
       divisions = inputs .divisions;
@@ -161,6 +184,7 @@ abbrev pub withBound : Bound → Inputs → Inputs
 withBound B inputs =
     record {
       methods = inputs .methods;
+      rows = inputs .rows;
       lists = inputs .lists;
       bounds = B ∷ inputs .bounds;
       divisions = inputs .divisions;
@@ -171,6 +195,7 @@ abbrev pub withDivision : List ℕ → Inputs → Inputs
 withDivision s inputs =
     record {
       methods = inputs .methods;
+      rows = inputs .rows;
       lists = inputs .lists;
       bounds = inputs .bounds;
       divisions = s ∷ inputs .divisions;
@@ -181,6 +206,7 @@ abbrev pub withPlan : PlanRecords → Inputs → Inputs
 withPlan plan inputs =
     record {
       methods = inputs .methods;
+      rows = inputs .rows;
       lists = inputs .lists;
       bounds = inputs .bounds;
       divisions = inputs .divisions;
@@ -195,14 +221,18 @@ separatorsNeeded job = suc (processors job)
 abbrev pub measureInputs : Job → List ℕ → Inputs
 measureInputs job s = lending (separatorsNeeded job) (length s) (withDivision s nothing)
 
+-- Halving the row: the row, and a list of this length for the separators.
+abbrev pub halvingInputs : Job → ℕ → Inputs
+halvingInputs job lent = withRow (job .speeds) (lending (separatorsNeeded job) lent nothing)
+
 -- The tests of a plan file, in order.
 unfoldable pub planTests : Job → PlanRecords → List Test
 planTests job plan = planLengthTest plan ∷ joinedTest job plan ∷ trueTest job plan ∷ []
 
--- The tests of a call by lists, in order: 1; 5, 6, 7, 8; 9; 10; 12; 11; 13.
+-- The tests of a call by lists, in order: 1; 5, 6, 7, 8; 14; 9; 10; 12; 11; 13.
 unfoldable pub callTests : Job → Inputs → List Test
 callTests job inputs =
-    map methodTest (inputs .methods) ++ jobTests job ++ map (λ l. lengthTest (l .needed) (l .given)) (inputs .lists)
+    map methodTest (inputs .methods) ++ jobTests job ++ map rowTest (inputs .rows) ++ map (λ l. lengthTest (l .needed) (l .given)) (inputs .lists)
     ++ map boundTest (inputs .bounds) ++ map planLengthTest (inputs .plans) ++ map (partitionTest job) (inputs .divisions)
     ++ map (joinedTest job) (inputs .plans) ++ map (trueTest job) (inputs .plans)
 

@@ -21,7 +21,7 @@ use Rattle.chain.proofs.Tests.{T-of, T-not-of, T-true, T-false}
 use Rattle.chain.proofs.Parts.{valid-proper, valid-plannable}
 use Rattle.chain.proofs.Indices.{all-of, first-of, first-unique, below-next}
 use Rattle.chain.proofs.Nicol.{comes-sooner, start-to, first-fit-to, first-fit-is, candidate-before, candidate-last, least-candidate-cases, empty-found, found-empty}
-use Rattle.chain.proofs.Halving.{Ranged, ranged-at, unsettled-below, settled-found, trials-first, trials-allowed, trials-are}
+use Rattle.chain.proofs.NicolTrials.{Ranged, ranged-at, unsettled-below, settled-found, trials-first, trials-allowed, trials-are}
 use Rattle.chain.proofs.Ranges.{part-small, small-narrow, small-lendable, nought-lendable, infinite-narrow, lesser-narrow}
 use Rattle.chain.proofs.Counts.{tasks-digits, nicol-fits}
 use Rattle.probe.proofs.Answer.{fits-outcome, fails-outcome}
