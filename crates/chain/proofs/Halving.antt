@@ -1,10 +1,11 @@
 -- Halving the row gives a partition whose loads are at most Wtot/P + heaviest × (P − 1)/P: each split leaves at most half of its part and half
 -- the heaviest weight on either side.
 -- Assumes nothing.
-use Prim.Native.Nat.{ℕ, zero, suc, _+_, _-_, _*_, _/_, _^_, _≤_, _<_}
+use Prim.Native.Nat.{ℕ, zero, suc, _+_, _-_, _*_, _/_, _%_, _^_, _≤_, _<_}
 use mathlib.Core.Path.{_≡_, refl, sym, ap, subst, _∙_}
 use mathlib.Core.List.{List, [], _∷_, _++_, append-assoc}
-use mathlib.Core.Logic.{_↔_}
+use mathlib.Core.Bool.{true, false}
+use mathlib.Core.Logic.{_↔_, _≢_}
 use native.Mathlib.Omega.{arith}
 use native.Mathlib.Decide.{decLe}
 use native.Mathlib.Nat.{mul-le-mul-left, le-of-mul-le-mul-right}
@@ -17,7 +18,7 @@ use Rattle.chain.specs.Lists.{smallestLeast, distance, digits, digitsWit
 use Rattle.chain.specs.Job.{Job, tasks, processors, last, speedOf, partWeight, partLoad, totalWeight, heaviest, partBound, at, Partition, boundAt, bottleneck}
 use Rattle.chain.specs.Halving.{Halvable, uneven, split, splits, halving}
 use Rattle.chain.specs.Refusal.{eachBetween, allEqual, rowTest}
-use Rattle.chain.proofs.Tests.{and-left, and-right, and-both}
+use Rattle.chain.proofs.Tests.{and-left, and-right, and-both, same-test}
 use Rattle.chain.proofs.Refusals.{each-at, each-of}
 use Rattle.chain.proofs.Digits.{digits-least, digits-below}
 use Rattle.chain.proofs.Parts.{Proper, weight-split, weight-empty, weight-all, load-le}
@@ -45,6 +46,29 @@ power-of-two n = (
   where
     again : (k : ℕ) → T (eqb (2 ^ levels (2 ^ k)) (2 ^ k))
     again k = subst (λ (l : ℕ). T (eqb (2 ^ l) (2 ^ k))) (sym (levels-power k)) (eqb-refl (2 ^ k))
+
+-- By halving: an even number is a power of two exactly where its half is, an odd one above 1 is none, and 1 is one.
+pub power-even : (n : ℕ) → 1 ≤ n → n % 2 ≡ 0 → powerOfTwo n ≡ powerOfTwo (n / 2)
+power-even n h e =
+    same-test (powerOfTwo n) (powerOfTwo (n / 2)) (λ t. (power-of-two (n / 2)) .1 (less ((power-of-two n) .0 t)))
+    (λ t. (power-of-two n) .1 (more ((power-of-two (n / 2)) .0 t)))
+  where
+    less : ((k : ℕ) × (n ≡ 2 ^ k)) → (k : ℕ) × (n / 2 ≡ 2 ^ k)
+    less (zero, f) = absurd (let z : ⊥ = omega arith in z)
+    less (suc k, f) = (k, omega arith)
+
+    more : ((k : ℕ) × (n / 2 ≡ 2 ^ k)) → (k : ℕ) × (n ≡ 2 ^ k)
+    more (k, f) = (suc k, omega arith)
+
+pub power-odd : (n : ℕ) → 1 < n → n % 2 ≢ 0 → false ≡ powerOfTwo n
+power-odd n h e = same-test false (powerOfTwo n) (λ t. absurd t) (λ t. wrong ((power-of-two n) .0 t))
+  where
+    wrong : ((k : ℕ) × (n ≡ 2 ^ k)) → T false
+    wrong (zero, f) = absurd (let z : ⊥ = omega arith in z)
+    wrong (suc k, f) = absurd (e (omega arith))
+
+pub power-one : (n : ℕ) → n ≡ 1 → true ≡ powerOfTwo n
+power-one n e = same-test true (powerOfTwo n) (λ t. (power-of-two n) .1 (0, e)) (λ t. tt)
 
 -- All speeds are equal exactly where the test says so.
 equal-each : (x : ℕ) (xs : List ℕ) → T (eachBetween x x xs) → (p : ℕ) → p < length xs → getD xs p 1 ≡ x

@@ -8,12 +8,13 @@ use mathlib.Core.Logic.{_≢_}
 use native.Mathlib.Omega.{arith}
 use native.Mathlib.Numerals.{add-one}
 use lib.Dec.{leb}
-use lib.ListN.{length, take}
+use lib.ListN.{length, getD, take}
 use borrow.Author.Tests.{le-leb, lt-leb, not-true, not-false}
 use Rattle.bound.specs.declared.Bound.{Bound}
 use Rattle.chain.specs.Limits.{maxBoundLoad, maxBoundSpeed}
+use Rattle.chain.specs.Lists.{powerOfTwo}
 use Rattle.chain.specs.Job.{Job, tasks, processors}
-use Rattle.chain.specs.Refusal.{Test, between, methodTest, lengthTest, boundTest, isPartition, partitionTest, firstRefusal, jobTests, separatorsNeeded, measureInputs, callTests, refusal}
+use Rattle.chain.specs.Refusal.{Test, between, eachBetween, methodTest, allEqual, rowTest, lengthTest, boundTest, isPartition, partitionTest, firstRefusal, jobTests, separatorsNeeded, measureInputs, halvingInputs, callTests, refusal}
 use Rattle.chain.proofs.Refusals.{numbered-nil, numbered-cons, first-decide, others-decide, job-numbered, call-numbered}
 use Rattle.refusals.specs.Inputs.{scratchLists, scratchNeeded, planNeeded, bytesNeeded, probeInputs, heuristicInputs, planLists, planInputs, writeInputs, writePlanInputs}
 use Rattle.refusals.proofs.Each.{between-low, between-high, between-in}
@@ -85,7 +86,37 @@ module _ (job : Job) (s : List ℕ) {b : Bool} (is : b ≡ isPartition job (take
   unfolding partitionTest
   division h = sym (passes 11 [] (sym is ∙ not-false b h) ∙ passed-all)
 
+-- A row that is to be halved: all its speeds are the first one, b says; c, that their number is a power of two.
+module _ (es : List ℕ) (some : 1 ≤ length es) {x : ℕ} (first : x ≡ getD es 0 0) {b : Bool} (equal : b ≡ eachBetween x x es) where
+  all-first : (ys : List ℕ) → 1 ≤ length ys → x ≡ getD ys 0 0 → eachBetween x x ys ≡ allEqual ys
+  unfolding eachBetween allEqual
+  all-first [] h e = absurd (let z : ⊥ = omega arith in z)
+  all-first (y ∷ ys) h e =
+      ap (λ (t : Bool). t && eachBetween x x ys) (between-in x x y (omega arith) (omega arith)) ∙ ap (λ (k : ℕ). eachBetween k k ys) e
+
+  equal-is : {t : Bool} → b ≡ t → allEqual es ≡ t
+  equal-is e = sym (all-first es some first) ∙ sym equal ∙ e
+
+  row-is : {t u : Bool} → allEqual es ≡ t → powerOfTwo (length es) ≡ u → (rowTest es) .passes ≡ (t && u)
+  unfolding rowTest
+  row-is e f = cc
+
+  pub row-unequal : not b ≡ true → 14 ≡ firstRefusal (rowTest es ∷ [])
+  unfolding rowTest
+  row-unequal h = sym (fails 14 [] (row-is (equal-is (not-true b h)) refl))
+
+  module _ (h : not b ≡ false) {c : Bool} (power : c ≡ powerOfTwo (length es)) where
+    pub row-no-power : not c ≡ true → 14 ≡ firstRefusal (rowTest es ∷ [])
+    unfolding rowTest
+    row-no-power k = sym (fails 14 [] (row-is (equal-is (not-false b h)) (sym power ∙ not-true c k)))
+
+    pub row-in : not c ≡ false → 0 ≡ firstRefusal (rowTest es ∷ [])
+    unfolding rowTest
+    row-in k = sym (passes 14 [] (row-is (equal-is (not-false b h)) (sym power ∙ not-false c k)) ∙ passed-all)
+
 -- For `search`: at each return the law that its tests meet.
+pub ruleset row-laws = (row-unequal, row-no-power, row-in, refl)
+
 pub ruleset length-laws = (length-short, length-enough)
 
 pub ruleset bound-laws = (load-far, speed-none, speed-far, bound-in, refl)
@@ -105,6 +136,31 @@ module _ (job : Job) where
   heuristic-list lent e z f =
       others-decide (jobTests job) (lengthTest (separatorsNeeded job) lent ∷ []) e (job-numbered job) z
       (f ∙ ap (λ (n : ℕ). firstRefusal (lengthTest n lent ∷ [])) (add-one (processors job)))
+
+  -- Halving the row: the job, then the row, then the list of separators.
+  module _ (lent : ℕ) {n : ℕ} (e : n ≡ firstRefusal (jobTests job)) where
+    row-and-list : List Test
+    row-and-list = (rowTest (job .speeds) ∷ []) ++ lengthTest (separatorsNeeded job) lent ∷ []
+
+    pub halving-job : n ≢ 0 → n ≡ refusal job (halvingInputs job lent)
+    unfolding refusal callTests jobTests row-and-list
+    halving-job h = first-decide (jobTests job) row-and-list e h
+
+    module _ (z : n ≡ 0) {k : ℕ} (f : k ≡ firstRefusal (rowTest (job .speeds) ∷ [])) where
+      by-row-and-list : {l : ℕ} → l ≡ firstRefusal row-and-list → l ≡ refusal job (halvingInputs job lent)
+      unfolding refusal callTests jobTests row-and-list
+      by-row-and-list g = others-decide (jobTests job) row-and-list e (job-numbered job) z g
+
+      pub halving-row : k ≢ 0 → k ≡ refusal job (halvingInputs job lent)
+      unfolding row-and-list
+      halving-row h = by-row-and-list (first-decide (rowTest (job .speeds) ∷ []) (lengthTest (separatorsNeeded job) lent ∷ []) f h)
+
+      pub halving-list : k ≡ 0 → {l : ℕ} → l ≡ firstRefusal (lengthTest (processors job + 1) lent ∷ []) → l ≡ refusal job (halvingInputs job lent)
+      unfolding row-and-list rowTest
+      halving-list y g =
+          by-row-and-list
+          (others-decide (rowTest (job .speeds) ∷ []) (lengthTest (separatorsNeeded job) lent ∷ []) f (numbered-cons (omega arith) numbered-nil) y
+          (g ∙ ap (λ (m : ℕ). firstRefusal (lengthTest m lent ∷ [])) (add-one (processors job))))
 
   -- Any call that begins as the heuristic: those tests, then others.
   module _ {n : ℕ} (lent : ℕ) (us : List Test) (e : n ≡ refusal job (heuristicInputs job lent)) where
@@ -196,6 +252,8 @@ module _ (job : Job) where
           by-after (others-decide (lengthTest (planNeeded job) lent ∷ []) (partitionTest job s ∷ []) f (numbered-cons (omega arith) numbered-nil) y g)
 
 pub ruleset heuristic-laws = (heuristic-job, heuristic-list)
+
+pub ruleset halving-laws = (halving-job, halving-row, halving-list)
 
 pub ruleset measure-laws = (measure-list, measure-division)
 

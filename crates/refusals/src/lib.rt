@@ -1,14 +1,15 @@
 // The limits of the code, and the tests of every call by lists.
-ghost use Prim.Native.Nat.{suc, _<_};
+ghost use Prim.Native.Nat.{suc, _≤_, _<_};
 ghost use mathlib.Core.Path.{_≡_};
 ghost use mathlib.Core.Bool.{_&&_};
 ghost use mathlib.Core.List.{[], _∷_};
 ghost use lib.ListN.{length, take};
 ghost use lib.Dec.{leb};
 ghost use Rattle.chain.specs.Limits.{maxProcessors, maxTasks};
+ghost use Rattle.chain.specs.Lists.{powerOfTwo};
 ghost use Rattle.chain.specs.Job.{Job, jobOf, processors};
-ghost use Rattle.chain.specs.Refusal.{test, between, eachBetween, lengthTest, boundTest, isPartition, partitionTest};
-ghost use Rattle.chain.specs.Refusal.{firstRefusal, jobTests, measureInputs, refusal};
+ghost use Rattle.chain.specs.Refusal.{test, between, eachBetween, rowTest, lengthTest, boundTest, isPartition, partitionTest};
+ghost use Rattle.chain.specs.Refusal.{firstRefusal, jobTests, measureInputs, halvingInputs, refusal};
 ghost use Rattle.refusals.specs.Methods.{chosenOf, numberOf};
 ghost use Rattle.refusals.specs.Inputs.{probeInputs, heuristicInputs, planLists, writeInputs, writePlanInputs};
 use bound::Bound;
@@ -161,6 +162,35 @@ pub fn test_length(needed: usize, given: usize) -> u32
     0
 }
 
+// Inner. Whether a number above 0 is a power of two: it is halved for as long as it is above 1 and even.
+fn power_of_two(n: usize) -> bool
+    requires { ⌜ 1 ≤ n ⌝ }
+    ensures { λ r. ⌜ r ≡ powerOfTwo n ⌝ }
+{
+    let mut m = n;
+    while 1 < m {
+        if m % 2 != 0 {
+            return false;
+        }
+        m /= 2;
+    }
+    true
+}
+
+// Inner. The test of a row that is to be halved: 0 or 14.
+fn test_row(speeds: &[u32]) -> u32
+    requires { ⌜ 1 ≤ length (now speeds) ⌝ }
+    ensures { λ r. ⌜ r ≡ firstRefusal (rowTest (now (speeds .entry)) ∷ []) ⌝ }
+{
+    if !each_between(speeds[0], speeds[0], speeds) {
+        return 14;
+    }
+    if !power_of_two(speeds.len()) {
+        return 14;
+    }
+    0
+}
+
 // Inner. The test of a lent bound: 0 or 10.
 fn test_bound(bound: Bound) -> u32
     ensures { λ r. ⌜ r ≡ firstRefusal (boundTest bound ∷ []) ⌝ }
@@ -202,6 +232,24 @@ pub fn test_heuristic(speeds: &[u32], weights: &[u32], lent: usize) -> u32
         return by_job;
     }
     test_length(speeds.len() + 1, lent)
+}
+
+// Inner. The tests of halving the row: 0, or the refusal: 5, 6, 7, 8, 14 or 9, in this order.
+pub fn test_halving(speeds: &[u32], weights: &[u32], lent: usize) -> u32
+    ensures { λ r.
+        let job = jobOf (now (speeds .entry)) (now (weights .entry)) in
+        ⌜ r ≡ refusal job (halvingInputs job lent) ⌝ }
+{
+    let by_job = test_job(speeds, weights);
+    if by_job != 0 {
+        return by_job;
+    }
+    let by_row = test_row(speeds);
+    let by_list = test_length(speeds.len() + 1, lent);
+    if by_row != 0 {
+        return by_row;
+    }
+    by_list
 }
 
 // Inner. The tests of measuring: 0, or the refusal: 5, 6, 7, 8, 9 or 11, in this order.

@@ -1,0 +1,41 @@
+-- `test_halving` meets its contract: the job, then the row, then the list of separators.
+-- Assumes nothing.
+use mathlib.Core.Path.{sym, _∙_}
+use Rattle.chain.proofs.Refusals.{job-accepted}
+use Rattle.refusals.proofs.Tests.{halving-laws}
+use borrow.Author.Needs.{needs}
+use Rattle.refusals.proofs.test_halving.Statement.{statement}
+use Rattle.refusals.proofs.test_halving.Tie as tie
+
+test-job-requires : tie.Need-test-job-requires
+test-job-requires c κs = search needs
+
+returns : tie.Need-returns
+returns c = search halving-laws
+
+test-row-requires : tie.Need-test-row-requires
+test-row-requires c κs = (job-accepted .0 (sym (c .before .test-job .ensures) ∙ c .if1 .left)) .some-processor
+
+add-test-length : tie.Need-add-test-length
+add-test-length c = search needs
+
+test-length-requires : tie.Need-test-length-requires
+test-length-requires c κs = search needs
+
+returns-2 : tie.Need-returns-2
+returns-2 c = search halving-laws
+
+returns-3 : tie.Need-returns-3
+returns-3 c = search halving-laws
+
+pub test-halving-spec : {M : Type 1} → statement M
+test-halving-spec =
+    tie.close
+    (tie.spec
+    test-job-requires
+    returns
+    test-row-requires
+    add-test-length
+    test-length-requires
+    returns-2
+    returns-3)
