@@ -8,7 +8,7 @@ use mathlib.Core.Logic.{_⊎_, inl, inr}
 use native.Mathlib.Omega.{arith}
 use native.Mathlib.Decide.{decLe}
 use native.Mathlib.Numerals.{add-one}
-use native.Mathlib.Nat.{lt-of-le-of-lt, div-le-of-le-mul}
+use native.Mathlib.Nat.{lt-of-le-of-lt, div-le-of-le-mul, mul-le-mul-right}
 use lib.Dec.{ltb, lit<}
 use lib.ListN.{length, getD, set, drop, length-set}
 use lib.Seq.{getD-set-same, drop-set-lt, ext-getD}
@@ -25,8 +25,8 @@ use Rattle.parts.specs.Prefix.{Prefix, Ready}
 use Rattle.parts.specs.Rising.{Rising, LastAtMost}
 use Rattle.parts.proofs.Front.{Front, front-store, front-end}
 use Rattle.parts.proofs.Laws.{speed-read, prefix-fits}
-use Rattle.heuristic.specs.Target.{firstAtLeast, FirstAbove, off, nearestTo, Target, NonePast, FirstPast}
-use Rattle.heuristic.proofs.Nearest.{smallest-unique, sum-of-behind, first-past-is, nearest-high, nearest-low, targetOf, nearest-to-target, target-grows, target-most, none-first, none-more}
+use Rattle.heuristic.specs.Target.{firstAtLeast, FirstAbove, offIn, nearestIn, PastFrom, nearestTo, Target, NonePast, FirstPast}
+use Rattle.heuristic.proofs.Nearest.{smallest-unique, in-high, in-low, sum-of-behind, first-past-is, nearest-hinted, past-from, targetOf, nearest-to-target, target-grows, target-most, none-first, none-more}
 
 -- The sum of the speeds of the first p processors.
 pub record SpeedTo (job : Job) (p total : ℕ) : Type 0 where
@@ -150,42 +150,37 @@ above-after {xs} {i} {n} {cap} {c} {r} h e w =
       above = λ l. subst (λ (k : ℕ). cap < at xs k) (sym (add-one r)) (omega (arith, w .above (omega arith)));
     }
 
--- The choice between the first index g past a target and the one before it, whose prefix sums are high and low.
-module _ {job : Job} {xs : List ℕ} {g total target : ℕ} (ready : Ready job xs) (t : Target job total target) (f : FirstPast job target g) where
-  low-is : {low : ℕ} → low ≡ at xs (g - 1) → low * total ≡ partWeight job 0 (g - 1) * totalSpeed job
-  low-is e = ap₂ _*_ (e ∙ ready .prefix .sums (g - 1) (omega (arith, f .behind .to))) (t .speed)
-
-  high-is : {high : ℕ} → g ≤ tasks job → high ≡ at xs g → high * total ≡ partWeight job 0 g * totalSpeed job
-  high-is h e = ap₂ _*_ (e ∙ ready .prefix .sums g h) (t .speed)
-
-  pub choice-products : {low high : ℕ} → g ≤ tasks job → low ≡ at xs (g - 1) → high ≡ at xs g
-      → (low * total ≤ target) × (target ≤ high * total) × (high * total < 2 ^ 64)
-  choice-products {low} {high} h x y = (
-    omega (arith, low-is x, f .behind .before (g - 1) (omega (arith, f .behind .from))),
-    omega (arith, high-is h y, f .past h),
-    subst (λ (n : ℕ). n < 2 ^ 64) (sym (high-is h y)) (heuristic-products (ready .valid) g 0 (omega arith) .0),
+-- The choice between the first index g past a target and the one before it, whose entries are high and low.
+module _ {xs : List ℕ} {factor target s n g : ℕ} (rising : Rising xs n) (some : 1 ≤ factor) (p : PastFrom xs factor target s n g) where
+  pub choice-products : {low high : ℕ} → at xs n * factor < 2 ^ 64 → g ≤ n → low ≡ at xs (g - 1) → high ≡ at xs g
+      → (low * factor ≤ target) × (target ≤ high * factor) × (high * factor < 2 ^ 64)
+  choice-products {low} {high} fits h x y = (
+    subst (λ (i : ℕ). i * factor ≤ target) (sym x) (p .below),
+    subst (λ (i : ℕ). target ≤ i * factor) (sym y) (omega (arith, p .above h)),
+    subst (λ (i : ℕ). i * factor < 2 ^ 64) (sym y) (lt-of-le-of-lt (mul-le-mul-right factor (rising .up g n h (omega arith))) fits),
   )
 
-  pub choice-high : {low high : ℕ} → g ≤ tasks job → low ≡ at xs (g - 1) → high ≡ at xs g
-      → ltb (distance (high * total) target) (distance (low * total) target) ≡ true → g ≡ nearestTo job target
+  -- The first index past the target is chosen,
+  pub choice-high : {low high : ℕ} → g ≤ n → low ≡ at xs (g - 1) → high ≡ at xs g
+      → ltb (distance (high * factor) target) (distance (low * factor) target) ≡ true → g ≡ nearestIn xs factor target s n
   choice-high {low} {high} h x y e =
-      nearest-high ready f h
-      (subst (λ (n : ℕ). distance n target < off job target (g - 1)) (high-is h y)
-      (subst (λ (n : ℕ). distance (high * total) target < distance n target) (low-is x)
-      (ltb-true (distance (high * total) target) (distance (low * total) target) e)))
+      in-high rising some p h
+      (subst (λ (i : ℕ). distance (i * factor) target < offIn xs factor target (g - 1)) y
+      (subst (λ (i : ℕ). distance (high * factor) target < distance (i * factor) target) x
+      (ltb-true (distance (high * factor) target) (distance (low * factor) target) e)))
 
-  -- What holds where the index before is chosen.
-  pub choice-low : {low high : ℕ} → g ≤ tasks job → low ≡ at xs (g - 1) → high ≡ at xs g
-      → ltb (distance (high * total) target) (distance (low * total) target) ≡ false → off job target (g - 1) ≤ off job target g
+  -- or the index before,
+  pub choice-low : {low high : ℕ} → g ≤ n → low ≡ at xs (g - 1) → high ≡ at xs g
+      → ltb (distance (high * factor) target) (distance (low * factor) target) ≡ false → offIn xs factor target (g - 1) ≤ offIn xs factor target g
   choice-low {low} {high} h x y e =
-      subst (λ (n : ℕ). off job target (g - 1) ≤ distance n target) (high-is h y)
-      (subst (λ (n : ℕ). distance n target ≤ distance (high * total) target) (low-is x)
-      (ltb-false (distance (high * total) target) (distance (low * total) target) e))
+      subst (λ (i : ℕ). offIn xs factor target (g - 1) ≤ distance (i * factor) target) y
+      (subst (λ (i : ℕ). distance (i * factor) target ≤ distance (high * factor) target) x
+      (ltb-false (distance (high * factor) target) (distance (low * factor) target) e))
 
-  -- And then the smallest index with its prefix sum is found from any index on that is not past the nearest.
-  pub choice-end : (a : ℕ) {low r : ℕ} → (g ≤ tasks job → off job target (g - 1) ≤ off job target g) → low ≡ at xs (g - 1)
-      → a ≤ nearestTo job target → r ≡ firstAtLeast xs a (g - 1) low → r ≡ nearestTo job target
-  choice-end a near x h e = e ∙ ap (firstAtLeast xs a (g - 1)) x ∙ nearest-low ready f near a h
+  -- and then the smallest index with its entry is found.
+  pub choice-end : {low r : ℕ} → (g ≤ n → offIn xs factor target (g - 1) ≤ offIn xs factor target g) → low ≡ at xs (g - 1)
+      → r ≡ firstAtLeast xs s (g - 1) low → r ≡ nearestIn xs factor target s n
+  choice-end near x e = e ∙ ap (firstAtLeast xs s (g - 1)) x ∙ in-low rising some p near
 
 -- The heuristic's separators up to p: the speed so far, the first index not known to be past the target and the nearest index.
 pub record Placed (job : Job) (before now : List ℕ) (total weight p speed past s : ℕ) : Type 0 where
@@ -241,10 +236,23 @@ module _ {job : Job} {xs ys : List ℕ} {total weight p speed past s e : ℕ} (v
     placed-behind =
         subst (λ (n : ℕ). NonePast job n past) (sym placed-aim) (none-more job (target-grows job p (suc p) (omega arith)) (w .behind))
 
-    pub placed-near : s ≤ nearestTo job (weight * (speed + e))
+    placed-near : s ≤ nearestTo job (weight * (speed + e))
     placed-near =
         subst (λ (n : ℕ). s ≤ nearestTo job n) (sym placed-aim)
         (omega (arith, w .near, nearest-grows job p (suc p) (omega arith), nearest-to-target job (suc p)))
+
+    -- The search for the nearest index, over the prefix sums.
+    module _ {sums : List ℕ} (ready : Ready job sums) where
+      pub placed-products : at sums (tasks job) * total < 2 ^ 64
+      placed-products =
+          subst (λ (n : ℕ). at sums (tasks job) * n < 2 ^ 64) (sym (w .total-is))
+          (subst (λ (n : ℕ). n * totalSpeed job < 2 ^ 64) (sym (ready .prefix .sums (tasks job) (omega arith))) (heuristic-products v (tasks job) 0 (omega arith) .0))
+
+      pub placed-past : {r : ℕ} → FirstPast job (weight * (speed + e)) r → PastFrom sums total (weight * (speed + e)) s (tasks job) r
+      placed-past {r} f = subst (λ (n : ℕ). PastFrom sums n (weight * (speed + e)) s (tasks job) r) (sym (w .total-is)) (past-from ready f placed-near)
+
+      pub placed-found : {q : ℕ} → q ≡ nearestIn sums total (weight * (speed + e)) s (tasks job) → q ≡ nearestTo job (weight * (speed + e))
+      placed-found y = y ∙ ap (λ (n : ℕ). nearestIn sums n (weight * (speed + e)) s (tasks job)) (w .total-is) ∙ nearest-hinted ready (weight * (speed + e)) s placed-near
 
     module _ {r q : ℕ} (f : FirstPast job (weight * (speed + e)) r) (y : q ≡ nearestTo job (weight * (speed + e))) where
       nearest-next : q ≡ nearest job (suc p)

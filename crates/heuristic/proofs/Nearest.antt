@@ -1,8 +1,8 @@
 -- The smallest index nearest to a target: it is the first index past the target, or the smallest index with the same prefix
 -- sum as the one before that. And searches find one index only.
 -- Assumes nothing.
-use Prim.Native.Nat.{ℕ, suc, _-_, _*_, _/_, _≤_, _<_}
-use mathlib.Core.Path.{_≡_, refl, sym, ap, subst}
+use Prim.Native.Nat.{ℕ, suc, _+_, _-_, _*_, _/_, _≤_, _<_}
+use mathlib.Core.Path.{_≡_, refl, sym, ap, subst, _∙_}
 use mathlib.Core.Bool.{Bool, true, false}
 use mathlib.Core.List.{List}
 use mathlib.Core.Logic.{inl, inr}
@@ -20,9 +20,9 @@ use Rattle.chain.proofs.Ideal.{total-speed-is}
 use Rattle.chain.proofs.Sums.{sum-grows}
 use Rattle.chain.proofs.Ranges.{total-speed-positive}
 use Rattle.parts.specs.Prefix.{Ready}
-use Rattle.parts.specs.Rising.{LastAtMost}
+use Rattle.parts.specs.Rising.{Rising, LastAtMost}
 use Rattle.parts.proofs.Laws.{prefix-grows}
-use Rattle.heuristic.specs.Target.{firstAtLeast, off, nearestTo, NonePast, FirstPast}
+use Rattle.heuristic.specs.Target.{firstAtLeast, offIn, nearestIn, PastFrom, off, nearestTo, NonePast, FirstPast}
 
 -- There is only one smallest index at which a test holds,
 pub smallest-one : {f : ℕ → Bool} {a d r q : ℕ} → Smallest f a d r → Smallest f a d q → r ≤ q
@@ -63,43 +63,101 @@ pub test-is : (b : Bool) (m n : ℕ) → (b ≡ true → m < n) → (b ≡ false
 test-is true m n h k = sym (lt-ltb m n (h refl))
 test-is false m n h k = sym (le-ltb m n (k refl))
 
--- A function that grows, a target t and the first index g past it.
-module _ (x : ℕ → ℕ) (up : (i j : ℕ) → i ≤ j → x i ≤ x j) (n t g : ℕ) (from : 1 ≤ g) (to : g ≤ suc n) (before : (k : ℕ) → k < g → x k ≤ t)
+-- A function that grows up to n, a target t and the first index g past it: the smallest nearest index from s to n, counted from s.
+module _ (x : ℕ → ℕ) (s n t g : ℕ) (up : (i j : ℕ) → i ≤ j → j ≤ n → x i ≤ x j) (from : 1 ≤ g) (to : g ≤ suc n) (behind : x (g - 1) ≤ t)
     (past : g ≤ n → t < x g)
   where
-    -- Where it is nearer than the index before it, it is the smallest nearest index.
-    high-least : g ≤ n → distance (x g) t < distance (x (g - 1)) t → SmallestLeast (λ i. distance (x i) t) n g
-    high-least h nearer =
-        record {
-          to = h;
-          least = λ k l. elim (decLe g k) [ yes m ↦ above (x g) (x k) t (omega (arith, past h)) (up g k m) | no m ↦ omega (arith, earlier k (omega arith)) ];
-          before = earlier;
-        }
-      where
-        earlier : (k : ℕ) → k < g → distance (x g) t < distance (x k) t
-        earlier k l = omega (arith, nearer, below (x k) (x (g - 1)) t (up k (g - 1) (omega arith)) (before (g - 1) (omega arith)))
+    before : (k : ℕ) → k < g → distance (x (g - 1)) t ≤ distance (x k) t
+    before k l = below (x k) (x (g - 1)) t (up k (g - 1) (omega arith) (omega arith)) behind
 
-    -- Where it is not, that is the smallest index with the value of the index before it.
-    low-least : (g ≤ n → distance (x (g - 1)) t ≤ distance (x g) t) → (m s r : ℕ) → SmallestLeast (λ i. distance (x i) t) n m → s ≤ m → r ≤ g - 1
-        → x r ≡ x (g - 1) → ((k : ℕ) → s ≤ k → k < r → x k < x r) → SmallestLeast (λ i. distance (x i) t) n r
-    low-least near m s r y h l e less =
+    after : (k : ℕ) → g ≤ k → k ≤ n → distance (x g) t ≤ distance (x k) t
+    after k l m = above (x g) (x k) t (omega (arith, past (omega arith))) (up g k l m)
+
+    -- Where it is nearer than the index before it, it is that index.
+    high-least : s ≤ g → g ≤ n → distance (x g) t < distance (x (g - 1)) t → SmallestLeast (λ d. distance (x (s + d)) t) (n - s) (g - s)
+    high-least l h nearer =
         record {
           to = omega arith;
-          least = least;
-          before = λ k i.
-              elim (decLe s k) [
-                | yes j ↦ below-strictly (x k) (x r) t (less k j i) (before r (omega arith))
-                | no j ↦ omega (arith, y .before k (omega arith), least m (y .to))
-              ];
+          least = λ k m. subst (λ (i : ℕ). distance (x i) t ≤ distance (x (s + k)) t) here (elim (decLe g (s + k)) [ yes q ↦ after (s + k) q (omega arith) | no q ↦ omega (arith, before (s + k) (omega arith)) ]);
+          before = λ k m. subst (λ (i : ℕ). distance (x i) t < distance (x (s + k)) t) here (omega (arith, before (s + k) (omega arith)));
         }
       where
+        here : g ≡ s + (g - s)
+        here = omega arith
+
+    -- Where it is not, that is the smallest index with the value of the index before it.
+    low-least : (g ≤ n → distance (x (g - 1)) t ≤ distance (x g) t) → (r : ℕ) → s ≤ r → r ≤ g - 1 → x r ≡ x (g - 1)
+        → ((k : ℕ) → s ≤ k → k < r → x k < x r) → SmallestLeast (λ d. distance (x (s + d)) t) (n - s) (r - s)
+    low-least near r h l e less =
+        record {
+          to = omega arith;
+          least = λ k i. subst (λ (j : ℕ). distance (x j) t ≤ distance (x (s + k)) t) here (least (s + k) (omega arith));
+          before = λ k i. subst (λ (j : ℕ). distance (x j) t < distance (x (s + k)) t) here (below-strictly (x (s + k)) (x r) t (less (s + k) (omega arith) (omega arith)) (omega arith));
+        }
+      where
+        here : r ≡ s + (r - s)
+        here = omega arith
+
         least : (k : ℕ) → k ≤ n → distance (x r) t ≤ distance (x k) t
         least k i =
             subst (λ (v : ℕ). distance v t ≤ distance (x k) t) (sym e)
-            (elim (decLe g k) [
-              | yes j ↦ omega (arith, near (omega arith), above (x g) (x k) t (omega (arith, past (omega arith))) (up g k j))
-              | no j ↦ below (x k) (x (g - 1)) t (up k (g - 1) (omega arith)) (before (g - 1) (omega arith))
-            ])
+            (elim (decLe g k) [ yes j ↦ omega (arith, near (omega arith), after k j i) | no j ↦ before k (omega arith) ])
+
+-- The same in a list whose entries grow up to n.
+module _ {xs : List ℕ} {factor target s n g : ℕ} (rising : Rising xs n) (some : 1 ≤ factor) (p : PastFrom xs factor target s n g) where
+  abbrev times : ℕ → ℕ
+  times i = at xs i * factor
+
+  times-grows : (i j : ℕ) → i ≤ j → j ≤ n → times i ≤ times j
+  times-grows i j h k = mul-le-mul-right factor (rising .up i j h k)
+
+  -- The first index past the target, where it is nearer than the one before it.
+  pub in-high : g ≤ n → offIn xs factor target g < offIn xs factor target (g - 1) → g ≡ nearestIn xs factor target s n
+  unfolding nearestIn
+  in-high h nearer =
+      let l : SmallestLeast (λ d. offIn xs factor target (s + d)) (n - s) (g - s) =
+          high-least times s n target g times-grows (p .some) (p .to) (p .below) (p .above) (p .from) h nearer
+      in
+      omega (arith, smallest-least-unique l, p .from)
+
+  -- Where the one before it is as near, the search starts before it,
+  pub in-before : (g ≤ n → offIn xs factor target (g - 1) ≤ offIn xs factor target g) → s ≤ g - 1
+  in-before near =
+      elim (decLe g s) [
+        | yes h ↦ absurd (let q = p .nearer h in let z : ⊥ = omega (arith, q .1, near (q .0)) in z)
+        | no h ↦ omega (arith, p .some)
+      ]
+
+  -- and it is the smallest index with the entry of the one before it.
+  pub in-low : (g ≤ n → offIn xs factor target (g - 1) ≤ offIn xs factor target g) → firstAtLeast xs s (g - 1) (at xs (g - 1)) ≡ nearestIn xs factor target s n
+  unfolding firstAtLeast nearestIn
+  in-low near = go (smallestFrom f s (g - 1 - s)) (smallest-is f s (g - 1 - s))
+    where
+      f : ℕ → Bool
+      f k = leb (at xs (g - 1)) (at xs k)
+
+      go : (q : ℕ) → Smallest f s (g - 1 - s) q → q ≡ s + smallestLeast (λ d. offIn xs factor target (s + d)) (n - s)
+      go q y =
+          let l : SmallestLeast (λ d. offIn xs factor target (s + d)) (n - s) (q - s) =
+              low-least times s n target g times-grows (p .some) (p .to) (p .below) (p .above) near q (y .from) within (ap (λ (w : ℕ). w * factor) same) less
+          in
+          omega (arith, smallest-least-unique l, y .from)
+        where
+          within : q ≤ g - 1
+          within = omega (arith, y .to, in-before near)
+
+          least : at xs (g - 1) ≤ at xs q
+          least =
+              elim (y .found) [
+                | inl e ↦ subst (λ (k : ℕ). at xs (g - 1) ≤ at xs k) (let z : g - 1 ≡ q = omega (arith, in-before near) in z) (omega arith)
+                | inr e ↦ leb-true (at xs (g - 1)) (at xs q) e
+              ]
+
+          same : at xs q ≡ at xs (g - 1)
+          same = omega (arith, least, rising .up q (g - 1) within (omega (arith, p .to)))
+
+          less : (k : ℕ) → s ≤ k → k < q → times k < times q
+          less k i j = mul-lt-mul-of-pos-right (omega (arith, leb-false (at xs (g - 1)) (at xs k) (y .before k i j), same)) some
 
 module _ (job : Job) where
   -- What the first tasks weigh, times all speed.
@@ -167,14 +225,8 @@ module _ {job : Job} {xs : List ℕ} (r : Ready job xs) where
       past h = div-lt-iff-lt-mul speed-positive .0 (omega (arith, r .prefix .sums (suc q) h, w .above h))
 
   module _ {target g : ℕ} (p : FirstPast job target g) where
-    -- The first index past the target, where it is nearer than the one before it.
-    pub nearest-high : g ≤ tasks job → off job target g < off job target (g - 1) → g ≡ nearestTo job target
-    nearest-high h nearer =
-        nearest-to-unique job target
-        (high-least (scaled job) (scaled-grows job) (tasks job) target g (p .behind .from) (p .behind .to) (p .behind .before) (p .past) h nearer)
-
-    -- Where the index before it is as near, the nearest is not past that.
-    pub nearest-before : (g ≤ tasks job → off job target (g - 1) ≤ off job target g) → nearestTo job target ≤ g - 1
+    -- Where the index before the first past the target is as near, the nearest is not past that.
+    nearest-before : (g ≤ tasks job → off job target (g - 1) ≤ off job target g) → nearestTo job target ≤ g - 1
     nearest-before near =
         elim (decLe m (g - 1)) [ yes l ↦ l | no l ↦ absurd (wrong (omega (arith, p .behind .from)) ((nearest-to-is job target) .to)) ]
       where
@@ -190,40 +242,66 @@ module _ {job : Job} {xs : List ℕ} (r : Ready job xs) where
               above (scaled job g) (scaled job m) target (omega (arith, p .past (omega arith))) (scaled-grows job g m h),
             )
 
-    -- Where it is not: the smallest index with the prefix sum of the one before it, from any index not past the nearest on.
-    pub nearest-low : (g ≤ tasks job → off job target (g - 1) ≤ off job target g) → (s : ℕ) → s ≤ nearestTo job target
-        → firstAtLeast xs s (g - 1) (at xs (g - 1)) ≡ nearestTo job target
-    unfolding firstAtLeast
-    nearest-low near s h = go (smallestFrom f s (g - 1 - s)) (smallest-is f s (g - 1 - s))
-      where
-        f : ℕ → Bool
-        f k = leb (at xs (g - 1)) (at xs k)
+  -- A sum times all speed.
+  sum-is : (i : ℕ) → i ≤ tasks job → at xs i * totalSpeed job ≡ scaled job i
+  sum-is i h = ap (λ (w : ℕ). w * totalSpeed job) (r .prefix .sums i h)
 
-        weight : (k : ℕ) → k ≤ g - 1 → at xs k ≡ partWeight job 0 k
-        weight k i = r .prefix .sums k (omega (arith, p .behind .to))
+  off-is : (target i : ℕ) → i ≤ tasks job → offIn xs (totalSpeed job) target i ≡ off job target i
+  off-is target i h = ap (λ (w : ℕ). distance w target) (sum-is i h)
 
-        go : (q : ℕ) → Smallest f s (g - 1 - s) q → q ≡ nearestTo job target
-        go q y =
-            nearest-to-unique job target
-            (low-least (scaled job) (scaled-grows job) (tasks job) target g (p .behind .from) (p .behind .to) (p .behind .before) (p .past) near
-            (nearestTo job target) s q (nearest-to-is job target) h within (ap (λ (w : ℕ). w * totalSpeed job) same) less)
-          where
-            within : q ≤ g - 1
-            within = omega (arith, y .to, nearest-before near)
+  -- Searched from an index on that is not past the nearest, the nearest is found.
+  pub nearest-hinted : (target s : ℕ) → s ≤ nearestTo job target → nearestIn xs (totalSpeed job) target s (tasks job) ≡ nearestTo job target
+  unfolding nearestIn
+  nearest-hinted target s h =
+      let y = nearest-to-is job target in
+      let l : SmallestLeast (λ d. offIn xs (totalSpeed job) target (s + d)) (tasks job - s) (m - s) =
+          record {
+            to = omega (arith, y .to);
+            least = λ k i. rw (here, off-is target (s + k) (omega arith)) (y .least (s + k) (omega arith));
+            before = λ k i. rw (here, off-is target (s + k) (omega (arith, y .to))) (y .before (s + k) (omega arith));
+          }
+      in
+      omega (arith, smallest-least-unique l, y .to)
+    where
+      m : ℕ
+      m = nearestTo job target
 
-            least : at xs (g - 1) ≤ at xs q
-            least =
-                elim (y .found) [
-                  | inl e ↦ subst (λ (k : ℕ). at xs (g - 1) ≤ at xs k) (let z : g - 1 ≡ q = omega (arith, nearest-before near) in z) (omega arith)
-                  | inr e ↦ leb-true (at xs (g - 1)) (at xs q) e
-                ]
+      here : offIn xs (totalSpeed job) target (s + (m - s)) ≡ off job target m
+      here = ap (offIn xs (totalSpeed job) target) (let e : s + (m - s) ≡ m = omega arith in e) ∙ off-is target m ((nearest-to-is job target) .to)
 
-            same : partWeight job 0 q ≡ partWeight job 0 (g - 1)
-            same =
-                omega (arith, weight q within, weight (g - 1) (omega arith), weight-split job 0 q (g - 1) (omega arith) within, least)
+  -- What the search asks.
+  pub past-from : {target g s : ℕ} → FirstPast job target g → s ≤ nearestTo job target → PastFrom xs (totalSpeed job) target s (tasks job) g
+  past-from {target} {g} {s} p h =
+      record {
+        some = p .behind .from;
+        from = omega (arith, nearest-to);
+        to = p .behind .to;
+        below = omega (arith, sum-is (g - 1) (omega (arith, p .behind .to, p .behind .from)), p .behind .before (g - 1) (omega (arith, p .behind .from)));
+        above = λ l. omega (arith, sum-is g l, p .past l);
+        nearer = λ l.
+            let k : g ≤ tasks job = omega (arith, (nearest-to-is job target) .to) in
+            (k, rw (off-is target g k, off-is target (g - 1) (omega arith)) (nearer l));
+      }
+    where
+      nearest-to : nearestTo job target ≤ g
+      nearest-to =
+          elim (decLe (nearestTo job target) g) [
+            | yes k ↦ k
+            | no k ↦
+                let y = nearest-to-is job target in
+                absurd
+                (let z : ⊥ = omega (
+                  arith,
+                  y .before g (omega arith),
+                  above (scaled job g) (scaled job (nearestTo job target)) target (omega (arith, p .past (omega (arith, y .to))))
+                      (scaled-grows job g (nearestTo job target) (omega arith)),
+                ) in
+                z)
+          ]
 
-            less : (k : ℕ) → s ≤ k → k < q → scaled job k < scaled job q
-            less k i j =
-                mul-lt-mul-of-pos-right
-                (omega (arith, leb-false (at xs (g - 1)) (at xs k) (y .before k i j), weight k (omega arith), weight (g - 1) (omega arith), same))
-                speed-positive
+      nearer : g ≤ s → off job target g < off job target (g - 1)
+      nearer l =
+          elim (decLe (off job target (g - 1)) (off job target g)) [
+            | yes k ↦ absurd (let z : ⊥ = omega (arith, nearest-before p (λ i. k), p .behind .from) in z)
+            | no k ↦ omega arith
+          ]

@@ -1,5 +1,5 @@
--- What the one pass of the heuristic keeps: a target, the first index past it and the smallest index nearest to it.
-use Prim.Native.Nat.{ℕ, suc, _-_, _*_, _≤_, _<_}
+-- The smallest index nearest to a target, by the first index past it; and what the one pass of the heuristic keeps of them.
+use Prim.Native.Nat.{ℕ, suc, _+_, _-_, _*_, _≤_, _<_}
 use mathlib.Core.Path.{_≡_}
 use mathlib.Core.List.{List}
 use lib.Dec.{leb}
@@ -16,6 +16,24 @@ pub record FirstAbove (xs : List ℕ) (i n cap r : ℕ) : Type 0 where
   pub to : r ≤ suc n
   pub below : at xs (r - 1) ≤ cap
   pub above : r ≤ n → cap < at xs r
+
+-- How far entry i times the factor is from the target.
+abbrev pub offIn : List ℕ → ℕ → ℕ → ℕ → ℕ
+offIn xs factor target i = distance (at xs i * factor) target
+
+-- The smallest index from s to n whose entry times the factor is nearest to the target.
+unfoldable pub nearestIn : List ℕ → ℕ → ℕ → ℕ → ℕ → ℕ
+nearestIn xs factor target s n = s + smallestLeast (λ d. offIn xs factor target (s + d)) (n - s)
+
+-- i is the first index past the target of those from s to n, n + 1 if there is none, and the one before it is not past; where i is s
+-- itself, it is nearer than the one before.
+pub record PastFrom (xs : List ℕ) (factor target s n i : ℕ) : Type 0 where
+  pub some : 1 ≤ i
+  pub from : s ≤ i
+  pub to : i ≤ suc n
+  pub below : at xs (i - 1) * factor ≤ target
+  pub above : i ≤ n → target < at xs i * factor
+  pub nearer : i ≤ s → (i ≤ n) × (offIn xs factor target i < offIn xs factor target (i - 1))
 
 -- How far W(1,i) times Etot is from the target.
 abbrev pub off : Job → ℕ → ℕ → ℕ

@@ -10,7 +10,7 @@ ghost use Rattle.chain.specs.Job.{Job, jobOf, processors};
 ghost use Rattle.chain.specs.Heuristic.{heuristic};
 ghost use Rattle.parts.specs.Prefix.{Ready};
 ghost use Rattle.parts.specs.Rising.{Rising};
-ghost use Rattle.heuristic.specs.Target.{firstAtLeast, FirstAbove, nearestTo, Target, FirstPast};
+ghost use Rattle.heuristic.specs.Target.{firstAtLeast, FirstAbove, nearestIn, PastFrom};
 use parts::last_at_most;
 use parts::last_far;
 use parts::narrow;
@@ -18,22 +18,22 @@ use parts::narrow_load;
 use parts::total;
 use parts::wide;
 
-// Inner. The first index from i to n whose entry is above the target over the total, n + 1 if there is none. The one before i is not.
-fn first_past(sums: &[u32], n: usize, i: usize, total: u64, target: u64) -> usize
+// Inner. The first index from i to n whose entry is above the target over the factor, n + 1 if there is none. The one before i is not.
+pub fn first_past(sums: &[u32], n: usize, i: usize, factor: u64, target: u64) -> usize
     requires { ⌜ Rising (now sums) n ⌝ }
-    requires { ⌜ (1 ≤ total) × (target / total < 2 ^ 32) ⌝ }
-    requires { ⌜ (1 ≤ i) × (i ≤ suc n) × (getD (now sums) (i - 1) 0 ≤ target / total) ⌝ }
-    ensures { λ r. ⌜ FirstAbove (now (sums .entry)) i n (target / total) r ⌝ }
+    requires { ⌜ (1 ≤ factor) × (target / factor < 2 ^ 32) ⌝ }
+    requires { ⌜ (1 ≤ i) × (i ≤ suc n) × (getD (now sums) (i - 1) 0 ≤ target / factor) ⌝ }
+    ensures { λ r. ⌜ FirstAbove (now (sums .entry)) i n (target / factor) r ⌝ }
 {
-    last_at_most(sums, i - 1, n, narrow_load(target / total)) + 1
+    last_at_most(sums, i - 1, n, narrow_load(target / factor)) + 1
 }
 
-// Inner. Whether high, past the target, is nearer to it than low, not past it, both times all speed.
-fn high_nearer(low: u64, high: u64, total: u64, target: u64) -> bool
-    requires { ⌜ (low * total ≤ target) × (target ≤ high * total) × (high * total < 2 ^ 64) ⌝ }
-    ensures { λ r. ⌜ r ≡ ltb (distance (high * total) target) (distance (low * total) target) ⌝ }
+// Inner. Whether high, past the target, is nearer to it than low, not past it, both times the factor.
+fn high_nearer(low: u64, high: u64, factor: u64, target: u64) -> bool
+    requires { ⌜ (low * factor ≤ target) × (target ≤ high * factor) × (high * factor < 2 ^ 64) ⌝ }
+    ensures { λ r. ⌜ r ≡ ltb (distance (high * factor) target) (distance (low * factor) target) ⌝ }
 {
-    high * total - target < target - low * total
+    high * factor - target < target - low * factor
 }
 
 // Inner. The smallest index from a to b whose prefix sum is at least the limit, b if there is none. Most often it is b: the one
@@ -54,28 +54,17 @@ fn first_level(sums: &[u32], a: usize, b: usize, limit: u32) -> usize
     a
 }
 
-// Inner. The smallest index nearest to the target, which is not before s; the first index past the target is known.
-fn nearest_from(
-    speeds: &[u32],
-    weights: &[u32],
-    sums: &[u32],
-    s: usize,
-    past: usize,
-    total: u64,
-    target: u64,
-) -> usize
-    ghost { Job }
-    requires { λ job. ⌜ jobOf (now speeds) (now weights) ≡ job ⌝ }
-    requires { λ job. ⌜ Ready job (now sums) ⌝ }
-    requires { λ job. ⌜ Target job total target ⌝ }
-    requires { λ job. ⌜ FirstPast job target past ⌝ }
-    requires { λ job. ⌜ s ≤ nearestTo job target ⌝ }
-    ensures { λ job r. ⌜ r ≡ nearestTo job target ⌝ }
+// Inner. The smallest index from s to n nearest to the target; the first index past the target is known.
+pub fn nearest_in(sums: &[u32], s: usize, n: usize, past: usize, factor: u64, target: u64) -> usize
+    requires { ⌜ Rising (now sums) n ⌝ }
+    requires { ⌜ (1 ≤ factor) × (getD (now sums) n 0 * factor < 2 ^ 64) ⌝ }
+    requires { ⌜ PastFrom (now sums) factor target s n past ⌝ }
+    ensures { λ r. ⌜ r ≡ nearestIn (now (sums .entry)) factor target s n ⌝ }
 {
     let before = past - 1;
     let low = sums[before];
-    if past <= weights.len() {
-        if high_nearer(wide(low), wide(sums[past]), total, target) {
+    if past <= n {
+        if high_nearer(wide(low), wide(sums[past]), factor, target) {
             return past;
         }
     }
@@ -103,7 +92,7 @@ pub fn heuristic_in(speeds: &[u32], weights: &[u32], sums: &[u32], separators: &
         p += 1;
         let target = weight * speed;
         past = first_past(sums, weights.len(), past, all_speed, target);
-        s = nearest_from(speeds, weights, sums, s, past, all_speed, target);
+        s = nearest_in(sums, s, weights.len(), past, all_speed, target);
         separators[p] = narrow(s);
     }
     separators[last + 1] = narrow(weights.len());

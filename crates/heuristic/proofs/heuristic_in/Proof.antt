@@ -9,7 +9,7 @@ use Rattle.chain.specs.Job.{jobOf}
 use Rattle.chain.proofs.Ranges.{index-fits}
 use Rattle.parts.proofs.Laws.{speeds-add-up, prefix-rising}
 use Rattle.heuristic.specs.Target.{FirstPast}
-use Rattle.heuristic.proofs.Laws.{total-positive, cap-fits, start-below, first-past-of, Placed, speed-fits, placed-start, placed-fits, placed-target, placed-behind, placed-near, placed-narrow, placed-turn, placed-end}
+use Rattle.heuristic.proofs.Laws.{total-positive, cap-fits, start-below, first-past-of, Placed, speed-fits, placed-start, placed-fits, placed-target, placed-behind, placed-products, placed-past, placed-found, placed-narrow, placed-turn, placed-end}
 use Rattle.heuristic.proofs.heuristic_in.Statement.{statement}
 use Rattle.heuristic.proofs.heuristic_in.Tie as tie
 
@@ -90,19 +90,19 @@ past-is c =
     let e = c .before .wide2 .ensures in
     first-past-of (s .pre .0) (placed-target v w h e) (placed-behind v w h e) (c .first-past .ensures)
 
-nearest-from-requires : tie.Need-nearest-from-requires Inv-loop μ-loop
-nearest-from-requires c κs =
+nearest-in-requires : tie.Need-nearest-in-requires Inv-loop μ-loop
+nearest-in-requires c κs =
     let s = c .before .before .before .before .before .before .before .before .before .before .before .before in
     let v = s .pre .0 .valid in
     let w = c .before .before .before .before .loop .inv in
     let h = c .before .before .before .loop-test .taken in
     let e = c .before .wide2 .ensures in
-    (s .pre .0, (placed-target v w h e, (past-is c, placed-near v w h e)))
+    (prefix-rising (s .pre .0 .prefix), ((total-positive (s .pre .0) (placed-target v w h e), placed-products v w h e (s .pre .0)), placed-past v w h e (s .pre .0) (past-is c)))
 
 narrow-requires : tie.Need-narrow-requires Inv-loop μ-loop
 narrow-requires c κs =
     let s = c .before .before .before .before .before .before .before .before .before .before .before .before .before in
-    placed-narrow (s .pre .0 .valid) (c .before .before .before .before .before .loop .inv) (c .before .before .before .before .loop-test .taken) (c .before .before .wide2 .ensures) (past-is (c .before)) (c .nearest-from .ensures)
+    placed-narrow (s .pre .0 .valid) (c .before .before .before .before .before .loop .inv) (c .before .before .before .before .loop-test .taken) (c .before .before .wide2 .ensures) (past-is (c .before)) (placed-found (s .pre .0 .valid) (c .before .before .before .before .before .loop .inv) (c .before .before .before .before .loop-test .taken) (c .before .before .wide2 .ensures) (s .pre .0) (c .nearest-in .ensures))
 
 mul-separators : tie.Need-mul-separators Inv-loop μ-loop
 mul-separators c = omega arith
@@ -116,7 +116,7 @@ loop-less c = omega arith
 loop-again : tie.Need-loop-again Inv-loop μ-loop
 loop-again c =
     let s = c .before .before .before .before .before .before .before .before .before .before .before .before .before .before in
-    placed-turn (s .pre .0 .valid) (c .before .before .before .before .before .before .loop .inv) (c .before .before .before .before .before .loop-test .taken) (c .before .before .before .wide2 .ensures) (past-is (c .before .before)) (c .before .nearest-from .ensures) (c .narrow .ensures)
+    placed-turn (s .pre .0 .valid) (c .before .before .before .before .before .before .loop .inv) (c .before .before .before .before .before .loop-test .taken) (c .before .before .before .wide2 .ensures) (past-is (c .before .before)) (placed-found (s .pre .0 .valid) (c .before .before .before .before .before .before .loop .inv) (c .before .before .before .before .before .loop-test .taken) (c .before .before .before .wide2 .ensures) (s .pre .0) (c .before .nearest-in .ensures)) (c .narrow .ensures)
 
 narrow-requires-2 : tie.Need-narrow-requires-2 Inv-loop μ-loop
 narrow-requires-2 c κs =
@@ -162,7 +162,7 @@ heuristic-in-spec =
     add-p
     mul-target
     first-past-requires
-    nearest-from-requires
+    nearest-in-requires
     narrow-requires
     mul-separators
     slice-write-separators-2

@@ -24,7 +24,7 @@ sub-result-2 c = search needs
 returns : tie.Need-returns
 returns c =
     let a = c .args in
-    test-is _ (distance (a .high * a .total) (a .target)) (distance (a .low * a .total) (a .target)) (λ e. omega (arith, leb-true, ltb-true))
+    test-is _ (distance (a .high * a .factor) (a .target)) (distance (a .low * a .factor) (a .target)) (λ e. omega (arith, leb-true, ltb-true))
     (λ e. omega (arith, leb-false, ltb-false))
 
 pub high-nearer-spec : {M : Type 1} → statement M
