@@ -47,6 +47,24 @@ power-of-two n = (
     again : (k : ℕ) → T (eqb (2 ^ levels (2 ^ k)) (2 ^ k))
     again k = subst (λ (l : ℕ). T (eqb (2 ^ l) (2 ^ k))) (sym (levels-power k)) (eqb-refl (2 ^ k))
 
+-- A power of two above 1, and its half.
+pub record Halved (n : ℕ) : Type 0 where
+  pub doublings : ℕ
+  pub whole : levels n ≡ suc doublings
+  pub half : levels (n / 2) ≡ doublings
+  pub power : 2 ^ doublings ≡ n / 2
+  pub twice : n ≡ n / 2 + n / 2
+
+pub halved-power : (n : ℕ) → 2 ^ levels n ≡ n → 1 < n → Halved n
+halved-power n e h = go (levels n) refl
+  where
+    go : (l : ℕ) → levels n ≡ l → Halved n
+    go zero f = absurd (let x : 2 ^ 0 ≡ n = subst (λ (i : ℕ). 2 ^ i ≡ n) f e in let z : ⊥ = omega arith in z)
+    go (suc k) f =
+        let x : 2 ^ suc k ≡ n = subst (λ (i : ℕ). 2 ^ i ≡ n) f e in
+        let y : 2 ^ k ≡ n / 2 = omega arith in
+        record { doublings = k; whole = f; half = subst (λ (i : ℕ). levels i ≡ k) y (levels-power k); power = y; twice = omega arith }
+
 -- By halving: an even number is a power of two exactly where its half is, an odd one above 1 is none, and 1 is one.
 pub power-even : (n : ℕ) → 1 ≤ n → n % 2 ≡ 0 → powerOfTwo n ≡ powerOfTwo (n / 2)
 power-even n h e =
@@ -227,7 +245,7 @@ module _ (job : Job) where
 
 module _ (job : Job) (row : Halvable (job .speeds)) where
   -- It is halved as often as its number of processors was doubled.
-  processors-power : 2 ^ levels (processors job) ≡ processors job
+  pub processors-power : 2 ^ levels (processors job) ≡ processors job
   processors-power = ap (λ (n : ℕ). 2 ^ levels n) (row .power) ∙ ap (λ (n : ℕ). 2 ^ n) (levels-power (row .doublings)) ∙ sym (row .power)
 
   halved : Halves job (processors job) 0 (tasks job) (halving job)

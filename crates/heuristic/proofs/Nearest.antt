@@ -116,7 +116,7 @@ module _ {xs : List ℕ} {factor target s n g : ℕ} (rising : Rising xs n) (som
   unfolding nearestIn
   in-high h nearer =
       let l : SmallestLeast (λ d. offIn xs factor target (s + d)) (n - s) (g - s) =
-          high-least times s n target g times-grows (p .some) (p .to) (p .below) (p .above) (p .from) h nearer
+      high-least times s n target g times-grows (p .some) (p .to) (p .below) (p .above) (p .from) h nearer
       in
       omega (arith, smallest-least-unique l, p .from)
 
@@ -139,7 +139,7 @@ module _ {xs : List ℕ} {factor target s n g : ℕ} (rising : Rising xs n) (som
       go : (q : ℕ) → Smallest f s (g - 1 - s) q → q ≡ s + smallestLeast (λ d. offIn xs factor target (s + d)) (n - s)
       go q y =
           let l : SmallestLeast (λ d. offIn xs factor target (s + d)) (n - s) (q - s) =
-              low-least times s n target g times-grows (p .some) (p .to) (p .below) (p .above) near q (y .from) within (ap (λ (w : ℕ). w * factor) same) less
+          low-least times s n target g times-grows (p .some) (p .to) (p .below) (p .above) near q (y .from) within (ap (λ (w : ℕ). w * factor) same) less
           in
           omega (arith, smallest-least-unique l, y .from)
         where
@@ -255,11 +255,11 @@ module _ {job : Job} {xs : List ℕ} (r : Ready job xs) where
   nearest-hinted target s h =
       let y = nearest-to-is job target in
       let l : SmallestLeast (λ d. offIn xs (totalSpeed job) target (s + d)) (tasks job - s) (m - s) =
-          record {
-            to = omega (arith, y .to);
-            least = λ k i. rw (here, off-is target (s + k) (omega arith)) (y .least (s + k) (omega arith));
-            before = λ k i. rw (here, off-is target (s + k) (omega (arith, y .to))) (y .before (s + k) (omega arith));
-          }
+      record {
+        to = omega (arith, y .to);
+        least = λ k i. rw (here, off-is target (s + k) (omega arith)) (y .least (s + k) (omega arith));
+        before = λ k i. rw (here, off-is target (s + k) (omega (arith, y .to))) (y .before (s + k) (omega arith));
+      }
       in
       omega (arith, smallest-least-unique l, y .to)
     where
