@@ -11,14 +11,17 @@ use lib.Dec.{T}
 use lib.ListN.{length, take, drop, length-append}
 use borrow.Author.Tests.{ne-eqb}
 use Rattle.bound.specs.declared.Bound.{Bound}
-use Rattle.chain.specs.Job.{Job, Valid, processors, bottleneck}
+use Rattle.chain.specs.Job.{Job, Valid, Partition, processors, bottleneck}
 use Rattle.chain.specs.declared.Outcome.{Outcome}
 use Rattle.chain.specs.declared.Outcome.the-variants.{Fits, Fails}
 use Rattle.chain.specs.Probe.{walk, fits, nextBid, probe}
 use Rattle.chain.specs.Heuristic.{heuristic}
-use Rattle.chain.specs.Refusal.{measureInputs, refusal}
+use Rattle.chain.specs.Halving.{halving}
+use Rattle.chain.specs.Refusal.{Inputs, measureInputs, halvingInputs, refusal}
 use Rattle.chain.proofs.Parts.{valid-proper}
 use Rattle.chain.proofs.Heuristic.{heuristic-partition}
+use Rattle.chain.proofs.Halving.{halving-partition}
+use Rattle.refusals.specs.Answers.{lentAfter}
 use Rattle.refusals.specs.Inputs.{probeInputs, heuristicInputs}
 use Rattle.refusals.proofs.Lent.{lent-front, lent-kept}
 use Rattle.refusals.proofs.Accepted.{passed}
@@ -29,7 +32,7 @@ use Rattle.calls.specs.declared.Measured.{Measured}
 use Rattle.calls.specs.declared.Measured.the-variants.{Bottleneck, Refused}
 use Rattle.calls.specs.declared.Probed.{Probed}
 use Rattle.calls.specs.declared.Probed.the-variants.{Answered, Refused as ProbeRefused}
-use Rattle.calls.specs.Answers.{measuredOf, measureAnswer, probedOf, probeAnswer, probeWrites, heuristicAnswer, heuristicWrites}
+use Rattle.calls.specs.Answers.{measuredOf, measureAnswer, probedOf, probeAnswer, probeWrites, heuristicAnswer, heuristicWrites, halvingAnswer, halvingWrites}
 
 -- A list in whose front a walk was written has P + 1 entries.
 pub walk-room : {job : Job} (B : Bound) {xs : List ℕ} (l : List ℕ) → Valid job → xs ≡ walk job B ++ l → processors job + 1 ≤ length xs
@@ -81,21 +84,44 @@ module _ (job : Job) (s : List ℕ) where
   unfolding measureAnswer
   measure-accepted e z f = measured-accepted (sym e ∙ z) f
 
-  -- What the heuristic answers, and the list then.
+  -- What a call answers that divides the job by d, and the list then.
+  module _ (inputs : Inputs) (d : List ℕ) where
+    divides-refused : {n : ℕ} → n ≡ refusal job inputs → n ≢ 0
+        → (Refused n ≡ measuredOf (refusal job inputs) (bottleneck job d)) × (s ≡ lentAfter (refusal job inputs) d s)
+    divides-refused e h = (measured-refused (bottleneck job d) e h, lent-kept d s e h)
+
+    divides-accepted : {n : ℕ} → n ≡ refusal job inputs → n ≡ 0 → Partition job d → {B : Bound} {now : List ℕ} → B ≡ bottleneck job d
+        → now ≡ d ++ drop (suc (processors job)) s
+        → (Bottleneck B ≡ measuredOf (refusal job inputs) (bottleneck job d)) × (now ≡ lentAfter (refusal job inputs) d s)
+    divides-accepted e z pa f g = (measured-accepted (sym e ∙ z) f, g ∙ sym (lent-front d s (sym e ∙ z) (pa .count)))
+
+  -- The heuristic,
   abbrev pub Guessed : Measured → List ℕ → Type 0
   Guessed r now = (r ≡ heuristicAnswer job s) × (now ≡ heuristicWrites job s)
 
   pub heuristic-refused : {n : ℕ} → n ≡ refusal job (heuristicInputs job (length s)) → n ≢ 0 → Guessed (Refused n) s
   unfolding heuristicAnswer heuristicWrites
-  heuristic-refused e h = (measured-refused (bottleneck job (heuristic job)) e h, lent-kept (heuristic job) s e h)
+  heuristic-refused e h = divides-refused (heuristicInputs job (length s)) (heuristic job) e h
 
   pub heuristic-accepted : {n : ℕ} → n ≡ refusal job (heuristicInputs job (length s)) → n ≡ 0 → {B : Bound} {now : List ℕ} → B ≡ bottleneck job (heuristic job)
       → now ≡ heuristic job ++ drop (suc (processors job)) s → Guessed (Bottleneck B) now
   unfolding heuristicAnswer heuristicWrites
-  heuristic-accepted e z f g = (
-    measured-accepted (sym e ∙ z) f,
-    g ∙ sym (lent-front (heuristic job) s (sym e ∙ z) (heuristic-partition (valid-proper ((passed e z) .valid)) .count)),
-  )
+  heuristic-accepted e z f g =
+      divides-accepted (heuristicInputs job (length s)) (heuristic job) e z (heuristic-partition (valid-proper ((passed e z) .valid))) f g
+
+  -- and halving the row.
+  abbrev pub Halved : Measured → List ℕ → Type 0
+  Halved r now = (r ≡ halvingAnswer job s) × (now ≡ halvingWrites job s)
+
+  pub halving-refused : {n : ℕ} → n ≡ refusal job (halvingInputs job (length s)) → n ≢ 0 → Halved (Refused n) s
+  unfolding halvingAnswer halvingWrites
+  halving-refused e h = divides-refused (halvingInputs job (length s)) (halving job) e h
+
+  pub halving-accepted : {n : ℕ} → n ≡ refusal job (halvingInputs job (length s)) → n ≡ 0 → {B : Bound} {now : List ℕ} → B ≡ bottleneck job (halving job)
+      → now ≡ halving job ++ drop (suc (processors job)) s → Halved (Bottleneck B) now
+  unfolding halvingAnswer halvingWrites
+  halving-accepted e z f g =
+      divides-accepted (halvingInputs job (length s)) (halving job) e z (halving-partition job ((passed e z) .rows .0)) f g
 
   -- What a probe answers, and the list then.
   module _ (B : Bound) where

@@ -1,6 +1,6 @@
--- What a caller may read off the answers of the three calls and off the list that they leave.
+-- What a caller may read off the answers of the four calls and off the list that they leave.
 -- Assumes nothing.
-use Prim.Native.Nat.{ℕ, suc}
+use Prim.Native.Nat.{ℕ, suc, _+_, _*_, _≤_, _<_}
 use mathlib.Core.Path.{_≡_, refl, sym, ap, subst, _∙_}
 use mathlib.Core.Bool.{Bool, true, false, not, cond}
 use mathlib.Core.List.{List, [], _∷_, _++_, List·Memᴰ}
@@ -11,18 +11,22 @@ use lib.ListN.{length, take, drop}
 use lib.Seq.{drop-at}
 use Rattle.bound.specs.declared.Bound.{Bound}
 use Rattle.bound.specs.Order.{over, plus, _≼_, _≺_}
-use Rattle.chain.specs.Job.{Job, Valid, Partition, Within, processors, heaviest, slowest, ideal, bottleneck}
+use Rattle.chain.specs.Job.{Job, Valid, Partition, Within, processors, last, partLoad, totalWeight, heaviest, slowest, ideal, at, bottleneck}
 use Rattle.chain.specs.declared.Outcome.{Outcome}
 use Rattle.chain.specs.declared.Outcome.the-variants.{Fits, Fails}
 use Rattle.chain.specs.Probe.{walk, fits, nextBid, probe}
 use Rattle.chain.specs.Heuristic.{heuristic}
-use Rattle.chain.specs.Refusal.{speedsTest, weightsTest, processorsTest, tasksTest, lengthTest, boundTest, partitionTest, FirstFailing, jobTests, measureInputs, callTests, refusal}
+use Rattle.chain.specs.Halving.{Halvable, halving}
+use Rattle.chain.specs.Plan.{planOf}
+use Rattle.chain.specs.Refusal.{speedsTest, weightsTest, processorsTest, tasksTest, rowTest, lengthTest, boundTest, partitionTest, FirstFailing, jobTests, Inputs, measureInputs, halvingInputs, callTests, refusal}
 use Rattle.chain.proofs.Tests.{T-true, T-false}
 use Rattle.chain.proofs.Refusals.{gives, given-number}
 use Rattle.chain.proofs.Parts.{Proper, valid-proper, valid-plannable}
 use Rattle.chain.proofs.Walk as walks
 use Rattle.chain.proofs.NextBid as bids
 use Rattle.chain.proofs.Heuristic.{heuristic-partition, heuristic-bound}
+use Rattle.chain.proofs.Halving.{halving-partition, halving-bound, halving-greatest}
+use Rattle.chain.proofs.Demand.{plan-of-best}
 use Rattle.refusals.specs.Inputs.{probeInputs, heuristicInputs}
 use Rattle.refusals.specs.Answers.{saidBy, boundValues, lentAfter}
 use Rattle.refusals.proofs.Accepted.{accepted}
@@ -30,7 +34,7 @@ use Rattle.refusals.proofs.Answering.{said-choice, number-of}
 use Rattle.refusals.proofs.Lent.{lent-refused, lent-front}
 use Rattle.calls.specs.declared.Measured.the-variants.{Bottleneck, Refused}
 use Rattle.calls.specs.declared.Probed.the-variants.{Answered, Refused as ProbeRefused}
-use Rattle.calls.specs.Answers.{measuredSaid, outcomeValues, probedSaid, measuredOf, measureAnswer, probedOf, probeAnswer, probeWrites, heuristicAnswer, heuristicWrites}
+use Rattle.calls.specs.Answers.{measuredSaid, outcomeValues, probedSaid, measuredOf, measureAnswer, probedOf, probeAnswer, probeWrites, heuristicAnswer, heuristicWrites, halvingAnswer, halvingWrites}
 use Rattle.parts.proofs.Front.{taken, front-partition}
 use Rattle.probe.proofs.Answer.{outcome-fits, fits-outcome, fails-outcome}
 
@@ -79,6 +83,32 @@ module _ (job : Job) (s : List ℕ) where
   unfolding measureAnswer
   measure-promise e = let m = measured-bottleneck e in ((accepted (m .0)) .divisions .0, m .1)
 
+-- A call that divides the job by d: a bottleneck is given for d alone, and the list then begins with it.
+module _ (job : Job) (s : List ℕ) (inputs : Inputs) (d : List ℕ) where
+  record Divided (C : Bound) : Type 0 where
+    passed : refusal job inputs ≡ 0
+    measured : C ≡ bottleneck job d
+    front : Partition job d → take (suc (processors job)) (lentAfter (refusal job inputs) d s) ≡ d
+    behind : Partition job d → drop (suc (processors job)) (lentAfter (refusal job inputs) d s) ≡ drop (suc (processors job)) s
+
+  divided : {C : Bound} → measuredOf (refusal job inputs) (bottleneck job d) ≡ Bottleneck C → Divided C
+  divided {C} e =
+      record {
+        passed = m .0;
+        measured = m .1;
+        front = λ pa. taken d rest (pa .count) (written pa);
+        behind = λ pa. ap (drop (suc (processors job))) (written pa) ∙ drop-at d rest (suc (processors job)) (pa .count);
+      }
+    where
+      m : (refusal job inputs ≡ 0) × (C ≡ bottleneck job d)
+      m = measured-bottleneck e
+
+      rest : List ℕ
+      rest = drop (suc (processors job)) s
+
+      written : Partition job d → lentAfter (refusal job inputs) d s ≡ d ++ rest
+      written pa = lent-front d s (m .0) (pa .count)
+
 -- The heuristic.
 module _ (job : Job) (s : List ℕ) where
   pub heuristic-said : measuredSaid (heuristicAnswer job s)
@@ -115,26 +145,85 @@ module _ (job : Job) (s : List ℕ) where
   unfolding heuristicAnswer heuristicWrites
   heuristic-promise {C} e =
       record {
-        partition = front-partition (heuristic job) rest pa written;
-        measured = m .1 ∙ ap (bottleneck job) (sym (taken (heuristic job) rest (pa .count) written));
-        close = subst (λ (B : Bound). B ≼ plus (ideal job) (over (heaviest job) (slowest job))) (sym (m .1)) (heuristic-bound (valid-proper v));
-        behind = ap (drop (suc (processors job))) written ∙ drop-at (heuristic job) rest (suc (processors job)) (pa .count);
+        partition = subst (Partition job) (sym (w .front pa)) pa;
+        measured = w .measured ∙ ap (bottleneck job) (sym (w .front pa));
+        close = subst (λ (B : Bound). B ≼ plus (ideal job) (over (heaviest job) (slowest job))) (sym (w .measured)) (heuristic-bound (valid-proper v));
+        behind = w .behind pa;
       }
     where
-      m : (refusal job (heuristicInputs job (length s)) ≡ 0) × (C ≡ bottleneck job (heuristic job))
-      m = measured-bottleneck e
+      w : Divided job s (heuristicInputs job (length s)) (heuristic job) C
+      w = divided job s (heuristicInputs job (length s)) (heuristic job) e
 
       v : Valid job
-      v = (accepted (m .0)) .valid
+      v = (accepted (w .passed)) .valid
 
       pa : Partition job (heuristic job)
       pa = heuristic-partition (valid-proper v)
 
-      rest : List ℕ
-      rest = drop (suc (processors job)) s
+-- Halving the row.
+module _ (job : Job) (s : List ℕ) where
+  pub halving-said : measuredSaid (halvingAnswer job s)
+      ≡ saidBy (refusal job (halvingInputs job (length s))) (boundValues (bottleneck job (halving job)))
+  unfolding halvingAnswer
+  halving-said = measured-said (refusal job (halvingInputs job (length s))) (bottleneck job (halving job))
 
-      written : lentAfter (refusal job (heuristicInputs job (length s))) (heuristic job) s ≡ heuristic job ++ rest
-      written = lent-front (heuristic job) s (m .0) (pa .count)
+  pub halving-number : (measuredSaid (halvingAnswer job s)) .number ≡ refusal job (halvingInputs job (length s))
+  halving-number = number-of (boundValues (bottleneck job (halving job))) halving-said
+
+  -- 0, or one of 5 to 9 and 14; that of the first test that fails.
+  pub halving-numbers : List·Memᴰ ((measuredSaid (halvingAnswer job s)) .number) (0 ∷ 5 ∷ 6 ∷ 7 ∷ 8 ∷ 14 ∷ 9 ∷ [])
+  unfolding refusal callTests jobTests speedsTest weightsTest processorsTest tasksTest rowTest lengthTest
+  halving-numbers = given-number (5 ∷ 6 ∷ 7 ∷ 8 ∷ 14 ∷ 9 ∷ []) (callTests job (halvingInputs job (length s))) halving-number tt
+
+  pub halving-gives : {n : ℕ} → n ≢ 0
+      → ((measuredSaid (halvingAnswer job s)) .number ≡ n) ↔ FirstFailing (callTests job (halvingInputs job (length s))) n
+  unfolding refusal
+  halving-gives h = gives (callTests job (halvingInputs job (length s))) halving-number h
+
+  -- A refusal leaves the list as it was.
+  pub halving-keeps : refusal job (halvingInputs job (length s)) ≢ 0 → halvingWrites job s ≡ s
+  unfolding halvingWrites
+  halving-keeps h = lent-refused h (halving job) s
+
+  -- The list then begins with the halved row, a partition, whose bottleneck is given: P times its load is at most Wtot + heaviest × (P − 1), and
+  -- it is the greatest load; no plan has a greater bottleneck; one processor takes all.
+  pub record Splits (C : Bound) : Type 0 where
+    pub row : Halvable (job .speeds)
+    pub front : take (suc (processors job)) (halvingWrites job s) ≡ halving job
+    pub partition : Partition job (halving job)
+    pub measured : C ≡ bottleneck job (halving job)
+    pub light : processors job * C .load ≤ totalWeight job + heaviest job * last job
+    pub greatest : (p : ℕ) → p < processors job → partLoad job (at (halving job) p) (at (halving job) (suc p)) ≤ C .load
+    pub least : bottleneck job (planOf job) ≼ C
+    pub behind : drop (suc (processors job)) (halvingWrites job s) ≡ drop (suc (processors job)) s
+
+  pub halving-promise : {C : Bound} → halvingAnswer job s ≡ Bottleneck C → Splits C
+  unfolding halvingAnswer halvingWrites
+  halving-promise {C} e =
+      record {
+        row = row;
+        front = w .front pa;
+        partition = pa;
+        measured = w .measured;
+        light = subst (λ (B : Bound). processors job * B .load ≤ totalWeight job + heaviest job * last job) (sym (w .measured)) (halving-bound job row (valid-proper v));
+        greatest = λ p h.
+            subst (λ (B : Bound). partLoad job (at (halving job) p) (at (halving job) (suc p)) ≤ B .load) (sym (w .measured))
+            (halving-greatest job row (valid-proper v) p h);
+        least = subst (λ (B : Bound). bottleneck job (planOf job) ≼ B) (sym (w .measured)) ((plan-of-best (valid-plannable v)) .least (halving job) pa);
+        behind = w .behind pa;
+      }
+    where
+      w : Divided job s (halvingInputs job (length s)) (halving job) C
+      w = divided job s (halvingInputs job (length s)) (halving job) e
+
+      v : Valid job
+      v = (accepted (w .passed)) .valid
+
+      row : Halvable (job .speeds)
+      row = (accepted (w .passed)) .rows .0
+
+      pa : Partition job (halving job)
+      pa = halving-partition job row
 
 -- The probe.
 answered : {n : ℕ} {r o : Outcome} → probedOf n r ≡ Answered o → (n ≡ 0) × (r ≡ o)

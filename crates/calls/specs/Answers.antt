@@ -1,5 +1,5 @@
--- What measuring, the probe and the heuristic answer, and what they leave in the lent list of separators: each one definition
--- on the whole input, refusals included. Scope, sections 2, 3, 4 and 8.
+-- What measuring, the probe, the heuristic and halving the row answer, and what they leave in the lent list of separators: each one
+-- definition on the whole input, refusals included. Scope, sections 2, 3, 4, 8 and 16.
 use Prim.Native.Nat.{ℕ, suc}
 use mathlib.Core.Bool.{cond}
 use mathlib.Core.List.{List, []}
@@ -11,7 +11,8 @@ use Rattle.chain.specs.declared.Outcome.the-variants.{Fits, Fails}
 use Rattle.chain.specs.Job.{Job, processors, bottleneck}
 use Rattle.chain.specs.Probe.{walk, fits, probe}
 use Rattle.chain.specs.Heuristic.{heuristic}
-use Rattle.chain.specs.Refusal.{measureInputs, refusal}
+use Rattle.chain.specs.Halving.{halving}
+use Rattle.chain.specs.Refusal.{measureInputs, halvingInputs, refusal}
 use Rattle.refusals.specs.Inputs.{probeInputs, heuristicInputs}
 use Rattle.refusals.specs.Answers.{Said, accepting, alone, boundValues, lentAfter}
 use Rattle.calls.specs.declared.Measured.{Measured}
@@ -19,7 +20,7 @@ use Rattle.calls.specs.declared.Measured.the-variants.{Bottleneck, Refus
 use Rattle.calls.specs.declared.Probed.{Probed}
 use Rattle.calls.specs.declared.Probed.the-variants.{Answered, Refused as ProbeRefused}
 
--- Measuring and the heuristic say the bottleneck;
+-- Measuring, the heuristic and halving the row say the bottleneck;
 abbrev pub measuredSaid : Measured → Said
 measuredSaid (Bottleneck B) = accepting (boundValues B)
 measuredSaid (Refused number) = alone number
@@ -33,7 +34,7 @@ abbrev pub probedSaid : Probed → Said
 probedSaid (Answered outcome) = accepting (outcomeValues outcome)
 probedSaid (ProbeRefused number) = alone number
 
--- The answer of measuring and of the heuristic by the number of the refusal: the bottleneck, or that number.
+-- The answer of measuring, of the heuristic and of halving the row by the number of the refusal: the bottleneck, or that number.
 unfoldable pub measuredOf : ℕ → Bound → Measured
 measuredOf number B = cond (eqb number 0) (Bottleneck B) (Refused number)
 
@@ -59,3 +60,10 @@ heuristicAnswer job s = measuredOf (refusal job (heuristicInputs job (length s))
 
 unfoldable pub heuristicWrites : Job → List ℕ → List ℕ
 heuristicWrites job s = lentAfter (refusal job (heuristicInputs job (length s))) (heuristic job) s
+
+-- Scope 16.6: "The separators are written, and their bottleneck is the answer."
+unfoldable pub halvingAnswer : Job → List ℕ → Measured
+halvingAnswer job s = measuredOf (refusal job (halvingInputs job (length s))) (bottleneck job (halving job))
+
+unfoldable pub halvingWrites : Job → List ℕ → List ℕ
+halvingWrites job s = lentAfter (refusal job (halvingInputs job (length s))) (halving job) s

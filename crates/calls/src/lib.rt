@@ -1,5 +1,5 @@
-// The callable functions on a job by lists: measuring, the probe ("trial") and the heuristic ("quick plan").
-// These three have no `requires`: their tests are inside, and nothing lent is written before the last test has passed. The inner
+// The callable functions on a job by lists: measuring, the probe ("trial"), the heuristic ("quick plan") and halving the row.
+// These four have no `requires`: their tests are inside, and nothing lent is written before the last test has passed. The inner
 // functions below them ask for what has been tested.
 ghost use Prim.Native.Nat.{suc, _+_, _≤_, _<_};
 ghost use mathlib.Core.Path.{_≡_};
@@ -10,22 +10,26 @@ ghost use Rattle.chain.specs.Job.{Job, jobOf, Valid, processors, Partition, bot
 ghost use Rattle.chain.specs.Probe as trial;
 ghost use Rattle.chain.specs.Probe.{walk, fits};
 ghost use Rattle.chain.specs.Heuristic as quick;
+ghost use Rattle.chain.specs.Halving as row;
+ghost use Rattle.chain.specs.Halving.{Halvable};
 ghost use Rattle.chain.specs.Ranges.{Lendable};
 ghost use Rattle.parts.specs.Prefix.{Ready};
-ghost use Rattle.calls.specs.Answers.{measureAnswer, probeAnswer, probeWrites, heuristicAnswer, heuristicWrites};
+ghost use Rattle.calls.specs.Answers.{measureAnswer, probeAnswer, probeWrites, heuristicAnswer, heuristicWrites, halvingAnswer, halvingWrites};
 use bound::Bound;
 use chain::Outcome;
+use halving::halving_in;
 use heuristic::heuristic_in;
 use parts::measure_in;
 use parts::prefix_sums;
 use probe::probe_in;
 use refusals::MAX_PROCESSORS;
 use refusals::MAX_TASKS;
+use refusals::test_halving;
 use refusals::test_heuristic;
 use refusals::test_measure;
 use refusals::test_probe;
 
-// The answer of measuring and of the heuristic: the bottleneck, or the refusal's number.
+// The answer of measuring, of the heuristic and of halving the row: the bottleneck, or the refusal's number.
 pub enum Measured {
     Bottleneck(Bound),
     Refused(u32),
@@ -169,4 +173,37 @@ pub fn heuristic(speeds: &[u32], weights: &[u32], separators: &mut [u32]) -> Mea
         return Measured::Refused(number);
     }
     Measured::Bottleneck(heuristic_tested(speeds, weights, separators))
+}
+
+// Inner. Writes the separators of the halved row and gives their bottleneck.
+fn halving_tested(speeds: &[u32], weights: &[u32], separators: &mut [u32]) -> Bound
+    ghost { Job }
+    requires { λ job. ⌜ jobOf (now speeds) (now weights) ≡ job ⌝ }
+    requires { λ job. ⌜ Valid job ⌝ }
+    requires { λ job. ⌜ Halvable (now speeds) ⌝ }
+    requires { λ job. ⌜ processors job < length (now separators) ⌝ }
+    ensures { λ job r. ⌜ r ≡ bottleneck job (row.halving job) ⌝ }
+    ensures { λ job r. ⌜ now (separators .exit) ≡ row.halving job ++ drop (suc (processors job)) (now (separators .entry)) ⌝ }
+{
+    let mut sums = [0u32; MAX_TASKS + 1];
+    prefix_sums(weights, &mut sums);
+    halving_in(speeds, weights, &sums, separators);
+    measure_in(speeds, weights, &sums, separators)
+}
+
+// Halving the row: its bottleneck, or the refusal: 5, 6, 7, 8, 14 or 9, in this order. It writes the P + 1 separators, a refusal
+// writes nothing. Later entries stay.
+pub fn halving(speeds: &[u32], weights: &[u32], separators: &mut [u32]) -> Measured
+    ensures answer { λ r.
+        let job = jobOf (now (speeds .entry)) (now (weights .entry)) in
+        ⌜ r ≡ halvingAnswer job (now (separators .entry)) ⌝ }
+    ensures separators { λ _.
+        let job = jobOf (now (speeds .entry)) (now (weights .entry)) in
+        ⌜ now (separators .exit) ≡ halvingWrites job (now (separators .entry)) ⌝ }
+{
+    let number = test_halving(speeds, weights, separators.len());
+    if number != 0 {
+        return Measured::Refused(number);
+    }
+    Measured::Bottleneck(halving_tested(speeds, weights, separators))
 }
