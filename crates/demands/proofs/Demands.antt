@@ -14,7 +14,7 @@ use Rattle.chain.specs.Job.{Job, jobOf, bottleneck}
 use Rattle.chain.specs.Plan.{planOf, Best}
 use Rattle.chain.specs.Probe as probing
 use Rattle.chain.specs.Heuristic as guessing
-use Rattle.chain.specs.Refusal.{Test, eachBetween, methodTest, speedsTest, weightsTest, processorsTest, tasksTest, lengthTest, boundTest, partitionTest, planLengthTest, joinedTest, trueTest, firstRefusal, jobTests, planTests, callTests, refusal, measureInputs}
+use Rattle.chain.specs.Refusal.{Test, eachBetween, methodTest, speedsTest, weightsTest, processorsTest, tasksTest, rowTest, lengthTest, boundTest, partitionTest, planLengthTest, joinedTest, trueTest, firstRefusal, jobTests, planTests, callTests, refusal, measureInputs, halvingInputs}
 use Rattle.chain.proofs.Demand.{plan-of-best}
 use Rattle.chain.proofs.Parts.{valid-plannable}
 use Rattle.chain.proofs.Refusals.{Numbered, numbered-nil, numbered-cons, numbered-append, job-numbered, call-numbered, plan-numbered, accepted-passes, passes-accepted, gives}
@@ -35,7 +35,7 @@ use Rattle.jobs.proofs.Promises.{read-numbers, write-numbers}
 use Rattle.calls.specs.declared.Probed.the-variants.{Answered}
 use Rattle.calls.specs.declared.Measured.the-variants.{Bottleneck}
 use Rattle.calls.specs.Answers.{measuredOf, probedOf, probeAnswer, heuristicAnswer}
-use Rattle.calls.proofs.Promises.{measure-said, measure-numbers, heuristic-said, heuristic-number, heuristic-numbers, heuristic-keeps, heuristic-promise, probe-said, probe-number, probe-numbers, probe-keeps, probe-fits-exactly, probe-fitted}
+use Rattle.calls.proofs.Promises.{measure-said, measure-numbers, heuristic-said, heuristic-number, heuristic-numbers, heuristic-keeps, heuristic-promise, halving-said, halving-numbers, halving-keeps, probe-said, probe-number, probe-numbers, probe-keeps, probe-fits-exactly, probe-fitted}
 use Rattle.planfile.specs.PlanFile.{planBytes, planRead, gradeInputs}
 use Rattle.planfile.specs.Answers.{writePlanBytes}
 use Rattle.planfile.proofs.Promises.{write-plan-said, write-plan-numbers}
@@ -50,7 +50,7 @@ use Rattle.planner.proofs.Numbers.{plan-numbers, host-numbers, host-plan, host-
 use Rattle.listing.specs.Answers.{listTests, listRefusal}
 use Rattle.listing.proofs.Promises.{list-said, list-numbers, list-keeps}
 use Rattle.jobs.proofs.Taken.{Taken, read-taken, taken-job}
-use Rattle.demands.specs.Call.{Call, TestJob, ReadJob, WriteJob, Measure, Probe, Heuristic, Plan, WritePlan, Grade, ListJob, PlanJob, GradePlan, said, values, tests, numbers, recordsOrder, fileOrder, order, lent, Leaves}
+use Rattle.demands.specs.Call.{Call, TestJob, ReadJob, WriteJob, Measure, Probe, Heuristic, Halving, Plan, WritePlan, Grade, ListJob, PlanJob, GradePlan, said, values, tests, numbers, recordsOrder, fileOrder, order, lent, Leaves}
 use Rattle.demands.specs.Demands.{number, Accepts, DemandOne, front, SomeWithin, Trial, QuickPlan, WrittenBack, DemandTwo, PlanLeft, HostLeft, DemandThree}
 
 -- Demand 1. What each call says;
@@ -62,6 +62,7 @@ says (WriteJob es ws file) = write-said (jobOf es ws) (length file)
 says (Measure es ws s) = measure-said (jobOf es ws) s
 says (Probe es ws B s) = probe-said (jobOf es ws) B s
 says (Heuristic es ws s) = heuristic-said (jobOf es ws) s
+says (Halving es ws s) = halving-said (jobOf es ws) s
 says (Plan m es ws s t) = plan-said (jobOf es ws) m s t
 says (WritePlan es ws s plan) = write-plan-said (jobOf es ws) s (length plan)
 says (Grade es ws plan) = grade-said (jobOf es ws) plan
@@ -95,7 +96,7 @@ file-ordered file =
     ∙ ap (λ (ns : List ℕ). ns ++ 7 ∷ 8 ∷ []) (records-ordered file (recordCount file)))
 
 ordered : (call : Call) → numbersOf (tests call) ≡ order call
-unfolding readTests hostTests hostFileTests listTests gradeTests planTests callTests jobTests methodTest speedsTest weightsTest processorsTest tasksTest lengthTest boundTest partitionTest planLengthTest joinedTest trueTest
+unfolding readTests hostTests hostFileTests listTests gradeTests planTests callTests jobTests methodTest speedsTest weightsTest processorsTest tasksTest rowTest lengthTest boundTest partitionTest planLengthTest joinedTest trueTest
 ordered (TestJob es ws) = refl
 ordered (ReadJob file es ws) =
     numbers-after (fileTests file) (lengthTest (length (weightsOf file)) (length ws) ∷ lengthTest (length (speedsOf file)) (length es) ∷ [])
@@ -104,6 +105,7 @@ ordered (WriteJob es ws file) = refl
 ordered (Measure es ws s) = refl
 ordered (Probe es ws B s) = refl
 ordered (Heuristic es ws s) = refl
+ordered (Halving es ws s) = refl
 ordered (Plan m es ws s t) = refl
 ordered (WritePlan es ws s plan) = refl
 ordered (Grade es ws plan) = refl
@@ -123,6 +125,7 @@ listed (WriteJob es ws file) = write-numbers (jobOf es ws) (length file)
 listed (Measure es ws s) = measure-numbers (jobOf es ws) s
 listed (Probe es ws B s) = probe-numbers (jobOf es ws) B s
 listed (Heuristic es ws s) = heuristic-numbers (jobOf es ws) s
+listed (Halving es ws s) = halving-numbers (jobOf es ws) s
 listed (Plan m es ws s t) = plan-numbers (jobOf es ws) m s t
 listed (WritePlan es ws s plan) = write-plan-numbers (jobOf es ws) s (length plan)
 listed (Grade es ws plan) = grade-numbers (jobOf es ws) plan
@@ -130,7 +133,7 @@ listed (ListJob file out) = list-numbers file out
 listed (PlanJob file m plan) = host-numbers file m (length plan)
 listed (GradePlan file plan grade) = host-grade-numbers file plan (length grade)
 
-ranged : (call : Call) → T (eachBetween 1 13 (numbers call))
+ranged : (call : Call) → T (eachBetween 1 14 (numbers call))
 unfolding eachBetween
 ranged (TestJob es ws) = tt
 ranged (ReadJob file es ws) = tt
@@ -138,6 +141,7 @@ ranged (WriteJob es ws file) = tt
 ranged (Measure es ws s) = tt
 ranged (Probe es ws B s) = tt
 ranged (Heuristic es ws s) = tt
+ranged (Halving es ws s) = tt
 ranged (Plan m es ws s t) = tt
 ranged (WritePlan es ws s plan) = tt
 ranged (Grade es ws plan) = tt
@@ -154,6 +158,7 @@ numbered (WriteJob es ws file) = call-numbered (jobOf es ws) (writeInputs (jobOf
 numbered (Measure es ws s) = call-numbered (jobOf es ws) (measureInputs (jobOf es ws) s)
 numbered (Probe es ws B s) = call-numbered (jobOf es ws) (probeInputs (jobOf es ws) B (length s))
 numbered (Heuristic es ws s) = call-numbered (jobOf es ws) (heuristicInputs (jobOf es ws) (length s))
+numbered (Halving es ws s) = call-numbered (jobOf es ws) (halvingInputs (jobOf es ws) (length s))
 numbered (Plan m es ws s t) = call-numbered (jobOf es ws) (planInputs (jobOf es ws) m (length s) (length t))
 numbered (WritePlan es ws s plan) = call-numbered (jobOf es ws) (writePlanInputs (jobOf es ws) s (length plan))
 numbered (Grade es ws plan) = call-numbered (jobOf es ws) (gradeInputs (jobOf es ws) plan)
@@ -171,6 +176,7 @@ kept (WriteJob es ws file) h left e = e ∙ ap (λ (x : List ℕ). x ∷ []) (le
 kept (Measure es ws s) h left e = e
 kept (Probe es ws B s) h left e = e ∙ ap (λ (x : List ℕ). x ∷ []) (probe-keeps (jobOf es ws) B s h)
 kept (Heuristic es ws s) h left e = e ∙ ap (λ (x : List ℕ). x ∷ []) (heuristic-keeps (jobOf es ws) s h)
+kept (Halving es ws s) h left e = e ∙ ap (λ (x : List ℕ). x ∷ []) (halving-keeps (jobOf es ws) s h)
 kept (Plan m es ws s t) h left (t′, a, e) =
     e ∙ ap₂ (λ (x y : List ℕ). x ∷ y ∷ []) (plan-keeps (jobOf es ws) m s t h) (a .refused h)
 kept (WritePlan es ws s plan) h left e =

@@ -1,3 +1,4 @@
 pub mod Demands
 pub mod Grades
 pub mod Limit
+pub mod Halvings

@@ -13,7 +13,7 @@ use borrow.Author.Tests.{le-leb}
 use Rattle.chain.specs.Limits.{maxProcessors}
 use Rattle.chain.specs.Job.{Job, processors, speedOf}
 use Rattle.chain.specs.Plan.{planOf, Best}
-use Rattle.chain.specs.Refusal.{Test, test, between, methodTest, speedsTest, weightsTest, processorsTest, tasksTest, lengthTest, boundTest, partitionTest, planLengthTest, joinedTest, trueTest, firstRefusal, jobTests, planTests, callTests, refusal}
+use Rattle.chain.specs.Refusal.{Test, test, between, methodTest, speedsTest, weightsTest, processorsTest, tasksTest, rowTest, lengthTest, boundTest, partitionTest, planLengthTest, joinedTest, trueTest, firstRefusal, jobTests, planTests, callTests, refusal}
 use Rattle.chain.proofs.Best.{best-unique}
 use Rattle.chain.proofs.Refusals.{Numbered, numbered-tail, pass-head, pass-skip}
 use Rattle.chain.proofs.Tests.{and-right}
@@ -25,7 +25,7 @@ use Rattle.jobs.specs.Answers.{readTests, readRefusal, readSpeeds, readWeights,
 use Rattle.jobs.specs.Inner.{Counted}
 use Rattle.jobs.proofs.Reading.{accepted-multiple, accepted-counts, file-early}
 use Rattle.jobs.proofs.RoundTrip.{accepted-valid}
-use Rattle.calls.specs.Answers.{probeWrites, heuristicWrites}
+use Rattle.calls.specs.Answers.{probeWrites, heuristicWrites, halvingWrites}
 use Rattle.planfile.specs.PlanFile.{planRead}
 use Rattle.planfile.specs.Answers.{writePlanBytes}
 use Rattle.grading.specs.Files.{gradeTests, gradeRefusal, hostGrade, hostGrades}
@@ -35,7 +35,7 @@ use Rattle.listing.specs.Room.{roomFor, listingRoom}
 use Rattle.listing.specs.Listing.{listingOf, intakeFor, intake, listing}
 use Rattle.listing.specs.Answers.{listTests, listRefusal, listWrites}
 use Rattle.listing.proofs.Listings.{listed-whole}
-use Rattle.demands.specs.Call.{Call, TestJob, ReadJob, WriteJob, Measure, Probe, Heuristic, Plan, WritePlan, Grade, ListJob, PlanJob, GradePlan, values, tests, recordsOrder, fileOrder, order, Leaves}
+use Rattle.demands.specs.Call.{Call, TestJob, ReadJob, WriteJob, Measure, Probe, Heuristic, Halving, Plan, WritePlan, Grade, ListJob, PlanJob, GradePlan, values, tests, recordsOrder, fileOrder, order, Leaves}
 use Rattle.demands.specs.Demands.{Accepts}
 use Rattle.demands.specs.Limit.{processorsIn, limited, limitedTo, numberWith, LeavesBy, Counts, listingWith, Alike, AnyLimit}
 use Rattle.demands.proofs.Demands.{tested, numbered, demand-one, left}
@@ -72,7 +72,7 @@ file-and file ts e =
 
 -- and those of every call.
 call-ours : (call : Call) → limitedTo maxProcessors (processorsIn call) (tests call) ≡ tests call
-unfolding readTests hostTests hostFileTests listTests gradeTests planTests callTests jobTests methodTest speedsTest weightsTest processorsTest tasksTest lengthTest boundTest partitionTest planLengthTest joinedTest trueTest
+unfolding readTests hostTests hostFileTests listTests gradeTests planTests callTests jobTests methodTest speedsTest weightsTest processorsTest tasksTest rowTest lengthTest boundTest partitionTest planLengthTest joinedTest trueTest
 call-ours (TestJob es ws) = refl
 call-ours (ReadJob file es ws) =
     file-and file (lengthTest (length (weightsOf file)) (length ws) ∷ lengthTest (length (speedsOf file)) (length es) ∷ []) refl
@@ -80,6 +80,7 @@ call-ours (WriteJob es ws file) = refl
 call-ours (Measure es ws s) = refl
 call-ours (Probe es ws B s) = refl
 call-ours (Heuristic es ws s) = refl
+call-ours (Halving es ws s) = refl
 call-ours (Plan m es ws s t) = refl
 call-ours (WritePlan es ws s plan) = refl
 call-ours (Grade es ws plan) = refl
@@ -91,13 +92,14 @@ call-ours (GradePlan file plan grade) =
 
 -- What a call leaves is by the number that it gives.
 left-by : (call : Call) (left : List (List ℕ)) → LeavesBy (firstRefusal (tests call)) call left ↔ Leaves call left
-unfolding readRefusal refusal planRefusal hostAnswer listRefusal hostGrade gradeRefusal readSpeeds readWeights writeBytes probeWrites heuristicWrites planWrites writePlanBytes listWrites bytesAfter hostWrites hostGrades
+unfolding readRefusal refusal planRefusal hostAnswer listRefusal hostGrade gradeRefusal readSpeeds readWeights writeBytes probeWrites heuristicWrites halvingWrites planWrites writePlanBytes listWrites bytesAfter hostWrites hostGrades
 left-by (TestJob es ws) left = (λ e. e, λ e. e)
 left-by (ReadJob file es ws) left = (λ e. e, λ e. e)
 left-by (WriteJob es ws file) left = (λ e. e, λ e. e)
 left-by (Measure es ws s) left = (λ e. e, λ e. e)
 left-by (Probe es ws B s) left = (λ e. e, λ e. e)
 left-by (Heuristic es ws s) left = (λ e. e, λ e. e)
+left-by (Halving es ws s) left = (λ e. e, λ e. e)
 left-by (Plan m es ws s t) left = (λ e. e, λ e. e)
 left-by (WritePlan es ws s plan) left = (λ e. e, λ e. e)
 left-by (Grade es ws plan) left = (λ e. e, λ e. e)
@@ -150,6 +152,7 @@ in-order (WriteJob es ws file) c = c
 in-order (Measure es ws s) c = c
 in-order (Probe es ws B s) c = c
 in-order (Heuristic es ws s) c = c
+in-order (Halving es ws s) c = c
 in-order (Plan m es ws s t) c = Memᴰ·append-left (9 ∷ []) c
 in-order (WritePlan es ws s plan) c = List·Memᴰ·tail (List·Memᴰ·tail (List·Memᴰ·head refl))
 in-order (Grade es ws plan) c = c

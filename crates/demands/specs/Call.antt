@@ -8,13 +8,14 @@ use Rattle.bound.specs.declared.Bound.{Bound}
 use Rattle.chain.specs.Job.{jobOf, bottleneck}
 use Rattle.chain.specs.Probe as probing
 use Rattle.chain.specs.Heuristic as guessing
-use Rattle.chain.specs.Refusal.{Test, firstRefusal, jobTests, measureInputs, callTests}
+use Rattle.chain.specs.Halving as splitting
+use Rattle.chain.specs.Refusal.{Test, firstRefusal, jobTests, measureInputs, halvingInputs, callTests}
 use Rattle.refusals.specs.Methods.{chosenOf}
 use Rattle.refusals.specs.Inputs.{planNeeded, bytesNeeded, probeInputs, heuristicInputs, planInputs, writeInputs, writePlanInputs}
 use Rattle.refusals.specs.Answers.{Said, alone, boundValues, writtenSaid}
 use Rattle.jobs.specs.Parse.{recordCount, speedsOf, weightsOf}
 use Rattle.jobs.specs.Answers.{readSaid, readTests, readAnswer, readSpeeds, readWeights, writeAnswer, writeBytes}
-use Rattle.calls.specs.Answers.{measuredSaid, outcomeValues, probedSaid, measureAnswer, probeAnswer, probeWrites, heuristicAnswer, heuristicWrites}
+use Rattle.calls.specs.Answers.{measuredSaid, outcomeValues, probedSaid, measureAnswer, probeAnswer, probeWrites, heuristicAnswer, heuristicWrites, halvingAnswer, halvingWrites}
 use Rattle.planfile.specs.Answers.{writePlanAnswer, writePlanBytes}
 use Rattle.planfile.specs.PlanFile.{gradeInputs}
 use Rattle.grading.specs.Answers.{gradedSaid, readGrade, gradeAnswer}
@@ -32,6 +33,7 @@ pub data Call : Type 0 where
   Measure : (speeds weights separators : List ℕ) → Call
   Probe : (speeds weights : List ℕ) (bound : Bound) (separators : List ℕ) → Call
   Heuristic : (speeds weights separators : List ℕ) → Call
+  Halving : (speeds weights separators : List ℕ) → Call
   Plan : (method : ℕ) (speeds weights separators scratch : List ℕ) → Call
   WritePlan : (speeds weights separators plan : List ℕ) → Call
   Grade : (speeds weights plan : List ℕ) → Call
@@ -47,6 +49,7 @@ said (WriteJob es ws file) = writtenSaid (writeAnswer (jobOf es ws) (length file
 said (Measure es ws s) = measuredSaid (measureAnswer (jobOf es ws) s)
 said (Probe es ws B s) = probedSaid (probeAnswer (jobOf es ws) B s)
 said (Heuristic es ws s) = measuredSaid (heuristicAnswer (jobOf es ws) s)
+said (Halving es ws s) = measuredSaid (halvingAnswer (jobOf es ws) s)
 said (Plan m es ws s t) = plannedSaid (planAnswer (jobOf es ws) m s t)
 said (WritePlan es ws s plan) = writtenSaid (writePlanAnswer (jobOf es ws) s (length plan))
 said (Grade es ws plan) = gradedSaid (gradeAnswer (jobOf es ws) plan)
@@ -62,6 +65,7 @@ values (WriteJob es ws file) = bytesNeeded (jobOf es ws) ∷ []
 values (Measure es ws s) = boundValues (bottleneck (jobOf es ws) (take (suc (length es)) s))
 values (Probe es ws B s) = outcomeValues (probing.probe (jobOf es ws) B)
 values (Heuristic es ws s) = boundValues (bottleneck (jobOf es ws) (guessing.heuristic (jobOf es ws)))
+values (Halving es ws s) = boundValues (bottleneck (jobOf es ws) (splitting.halving (jobOf es ws)))
 values (Plan m es ws s t) = chosenValues (jobOf es ws) (chosenOf m)
 values (WritePlan es ws s plan) = planNeeded (jobOf es ws) ∷ []
 values (Grade es ws plan) = (gradedSaid (readGrade (jobOf es ws) plan)) .values
@@ -77,6 +81,7 @@ tests (WriteJob es ws file) = callTests (jobOf es ws) (writeInputs (jobOf es ws)
 tests (Measure es ws s) = callTests (jobOf es ws) (measureInputs (jobOf es ws) s)
 tests (Probe es ws B s) = callTests (jobOf es ws) (probeInputs (jobOf es ws) B (length s))
 tests (Heuristic es ws s) = callTests (jobOf es ws) (heuristicInputs (jobOf es ws) (length s))
+tests (Halving es ws s) = callTests (jobOf es ws) (halvingInputs (jobOf es ws) (length s))
 tests (Plan m es ws s t) = callTests (jobOf es ws) (planInputs (jobOf es ws) m (length s) (length t))
 tests (WritePlan es ws s plan) = callTests (jobOf es ws) (writePlanInputs (jobOf es ws) s (length plan))
 tests (Grade es ws plan) = callTests (jobOf es ws) (gradeInputs (jobOf es ws) plan)
@@ -92,6 +97,7 @@ numbers (WriteJob es ws file) = 5 ∷ 6 ∷ 7 ∷ 8 ∷ 9 ∷ []
 numbers (Measure es ws s) = 5 ∷ 6 ∷ 7 ∷ 8 ∷ 9 ∷ 11 ∷ []
 numbers (Probe es ws B s) = 5 ∷ 6 ∷ 7 ∷ 8 ∷ 9 ∷ 10 ∷ []
 numbers (Heuristic es ws s) = 5 ∷ 6 ∷ 7 ∷ 8 ∷ 9 ∷ []
+numbers (Halving es ws s) = 5 ∷ 6 ∷ 7 ∷ 8 ∷ 14 ∷ 9 ∷ []
 numbers (Plan m es ws s t) = 1 ∷ 5 ∷ 6 ∷ 7 ∷ 8 ∷ 9 ∷ []
 numbers (WritePlan es ws s plan) = 5 ∷ 6 ∷ 7 ∷ 8 ∷ 9 ∷ 11 ∷ []
 numbers (Grade es ws plan) = 5 ∷ 6 ∷ 7 ∷ 8 ∷ 12 ∷ 11 ∷ 13 ∷ []
@@ -107,7 +113,7 @@ recordsOrder (suc n) = recordsOrder n ++ 3 ∷ 4 ∷ 5 ∷ 6 ∷ []
 unfoldable pub fileOrder : List ℕ → List ℕ
 fileOrder file = 2 ∷ (recordsOrder (recordCount file) ++ 7 ∷ 8 ∷ [])
 
--- Scope 8.2: "The tests are made in the order of the numbers, but 12 before 11": the number of each test, 9 for each list that is lent.
+-- Scope 8.2: "The tests are made in the order of the numbers, but 14 after 8 and 12 before 11": the number of each test, 9 for each list that is lent.
 abbrev pub order : Call → List ℕ
 order (TestJob es ws) = numbers (TestJob es ws)
 order (ReadJob file es ws) = fileOrder file ++ 9 ∷ 9 ∷ []
@@ -115,6 +121,7 @@ order (WriteJob es ws file) = numbers (WriteJob es ws file)
 order (Measure es ws s) = numbers (Measure es ws s)
 order (Probe es ws B s) = numbers (Probe es ws B s)
 order (Heuristic es ws s) = numbers (Heuristic es ws s)
+order (Halving es ws s) = numbers (Halving es ws s)
 order (Plan m es ws s t) = numbers (Plan m es ws s t) ++ 9 ∷ []
 order (WritePlan es ws s plan) = 5 ∷ 6 ∷ 7 ∷ 8 ∷ 9 ∷ 9 ∷ 11 ∷ []
 order (Grade es ws plan) = numbers (Grade es ws plan)
@@ -130,6 +137,7 @@ lent (WriteJob es ws file) = file ∷ []
 lent (Measure es ws s) = []
 lent (Probe es ws B s) = s ∷ []
 lent (Heuristic es ws s) = s ∷ []
+lent (Halving es ws s) = s ∷ []
 lent (Plan m es ws s t) = s ∷ t ∷ []
 lent (WritePlan es ws s plan) = plan ∷ []
 lent (Grade es ws plan) = []
@@ -145,6 +153,7 @@ Leaves (WriteJob es ws file) left = left ≡ writeBytes (jobOf es ws) file ∷ [
 Leaves (Measure es ws s) left = left ≡ []
 Leaves (Probe es ws B s) left = left ≡ probeWrites (jobOf es ws) B s ∷ []
 Leaves (Heuristic es ws s) left = left ≡ heuristicWrites (jobOf es ws) s ∷ []
+Leaves (Halving es ws s) left = left ≡ halvingWrites (jobOf es ws) s ∷ []
 Leaves (Plan m es ws s t) left =
     (t′ : List ℕ) × ScratchAfter (planRefusal (jobOf es ws) m (length s) (length t)) (jobOf es ws) t t′
     × (left ≡ planWrites (jobOf es ws) m s t ∷ t′ ∷ [])

@@ -44,10 +44,10 @@ Accepts call = number call ≡ 0
 pub record DemandOne (call : Call) : Type 0 where
   -- Scope 10.1: "gets an answer or a refusal": these values where all tests pass, else the number of the first that fails.
   pub says : said call ≡ saidBy (firstRefusal (tests call)) (values call)
-  -- The number is 0 or one of its row, all of which are from 1 to 13.
+  -- The number is 0 or one of its row, all of which are from 1 to 14.
   pub listed : List·Memᴰ (number call) (0 ∷ numbers call)
-  pub ranged : T (eachBetween 1 13 (numbers call))
-  -- Scope 8.2: "The tests are made in the order of the numbers, but 12 before 11"
+  pub ranged : T (eachBetween 1 14 (numbers call))
+  -- Scope 8.2: "The tests are made in the order of the numbers, but 14 after 8 and 12 before 11"
   pub ordered : map (λ t. t .number) (tests call) ≡ order call
   -- A number is given exactly where it is that of the first test that fails; 0 exactly where all pass.
   pub first : (n : ℕ) → n ≢ 0 → (number call ≡ n) ↔ FirstFailing (tests call) n

@@ -2,3 +2,4 @@ pub mod Call
 pub mod Demands
 pub mod Grades
 pub mod Limit
+pub mod Halvings

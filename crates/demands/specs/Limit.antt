@@ -10,6 +10,7 @@ use Rattle.chain.specs.Limits.{maxProcessors}
 use Rattle.chain.specs.Job.{Job, jobOf, processors, speedOf}
 use Rattle.chain.specs.Probe as probing
 use Rattle.chain.specs.Heuristic as guessing
+use Rattle.chain.specs.Halving as splitting
 use Rattle.chain.specs.Plan.{planOf, Best}
 use Rattle.chain.specs.Refusal.{Test, test, between, firstRefusal}
 use Rattle.refusals.specs.Answers.{Said, saidBy, lentAfter}
@@ -20,7 +21,7 @@ use Rattle.grading.specs.Answers.{gradedSaid, readGrade}
 use Rattle.planner.specs.Answers.{planWrites, ScratchAfter}
 use Rattle.listing.specs.Room.{roomFor, listingRoom}
 use Rattle.listing.specs.Listing.{listingOf, intakeFor, listing}
-use Rattle.demands.specs.Call.{Call, TestJob, ReadJob, WriteJob, Measure, Probe, Heuristic, Plan, WritePlan, Grade, ListJob, PlanJob, GradePlan, said, values, tests, numbers, Leaves}
+use Rattle.demands.specs.Call.{Call, TestJob, ReadJob, WriteJob, Measure, Probe, Heuristic, Halving, Plan, WritePlan, Grade, ListJob, PlanJob, GradePlan, said, values, tests, numbers, Leaves}
 use Rattle.demands.specs.Demands.{Accepts, front}
 
 -- How many machines the job of a call has.
@@ -31,6 +32,7 @@ processorsIn (WriteJob es ws file) = length es
 processorsIn (Measure es ws s) = length es
 processorsIn (Probe es ws B s) = length es
 processorsIn (Heuristic es ws s) = length es
+processorsIn (Halving es ws s) = length es
 processorsIn (Plan m es ws s t) = length es
 processorsIn (WritePlan es ws s plan) = length es
 processorsIn (Grade es ws plan) = length es
@@ -62,6 +64,7 @@ LeavesBy number (Measure es ws s) left = left ≡ []
 LeavesBy number (Probe es ws B s) left =
     left ≡ cond (probing.fits (jobOf es ws) B) (lentAfter number (probing.walk (jobOf es ws) B) s) s ∷ []
 LeavesBy number (Heuristic es ws s) left = left ≡ lentAfter number (guessing.heuristic (jobOf es ws)) s ∷ []
+LeavesBy number (Halving es ws s) left = left ≡ lentAfter number (splitting.halving (jobOf es ws)) s ∷ []
 LeavesBy number (Plan m es ws s t) left =
     (t′ : List ℕ) × ScratchAfter number (jobOf es ws) t t′ × (left ≡ lentAfter number (planOf (jobOf es ws)) s ∷ t′ ∷ [])
 LeavesBy number (WritePlan es ws s plan) left = left ≡ lentAfter number (planBytes (jobOf es ws) (front (jobOf es ws) s)) plan ∷ []

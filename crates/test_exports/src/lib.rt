@@ -10,7 +10,7 @@ ghost use Rattle.jobs.specs.Answers.{readSaid};
 ghost use Rattle.calls.specs.Answers.{measuredSaid, probedSaid, probeAnswer};
 ghost use Rattle.grading.specs.Answers.{gradedSaid};
 ghost use Rattle.planner.specs.Answers.{plannedSaid};
-ghost use Rattle.demands.specs.Call.{TestJob, ReadJob, WriteJob, Measure, Probe, Heuristic, Plan, WritePlan, Grade, ListJob, PlanJob};
+ghost use Rattle.demands.specs.Call.{TestJob, ReadJob, WriteJob, Measure, Probe, Heuristic, Halving, Plan, WritePlan, Grade, ListJob, PlanJob};
 ghost use Rattle.demands.specs.Call.{GradePlan};
 ghost use Rattle.demands.specs.Call.{said, Leaves};
 ghost use Rattle.demands.specs.Demands.{number};
@@ -18,6 +18,7 @@ ghost use Rattle.test_exports.specs.Answer.{boundPut, saidPut, outcomePu
 use bound::Bound;
 use calls::Measured;
 use calls::Probed;
+use calls::halving;
 use calls::heuristic;
 use calls::measure;
 use calls::probe;
@@ -129,7 +130,7 @@ fn put_planned(answer: &mut [u64], planned: Planned) -> u32
     }
 }
 
-// Inner. What measuring and the heuristic answer.
+// Inner. What measuring, the heuristic and halving the row answer.
 fn put_measured(answer: &mut [u64], measured: Measured) -> u32
     ensures number { λ r. ⌜ r ≡ (measuredSaid measured) .number ⌝ }
     ensures answer { λ _. ⌜ now (answer .exit) ≡ saidPut (measuredSaid measured) (now (answer .entry)) ⌝ }
@@ -294,6 +295,28 @@ pub extern "C" fn exported_heuristic(
         ⌜ now (answer .exit) ≡ saidPut (said call) (now (answer .entry)) ⌝ }
 {
     let measured = heuristic(speeds, weights, separators);
+    put_measured(answer, measured)
+}
+
+// The answer: the bottleneck's load, speed.
+#[no_mangle]
+pub extern "C" fn exported_halving(
+    speeds: &[u32],
+    weights: &[u32],
+    separators: &mut [u32],
+    answer: &mut [u64],
+) -> u32
+    ensures number { λ r.
+        let call = Halving (now (speeds .entry)) (now (weights .entry)) (now (separators .entry)) in
+        ⌜ r ≡ number call ⌝ }
+    ensures left { λ _.
+        let call = Halving (now (speeds .entry)) (now (weights .entry)) (now (separators .entry)) in
+        ⌜ Leaves call (now (separators .exit) ∷ []) ⌝ }
+    ensures answer { λ _.
+        let call = Halving (now (speeds .entry)) (now (weights .entry)) (now (separators .entry)) in
+        ⌜ now (answer .exit) ≡ saidPut (said call) (now (answer .entry)) ⌝ }
+{
+    let measured = halving(speeds, weights, separators);
     put_measured(answer, measured)
 }
 

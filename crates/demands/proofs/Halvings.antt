@@ -1,0 +1,142 @@
+-- What halving the row gives: `halvings`.
+-- Assumes nothing.
+use Prim.Native.Nat.{ℕ, suc, _≤_, _<_}
+use mathlib.Core.Path.{_≡_, refl, sym, ap, subst, _∙_}
+use mathlib.Core.Bool.{Bool, true, false, not, _||_}
+use mathlib.Core.List.{List, [], _∷_, _++_, List·Memᴰ, List·Memᴰ·not-nil, List·Memᴰ·cases-cons}
+use mathlib.Core.Logic.{_≢_, _↔_, inl, inr}
+use native.Mathlib.Omega.{arith}
+use native.Mathlib.Decide.{ℕ-discrete}
+use lib.Dec.{T, eqb}
+use borrow.Author.Tests.{eq-eqb}
+use lib.ListN.{length}
+use Rattle.bound.specs.declared.Bound.{Bound}
+use Rattle.chain.specs.Job.{Job, jobOf, Valid, Partition, processors, partLoad, at, bottleneck}
+use Rattle.chain.specs.Halving.{Halvable}
+use Rattle.chain.specs.Halving as splitting
+use Rattle.chain.specs.Refusal.{Test, rowTest, lengthTest, firstRefusal, jobTests, separatorsNeeded, halvingInputs, callTests, refusal}
+use Rattle.chain.proofs.Refusals.{pass-skip, first-refusal-append, first-refusal-before, refused-first, oneOf, given-number, job-numbered, job-accepted}
+use Rattle.chain.proofs.Halving.{row-test, halving-one}
+use Rattle.refusals.specs.Inputs.{heuristicInputs}
+use Rattle.refusals.proofs.Accepted.{accepted}
+use Rattle.refusals.proofs.Promises.{job-numbers}
+use Rattle.refusals.proofs.Tests.{length-enough}
+use Rattle.calls.specs.declared.Measured.the-variants.{Bottleneck}
+use Rattle.calls.specs.Answers.{measuredOf, halvingAnswer, halvingWrites}
+use Rattle.calls.proofs.Promises.{heuristic-number, halving-number, halving-promise}
+use Rattle.demands.specs.Call.{TestJob, Heuristic, Halving}
+use Rattle.demands.specs.Demands.{number, Accepts, front}
+use Rattle.demands.specs.Halvings.{HalvedRow, Halvings}
+
+halved : (es ws s : List ℕ) → Accepts (Halving es ws s) → HalvedRow (jobOf es ws) s
+unfolding halvingAnswer measuredOf
+halved es ws s e =
+    let job = jobOf es ws in
+    let bound = bottleneck job (splitting.halving job) in
+    let answer : halvingAnswer job s ≡ Bottleneck bound = ap (λ (n : ℕ). measuredOf n bound) (sym (halving-number job s) ∙ e) in
+    let g = halving-promise job s answer in
+    record {
+      bound = bound;
+      answer = answer;
+      separators = g .front;
+      partition = subst (Partition job) (sym (g .front)) (g .partition);
+      measured = g .measured ∙ ap (bottleneck job) (sym (g .front));
+      greatest = λ p h. subst (λ (l : List ℕ). partLoad job (at l p) (at l (suc p)) ≤ bound .load) (sym (g .front)) (g .greatest p h);
+      light = g .light;
+      least = g .least;
+      alone = λ h. g .front ∙ halving-one job (g .row) h;
+    }
+
+-- The tests of the call: those of the job, then the row's and the list's.
+module _ (job : Job) (lent : ℕ) where
+  row-and-list : List Test
+  row-and-list = rowTest (job .speeds) ∷ lengthTest (separatorsNeeded job) lent ∷ []
+
+  tests-are : refusal job (halvingInputs job lent) ≡ firstRefusal (jobTests job ++ row-and-list)
+  unfolding refusal callTests jobTests row-and-list
+  tests-are = refl
+
+  -- Where the job is within its limits, the row and the list decide.
+  past-job : firstRefusal (jobTests job) ≡ 0 → refusal job (halvingInputs job lent) ≡ firstRefusal row-and-list
+  past-job z = tests-are ∙ first-refusal-append (jobTests job) row-and-list (job-numbered job) z
+
+  past-row : firstRefusal (jobTests job) ≡ 0 → Halvable (job .speeds) → refusal job (halvingInputs job lent) ≡ firstRefusal (lengthTest (separatorsNeeded job) lent ∷ [])
+  unfolding row-and-list
+  past-row z row = past-job z ∙ pass-skip (rowTest (job .speeds)) (lengthTest (separatorsNeeded job) lent ∷ []) ((row-test (job .speeds)) .1 row)
+
+  row-fails : firstRefusal (jobTests job) ≡ 0 → (T ((rowTest (job .speeds)) .passes) → ⊥) → firstRefusal (jobTests job ++ row-and-list) ≡ 14
+  unfolding row-and-list rowTest
+  row-fails z none =
+      refused-first (jobTests job) (rowTest (job .speeds)) (lengthTest (separatorsNeeded job) lent ∷ []) (job-numbered job) z (go ((rowTest (job .speeds)) .passes) none)
+    where
+      go : (b : Bool) → (T b → ⊥) → b ≡ false
+      go true h = absurd (h tt)
+      go false h = refl
+
+  -- So of the heuristic, without the row's test.
+  list-is : refusal job (heuristicInputs job lent) ≡ firstRefusal (jobTests job ++ lengthTest (separatorsNeeded job) lent ∷ [])
+  unfolding refusal callTests jobTests
+  list-is = refl
+
+  past-list : firstRefusal (jobTests job) ≡ 0 → refusal job (heuristicInputs job lent) ≡ firstRefusal (lengthTest (separatorsNeeded job) lent ∷ [])
+  past-list z = list-is ∙ first-refusal-append (jobTests job) (lengthTest (separatorsNeeded job) lent ∷ []) (job-numbered job) z
+
+  accepted-list : Valid job → separatorsNeeded job ≤ lent
+      → (refusal job (heuristicInputs job lent) ≡ 0) × (Halvable (job .speeds) → refusal job (halvingInputs job lent) ≡ 0)
+  accepted-list v h =
+      let z = job-accepted .1 v in
+      let l = sym (length-enough (separatorsNeeded job) lent h) in
+      (past-list z ∙ l, λ row. past-row z row ∙ l)
+
+accepts : (es ws s : List ℕ) → Accepts (Halving es ws s) ↔ (Accepts (Heuristic es ws s) × Halvable es)
+accepts es ws s = (
+  λ e.
+      let a = accepted (sym (halving-number job s) ∙ e) in
+      (heuristic-number job s ∙ accepted-list job (length s) (a .valid) (a .lists .0) .0, a .rows .0),
+  λ (e, row).
+      let a = accepted (sym (heuristic-number job s) ∙ e) in
+      halving-number job s ∙ accepted-list job (length s) (a .valid) (a .lists .0) .1 row,
+)
+  where
+    job : Job
+    job = jobOf es ws
+
+-- A number that is none of these is none of them.
+not-one : (n : ℕ) (ns : List ℕ) → T (not (oneOf ns n)) → List·Memᴰ n ns → ⊥
+not-one n [] t m = List·Memᴰ·not-nil m
+not-one n (k ∷ ks) t m = elim (List·Memᴰ·cases-cons m) [ inl e ↦ equal (eqb n k) (eq-eqb n k e) t | inr i ↦ not-one n ks (other (eqb n k) t) i ]
+  where
+    equal : (b : Bool) → b ≡ true → T (not (b || oneOf ks n)) → ⊥
+    equal true e u = u
+    equal false e u = let z : _≡_ {A = ℕ} 0 1 = cc in omega arith
+
+    other : (b : Bool) → T (not (b || oneOf ks n)) → T (not (oneOf ks n))
+    other true u = absurd u
+    other false u = u
+
+-- 14 is no number of the list's test.
+list-number : (needed given : ℕ) → firstRefusal (lengthTest needed given ∷ []) ≡ 14 → ⊥
+unfolding lengthTest
+list-number needed given e = not-one 14 (0 ∷ 9 ∷ []) tt (given-number (9 ∷ []) (lengthTest needed given ∷ []) (sym e) tt)
+
+refuses : (es ws s : List ℕ) → (number (Halving es ws s) ≡ 14) ↔ (Accepts (TestJob es ws) × (Halvable es → ⊥))
+refuses es ws s = (
+  λ e. let z = within (sym (halving-number job s) ∙ e) in (z, λ row. list-number (separatorsNeeded job) (length s) (sym (past-row job (length s) z row) ∙ sym (halving-number job s) ∙ e)),
+  λ (z, none). halving-number job s ∙ tests-are job (length s) ∙ fourteen z none,
+)
+  where
+    job : Job
+    job = jobOf es ws
+
+    fourteen : firstRefusal (jobTests job) ≡ 0 → (Halvable es → ⊥) → firstRefusal (jobTests job ++ row-and-list job (length s)) ≡ 14
+    fourteen z none = row-fails job (length s) z (λ t. none ((row-test es) .0 t))
+
+    within : refusal job (halvingInputs job (length s)) ≡ 14 → firstRefusal (jobTests job) ≡ 0
+    within e =
+        elim (ℕ-discrete (firstRefusal (jobTests job)) 0) [
+          | yes z ↦ z
+          | no z ↦ absurd (not-one 14 (0 ∷ 5 ∷ 6 ∷ 7 ∷ 8 ∷ []) tt (subst (λ (n : ℕ). List·Memᴰ n (0 ∷ 5 ∷ 6 ∷ 7 ∷ 8 ∷ [])) (sym (first-refusal-before (jobTests job) (row-and-list job (length s)) z) ∙ sym (tests-are job (length s)) ∙ e) (job-numbers job)))
+        ]
+
+pub halvings : Halvings
+halvings = record { halved = halved; accepted = accepts; refused = refuses }
