@@ -204,7 +204,7 @@ rowL = jobOf (1 ∷ 1 ∷ 1 ∷ 1 ∷ []) (6 ∷ [])
 
 -- The rows F to L of the scope's section 16, with the quick plan of I and the plan of J. Scope 16.10: "Speeds 1 2 are refused with 14, and
 -- so are three machines of one speed, with no room for separators too." Beside them: six and 96 machines; 64, with room and without; a last
--- speed that differs; 5, 6, 7 and 8 before 14.
+-- speed that is greater or less; 5, 6, 7 and 8 before 14.
 unfoldable pub rows : List Row
 rows =
     halved (jobOf (7 ∷ []) (4 ∷ 3 ∷ 2 ∷ 6 ∷ 1 ∷ [])) (0 ∷ 5 ∷ []) (over 16 7)
@@ -224,6 +224,7 @@ rows =
     ∷ unhalved (jobOf (1 ∷ 1 ∷ 1 ∷ []) []) 4 14
     ∷ unhalved (jobOf (1 ∷ 1 ∷ 1 ∷ []) []) 0 14
     ∷ unhalved (jobOf (1 ∷ 1 ∷ 1 ∷ 2 ∷ []) []) 5 14
+    ∷ unhalved (jobOf (2 ∷ 2 ∷ 2 ∷ 1 ∷ []) []) 5 14
     ∷ unhalved (jobOf (replicate 6 1) []) 7 14
     ∷ unhalved (jobOf (replicate 64 1) []) 65 0
     ∷ unhalved (jobOf (replicate 64 1) []) 64 9

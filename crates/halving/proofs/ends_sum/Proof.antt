@@ -29,7 +29,7 @@ add-result c =
     omega (arith, c .before .shared-slice-known3 .given (s .args .b), c .before .before .before .shared-slice-known2 .given (s .args .a))
 
 returns : tie.Need-returns
-returns c = search needs
+returns c = omega arith
 
 pub ends-sum-spec : {M : Type 1} → statement M
 ends-sum-spec =
