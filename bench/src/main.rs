@@ -36,7 +36,7 @@ fn count(args: &[String]) {
         processors: number(2),
         fastest: number(3) as u32,
     };
-    contest::call_all(&shape.jobs(number(4)));
+    contest::call_all(shape, number(4));
 }
 
 fn main() {

@@ -417,7 +417,8 @@ fn allowance(method: Method, speeds: &[u32], weights: &[u32]) -> u32 {
     }
 }
 
-fn imbalance(speeds: &[u32], total: u64, bottleneck: Bound) -> u64 {
+/// In thousandths of the ideal, rounded up.
+pub fn imbalance(speeds: &[u32], total: u64, bottleneck: Bound) -> u64 {
     if total == 0 {
         return 0;
     }
@@ -467,6 +468,59 @@ pub fn heuristic(speeds: &[u32], weights: &[u32], separators: &mut [u32]) -> Res
     let sums = prefix_sums(weights, &mut room);
     quick(speeds, sums, separators);
     Ok(bottleneck(speeds, sums, separators))
+}
+
+/// The smallest index from a to b whose sum is nearest to half of the sums at a and b together. Doubled sums fit 32 bits. Between a
+/// and b the search of the standard library finds the first sum that is no less; of it and the one before the nearer is taken without
+/// a branch, which no processor could foresee.
+#[inline]
+fn half_index(sums: &[u32], a: usize, b: usize) -> usize {
+    if a == b {
+        return a;
+    }
+    let doubled = sums[a] + sums[b];
+    let half = doubled.div_ceil(2);
+    let past = a + 1 + sums[a + 1..b].partition_point(|&sum| sum < half);
+    let nearer = 2 * sums[past] - doubled < doubled - 2 * sums[past - 1];
+    let i = past - !nearer as usize;
+    if i == a || sums[i - 1] < sums[i] { i } else { first_equal(sums, a, i) }
+}
+
+/// The separators of a halved row, level by level: the searches of a level do not wait for one another, which is quicker than going
+/// down into one half after the other.
+fn halve(processors: usize, sums: &[u32], separators: &mut [u32]) {
+    let separators = &mut separators[..=processors];
+    separators[0] = 0;
+    separators[processors] = sums.len() as u32 - 1;
+    let mut reach = processors / 2;
+    while reach > 0 {
+        for middle in (reach..processors).step_by(2 * reach) {
+            let a = separators[middle - reach] as usize;
+            let b = separators[middle + reach] as usize;
+            separators[middle] = half_index(sums, a, b) as u32;
+        }
+        reach /= 2;
+    }
+}
+
+/// Halving the row, and its bottleneck: the speeds are equal, so the greatest load has it.
+pub fn halving(speeds: &[u32], weights: &[u32], separators: &mut [u32]) -> Result<Bound, u32> {
+    test_job(speeds, weights)?;
+    if !speeds.len().is_power_of_two() || !each_between(speeds[0], speeds[0], speeds) {
+        return Err(14);
+    }
+    if separators.len() <= speeds.len() {
+        return Err(9);
+    }
+    let mut room = [0; MAX_TASKS + 1];
+    let sums = prefix_sums(weights, &mut room);
+    halve(speeds.len(), sums, separators);
+    let parts = separators[..=speeds.len()].windows(2);
+    let loads = parts.map(|pair| sums[pair[1] as usize] - sums[pair[0] as usize]);
+    Ok(Bound {
+        load: loads.max().unwrap_or(0) as u64,
+        speed: speeds[0] as u64,
+    })
 }
 
 /// The trial at a lent bound: None where it fits, else the least next bid. Only a fit writes the separators.
