@@ -2,7 +2,7 @@
 //!     bench measure                         times, counts and imbalances as records, to standard output
 //!     bench count FAMILY N P FASTEST JOBS   calls each side once a job, for callgrind
 //!     bench shapes                          the shapes that are to be counted, one to a line
-//!     bench summary FILE...                 the table of docs/BENCHMARKS.md, from records
+//!     bench summary FILE...                 the two tables of docs/BENCHMARKS.md, from records
 //!     bench tables FILE...                  the further tables
 mod contest;
 mod jobs;

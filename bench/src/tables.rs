@@ -1,4 +1,4 @@
-//! The table of docs/BENCHMARKS.md and the further ones of target/benchmarks.md, from the records of a run.
+//! The two tables of docs/BENCHMARKS.md and the further ones of target/benchmarks.md, from the records of a run.
 use crate::jobs::{Family, Shape, Size};
 use crate::measure::{
     growth_with_processors, growth_with_tasks, long_row, short_row, FASTEST, HALVED_SIZES, LARGEST, PLACEMENTS, ROW_PROCESSORS, SIZES,
