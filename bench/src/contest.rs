@@ -19,7 +19,7 @@ pub struct Contest {
     pub halved: bool,
 }
 
-pub const CONTESTS: [Contest; 10] = [
+pub const CONTESTS: [Contest; 11] = [
     Contest {
         name: "table",
         sides: [("planner_table", sides::planner_table), ("plain_table", sides::plain_table)],
@@ -75,6 +75,13 @@ pub const CONTESTS: [Contest; 10] = [
     Contest {
         name: "halving",
         sides: [("planner_halving", sides::planner_halving), ("plain_halving", sides::plain_halving)],
+        answers: 2,
+        jobs: 64,
+        halved: true,
+    },
+    Contest {
+        name: "halving by sides",
+        sides: [("planner_halving", sides::planner_halving), ("plain_halvingsides", sides::plain_halvingsides)],
         answers: 2,
         jobs: 64,
         halved: true,

@@ -8,12 +8,13 @@ use crate::sides::{Job, BEST};
 pub const FASTEST: [u32; 3] = [1, 4, 16];
 /// The sizes of the ratios: N/P = 8, 32, 128. At N/P = 8 the most machines have fewer tiles than a job may have.
 pub const SIZES: [Size; 3] = [(8 * MAX_PROCESSORS, MAX_PROCESSORS), (MAX_TASKS, 64), (MAX_TASKS, 16)];
-/// The sizes of halving's ratios, N/P as above: at N/P = 8 the most machines are no power of two, so there are fewer.
-pub const HALVED_SIZES: [Size; 3] = [(512, 64), (MAX_TASKS, 64), (MAX_TASKS, 16)];
-/// How many machines the rows have whose quick plans are set beside the best plan; they are equal.
+/// The sizes of halving's ratios, N/P as above; the machines are a power of two. The first is one of the rows below.
+pub const HALVED_SIZES: [Size; 3] = [(8 * 64, 64), (MAX_TASKS, 64), (MAX_TASKS, 16)];
+/// How many machines, equal ones, the rows have whose quick plans are set beside the best plan.
 pub const ROW_PROCESSORS: [usize; 5] = [4, 8, 16, 32, 64];
 /// The contests on these rows: the four methods and both quick plans.
-const ROW_CONTESTS: [&str; 6] = ["table", "bidding", "bisection", "Nicol", "quick plan", "halving"];
+const ROW_CONTESTS: [&str; 7] =
+    ["table", "bidding", "bisection", "Nicol", "quick plan", "halving", "halving by sides"];
 /// The size of the figures in microseconds: the largest job.
 pub const LARGEST: Size = (MAX_TASKS, MAX_PROCESSORS);
 /// The place of the code of this build, of so many (see build.rs).
@@ -42,9 +43,15 @@ pub fn short_row(family: Family, processors: usize) -> Shape {
     Shape::new(family, (8 * processors, processors), 1)
 }
 
-/// Both of each family.
-fn rows() -> impl Iterator<Item = Shape> {
-    Family::ALL.into_iter().flat_map(|family| ROW_PROCESSORS.into_iter().flat_map(move |p| [long_row(family, p), short_row(family, p)]))
+/// Both, of every family and number of machines.
+fn rows() -> Vec<Shape> {
+    let mut rows = Vec::new();
+    for family in Family::ALL {
+        for processors in ROW_PROCESSORS {
+            rows.extend([long_row(family, processors), short_row(family, processors)]);
+        }
+    }
+    rows
 }
 
 /// Every shape that is measured in all contests that take it, each once.
@@ -68,10 +75,14 @@ fn shapes() -> Vec<Shape> {
 /// What is measured: each shape once, with its contests.
 fn measured() -> Vec<(Shape, Vec<&'static Contest>)> {
     let full = shapes();
-    let mut measured: Vec<(Shape, Vec<&'static Contest>)> =
-        full.iter().map(|&shape| (shape, CONTESTS.iter().filter(|contest| contest.takes(shape)).collect())).collect();
-    for shape in rows().filter(|shape| !full.contains(shape)) {
-        measured.push((shape, CONTESTS.iter().filter(|contest| ROW_CONTESTS.contains(&contest.name)).collect()));
+    let mut measured = Vec::new();
+    for &shape in &full {
+        measured.push((shape, CONTESTS.iter().filter(|contest| contest.takes(shape)).collect()));
+    }
+    for shape in rows() {
+        if !full.contains(&shape) {
+            measured.push((shape, CONTESTS.iter().filter(|contest| ROW_CONTESTS.contains(&contest.name)).collect()));
+        }
     }
     measured
 }
@@ -88,7 +99,6 @@ pub fn print_shapes() {
 fn total_weight(job: &Job) -> u64 {
     job.weights.iter().map(|&w| w as u64).sum()
 }
-
 
 /// By how much a bottleneck is above the ideal, as a part of the ideal.
 fn excess(job: &Job, found: Bound) -> f64 {

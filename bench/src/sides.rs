@@ -303,6 +303,13 @@ pub fn plain_halving(job: &Job, room: &mut Room) -> u32 {
 
 #[no_mangle]
 #[inline(never)]
+pub fn plain_halvingsides(job: &Job, room: &mut Room) -> u32 {
+    let answered = plain::halving_by_sides(&job.speeds, &job.weights, &mut room.separators);
+    plain_bottleneck(answered, room)
+}
+
+#[no_mangle]
+#[inline(never)]
 pub fn plain_trial(job: &Job, room: &mut Room) -> u32 {
     match plain::probe(&job.speeds, &job.weights, job.trial, &mut room.separators) {
         Err(number) => number,

@@ -22,7 +22,7 @@ impl Span {
 }
 
 /// A table of ratios: its title, the two sides, its shapes.
-const RATIOS: [(&str, &str, &str, Span); 10] = [
+const RATIOS: [(&str, &str, &str, Span); 11] = [
     ("Table", "planner_table", "plain_table", ALL),
     ("Bidding, plain Rust in the same resumed form", "planner_bidding", "plain_resumed", ALL),
     ("Bidding, plain Rust with every walk from machine 1", "planner_bidding", "plain_bidding", ALL),
@@ -30,7 +30,8 @@ const RATIOS: [(&str, &str, &str, Span); 10] = [
     ("Nicol's search, plain Rust by the same trial", "planner_nicol", "plain_nicoltrial", ALL),
     ("Nicol's search, plain Rust by a walk without bids", "planner_nicol", "plain_nicol", ALL),
     ("Quick plan", "planner_quick", "plain_quick", ALL),
-    ("Halving the row (9 shapes)", "planner_halving", "plain_halving", HALVED),
+    ("Halving, plain Rust level by level without branches", "planner_halving", "plain_halving", HALVED),
+    ("Halving, plain Rust one side after the other", "planner_halving", "plain_halvingsides", HALVED),
     ("Single trial", "planner_trial", "plain_trial", ALL),
     ("Grading", "planner_grade", "plain_grade", ALL),
 ];
