@@ -1,4 +1,5 @@
 //! A contest: the calls of both sides that do the same work, compared for equality, then timed in turn on the same jobs.
+use crate::jobs::Shape;
 use crate::sides::{self, Call, Job, Room};
 use std::time::{Duration, Instant};
 
@@ -14,26 +15,31 @@ pub struct Contest {
     pub answers: usize,
     /// How many jobs are gone round: many where a call is short, so that no branch is learnt by heart.
     pub jobs: usize,
+    /// Whether it is for rows alone that can be halved.
+    pub halved: bool,
 }
 
-pub const CONTESTS: [Contest; 9] = [
+pub const CONTESTS: [Contest; 11] = [
     Contest {
         name: "table",
         sides: [("planner_table", sides::planner_table), ("plain_table", sides::plain_table)],
         answers: 5,
         jobs: 12,
+        halved: false,
     },
     Contest {
         name: "bidding",
         sides: [("planner_bidding", sides::planner_bidding), ("plain_resumed", sides::plain_resumed)],
         answers: 5,
         jobs: 12,
+        halved: false,
     },
     Contest {
         name: "bidding from machine 1",
         sides: [("planner_bidding", sides::planner_bidding), ("plain_bidding", sides::plain_bidding)],
         answers: 5,
         jobs: 12,
+        halved: false,
     },
     Contest {
         name: "bisection",
@@ -43,40 +49,64 @@ pub const CONTESTS: [Contest; 9] = [
         ],
         answers: 5,
         jobs: 64,
+        halved: false,
     },
     Contest {
         name: "Nicol",
         sides: [("planner_nicol", sides::planner_nicol), ("plain_nicol", sides::plain_nicol)],
         answers: 5,
         jobs: 12,
+        halved: false,
     },
     Contest {
         name: "Nicol by the trial",
         sides: [("planner_nicol", sides::planner_nicol), ("plain_nicoltrial", sides::plain_nicoltrial)],
         answers: 5,
         jobs: 12,
+        halved: false,
     },
     Contest {
         name: "quick plan",
         sides: [("planner_quick", sides::planner_quick), ("plain_quick", sides::plain_quick)],
         answers: 2,
         jobs: 64,
+        halved: false,
+    },
+    Contest {
+        name: "halving",
+        sides: [("planner_halving", sides::planner_halving), ("plain_halving", sides::plain_halving)],
+        answers: 2,
+        jobs: 64,
+        halved: true,
+    },
+    Contest {
+        name: "halving by sides",
+        sides: [("planner_halving", sides::planner_halving), ("plain_halvingsides", sides::plain_halvingsides)],
+        answers: 2,
+        jobs: 64,
+        halved: true,
     },
     Contest {
         name: "trial",
         sides: [("planner_trial", sides::planner_trial), ("plain_trial", sides::plain_trial)],
         answers: 3,
         jobs: 64,
+        halved: false,
     },
     Contest {
         name: "grading",
         sides: [("planner_grade", sides::planner_grade), ("plain_grade", sides::plain_grade)],
         answers: 1,
         jobs: 64,
+        halved: false,
     },
 ];
 
 impl Contest {
+    pub fn takes(&self, shape: Shape) -> bool {
+        !self.halved || shape.halves()
+    }
+
     /// One call of a side on buffers that hold a pattern: what it answers and what it leaves in the separators.
     fn ask(&self, call: Call, job: &Job) -> (u32, Vec<u64>, Vec<u32>) {
         let mut room = Room::new();
@@ -125,10 +155,12 @@ impl Contest {
     }
 }
 
-/// Calls each side of all contests once on each job, for an instruction count.
-pub fn call_all(jobs: &[Job]) {
+/// Calls each side of all contests that take the shape once on each job, for an instruction count.
+pub fn call_all(shape: Shape, jobs: usize) {
+    let jobs = &shape.jobs(jobs);
     let mut called = Vec::new();
-    for (name, call) in CONTESTS.iter().flat_map(|contest| contest.sides) {
+    let contests = CONTESTS.iter().filter(|contest| contest.takes(shape));
+    for (name, call) in contests.flat_map(|contest| contest.sides) {
         if called.contains(&name) {
             continue;
         }

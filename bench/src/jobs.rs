@@ -98,6 +98,11 @@ impl Shape {
         }
     }
 
+    /// Whether its rows can be halved: equal machines, a power of two of them.
+    pub fn halves(&self) -> bool {
+        self.fastest == 1 && self.processors.is_power_of_two()
+    }
+
     /// The first jobs of the shape, always the same ones. By turns the best plan and the quick plan are graded.
     pub fn jobs(&self, count: usize) -> Vec<Job> {
         let mut random = Random::new(SEED);

@@ -2,7 +2,7 @@
 //!     bench measure                         times, counts and imbalances as records, to standard output
 //!     bench count FAMILY N P FASTEST JOBS   calls each side once a job, for callgrind
 //!     bench shapes                          the shapes that are to be counted, one to a line
-//!     bench summary FILE...                 the table of docs/BENCHMARKS.md, from records
+//!     bench summary FILE...                 the two tables of docs/BENCHMARKS.md, from records
 //!     bench tables FILE...                  the further tables
 mod contest;
 mod jobs;
@@ -36,7 +36,7 @@ fn count(args: &[String]) {
         processors: number(2),
         fastest: number(3) as u32,
     };
-    contest::call_all(&shape.jobs(number(4)));
+    contest::call_all(shape, number(4));
 }
 
 fn main() {

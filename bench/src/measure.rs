@@ -1,13 +1,20 @@
 //! What is measured: the shapes, and the records of each.
-use crate::contest::CONTESTS;
+use crate::contest::{Contest, CONTESTS};
 use crate::jobs::{Family, Shape, Size};
-use crate::plain::{MAX_PROCESSORS, MAX_TASKS};
+use crate::plain::{self, Bound, MAX_PROCESSORS, MAX_TASKS};
 use crate::records;
 use crate::sides::{Job, BEST};
 
 pub const FASTEST: [u32; 3] = [1, 4, 16];
 /// The sizes of the ratios: N/P = 8, 32, 128. At N/P = 8 the most machines have fewer tiles than a job may have.
 pub const SIZES: [Size; 3] = [(8 * MAX_PROCESSORS, MAX_PROCESSORS), (MAX_TASKS, 64), (MAX_TASKS, 16)];
+/// The sizes of halving's ratios, N/P as above; the machines are a power of two. The first is one of the rows below.
+pub const HALVED_SIZES: [Size; 3] = [(8 * 64, 64), (MAX_TASKS, 64), (MAX_TASKS, 16)];
+/// How many machines, equal ones, the rows have whose quick plans are set beside the best plan.
+pub const ROW_PROCESSORS: [usize; 5] = [4, 8, 16, 32, 64];
+/// The contests on these rows: the four methods and both quick plans.
+const ROW_CONTESTS: [&str; 7] =
+    ["table", "bidding", "bisection", "Nicol", "quick plan", "halving", "halving by sides"];
 /// The size of the figures in microseconds: the largest job.
 pub const LARGEST: Size = (MAX_TASKS, MAX_PROCESSORS);
 /// The place of the code of this build, of so many (see build.rs).
@@ -26,7 +33,28 @@ pub fn growth_with_processors() -> Vec<Shape> {
     GROWTH_PROCESSORS.iter().map(|&processors| Shape::new(Family::Lognormal, (MAX_TASKS, processors), 4)).collect()
 }
 
-/// Every shape that is measured, each once.
+/// A row of equal machines with as many tiles as a job may have.
+pub fn long_row(family: Family, processors: usize) -> Shape {
+    Shape::new(family, (MAX_TASKS, processors), 1)
+}
+
+/// The same with 8 tiles a machine.
+pub fn short_row(family: Family, processors: usize) -> Shape {
+    Shape::new(family, (8 * processors, processors), 1)
+}
+
+/// Both, of every family and number of machines.
+fn rows() -> Vec<Shape> {
+    let mut rows = Vec::new();
+    for family in Family::ALL {
+        for processors in ROW_PROCESSORS {
+            rows.extend([long_row(family, processors), short_row(family, processors)]);
+        }
+    }
+    rows
+}
+
+/// Every shape that is measured in all contests that take it, each once.
 fn shapes() -> Vec<Shape> {
     let mut shapes = Vec::new();
     for family in Family::ALL {
@@ -44,25 +72,57 @@ fn shapes() -> Vec<Shape> {
     shapes
 }
 
+/// What is measured: each shape once, with its contests.
+fn measured() -> Vec<(Shape, Vec<&'static Contest>)> {
+    let full = shapes();
+    let mut measured = Vec::new();
+    for &shape in &full {
+        measured.push((shape, CONTESTS.iter().filter(|contest| contest.takes(shape)).collect()));
+    }
+    for shape in rows() {
+        if !full.contains(&shape) {
+            measured.push((shape, CONTESTS.iter().filter(|contest| ROW_CONTESTS.contains(&contest.name)).collect()));
+        }
+    }
+    measured
+}
+
 /// The shapes whose instructions are counted: those of the ratios.
 pub fn print_shapes() {
-    for shape in shapes() {
-        if SIZES.contains(&shape.size()) {
+    for (shape, _) in measured() {
+        if SIZES.contains(&shape.size()) || (shape.halves() && HALVED_SIZES.contains(&shape.size())) {
             println!("{} {} {} {}", shape.family.name(), shape.tasks, shape.processors, shape.fastest);
         }
     }
 }
 
+fn total_weight(job: &Job) -> u64 {
+    job.weights.iter().map(|&w| w as u64).sum()
+}
+
 /// By how much a bottleneck is above the ideal, as a part of the ideal.
-fn excess(job: &Job, load: u64, speed: u64) -> f64 {
-    let total: u64 = job.weights.iter().map(|&w| w as u64).sum();
+fn excess(job: &Job, found: Bound) -> f64 {
     let all: u64 = job.speeds.iter().map(|&e| e as u64).sum();
-    (load as f64 * all as f64) / (speed as f64 * total as f64) - 1.0
+    (found.load as f64 * all as f64) / (found.speed as f64 * total_weight(job) as f64) - 1.0
+}
+
+/// The same in thousandths, rounded up, as a plan's imbalance is.
+fn thousandths(job: &Job, found: Bound) -> f64 {
+    plain::imbalance(&job.speeds, total_weight(job), found) as f64
+}
+
+/// The same of the most that halving may have, Wtot/P + heaviest × (P − 1)/P on a machine; it must not have more.
+fn halving_bound(job: &Job, found: Bound) -> f64 {
+    let heaviest = job.weights.iter().copied().max().unwrap_or(0) as u64;
+    let machines = job.speeds.len() as u64;
+    let most = Bound { load: total_weight(job) + heaviest * (machines - 1), speed: machines * found.speed };
+    assert!(found.load * machines <= most.load, "halving: above its bound");
+    thousandths(job, most)
 }
 
 /// Times of all sides, and what the answers say of counts, allowances and imbalances.
-fn measure(shape: Shape) {
-    for contest in &CONTESTS {
+fn measure(shape: Shape, contests: &[&Contest]) {
+    for contest in contests {
         let jobs = shape.jobs(contest.jobs);
         let answers = contest.compare(&jobs);
         let times = contest.time(&jobs);
@@ -84,8 +144,16 @@ fn measure(shape: Shape) {
             }
             _ => continue,
         };
-        let parts = jobs.iter().zip(&answers);
-        fact("imbalance", parts.map(|(job, a)| excess(job, a[bottleneck], a[bottleneck + 1])).collect());
+        let found = answers.iter().map(|a| Bound { load: a[bottleneck], speed: a[bottleneck + 1] });
+        let parts: Vec<(&Job, Bound)> = jobs.iter().zip(found).collect();
+        fact("imbalance", parts.iter().map(|&(job, found)| excess(job, found)).collect());
+        if shape.halves() {
+            fact("thousandths", parts.iter().map(|&(job, found)| thousandths(job, found)).collect());
+            fact("load", parts.iter().map(|part| part.1.load as f64).collect());
+        }
+        if contest.halved {
+            fact("bound", parts.iter().map(|&(job, found)| halving_bound(job, found)).collect());
+        }
         if contest.answers == 5 {
             fact("count", answers.iter().map(|a| a[0] as f64).collect());
             fact("allowance", answers.iter().map(|a| a[1] as f64).collect());
@@ -95,10 +163,10 @@ fn measure(shape: Shape) {
 }
 
 pub fn all() {
-    let shapes = shapes();
-    for (k, shape) in shapes.iter().enumerate() {
-        eprint!("\r  shape {} of {}   ", k + 1, shapes.len());
-        measure(*shape);
+    let measured = measured();
+    for (k, (shape, contests)) in measured.iter().enumerate() {
+        eprint!("\r  shape {} of {}   ", k + 1, measured.len());
+        measure(*shape, contests);
     }
     eprintln!();
 }

@@ -417,7 +417,8 @@ fn allowance(method: Method, speeds: &[u32], weights: &[u32]) -> u32 {
     }
 }
 
-fn imbalance(speeds: &[u32], total: u64, bottleneck: Bound) -> u64 {
+/// In thousandths of the ideal, rounded up.
+pub fn imbalance(speeds: &[u32], total: u64, bottleneck: Bound) -> u64 {
     if total == 0 {
         return 0;
     }
@@ -467,6 +468,101 @@ pub fn heuristic(speeds: &[u32], weights: &[u32], separators: &mut [u32]) -> Res
     let sums = prefix_sums(weights, &mut room);
     quick(speeds, sums, separators);
     Ok(bottleneck(speeds, sums, separators))
+}
+
+/// The smallest index from a to b whose sum is nearest to half of the sums at a and b together. Doubled sums fit 32 bits. Between a
+/// and b the search of the standard library finds the first sum that is no less; of it and the one before the nearer is taken without
+/// a branch, which could not be foreseen.
+#[inline]
+fn half_index(sums: &[u32], a: usize, b: usize) -> usize {
+    if a == b {
+        return a;
+    }
+    let doubled = sums[a] + sums[b];
+    let half = doubled.div_ceil(2);
+    let past = a + 1 + sums[a + 1..b].partition_point(|&sum| sum < half);
+    let nearer = 2 * sums[past] - doubled < doubled - 2 * sums[past - 1];
+    let i = past - !nearer as usize;
+    if i == a || sums[i - 1] < sums[i] { i } else { first_equal(sums, a, i) }
+}
+
+/// The separators of a halved row level by level: the searches of a level do not wait for one another.
+fn halve_levels(sums: &[u32], separators: &mut [u32]) {
+    let processors = separators.len() - 1;
+    separators[0] = 0;
+    separators[processors] = sums.len() as u32 - 1;
+    let mut reach = processors / 2;
+    while reach > 0 {
+        for middle in (reach..processors).step_by(2 * reach) {
+            let a = separators[middle - reach] as usize;
+            let b = separators[middle + reach] as usize;
+            separators[middle] = half_index(sums, a, b) as u32;
+        }
+        reach /= 2;
+    }
+}
+
+/// The same index, the nearer of two taken by a branch.
+#[inline]
+fn half_by_branch(sums: &[u32], a: usize, b: usize) -> usize {
+    let doubled = sums[a] + sums[b];
+    let past = a + sums[a..=b].partition_point(|&sum| 2 * sum < doubled);
+    if past > a && doubled - 2 * sums[past - 1] <= 2 * sums[past] - doubled {
+        first_equal(sums, a, past - 1)
+    } else {
+        past
+    }
+}
+
+/// Halves one side after the other; the row has the tiles a + 1 to b, and `ends` is for the separators behind its machines.
+fn halve_sides(sums: &[u32], a: usize, b: usize, ends: &mut [u32]) {
+    if let [end] = ends {
+        *end = b as u32;
+        return;
+    }
+    let i = half_by_branch(sums, a, b);
+    let (first, second) = ends.split_at_mut(ends.len() / 2);
+    halve_sides(sums, a, i, first);
+    halve_sides(sums, i, b, second);
+}
+
+/// Halving by either form, and the bottleneck: the speeds are equal, so the greatest load has it.
+#[inline(always)]
+fn halved(
+    speeds: &[u32],
+    weights: &[u32],
+    separators: &mut [u32],
+    halve: impl Fn(&[u32], &mut [u32]),
+) -> Result<Bound, u32> {
+    test_job(speeds, weights)?;
+    if !speeds.len().is_power_of_two() || !each_between(speeds[0], speeds[0], speeds) {
+        return Err(14);
+    }
+    if separators.len() <= speeds.len() {
+        return Err(9);
+    }
+    let mut room = [0; MAX_TASKS + 1];
+    let sums = prefix_sums(weights, &mut room);
+    let separators = &mut separators[..=speeds.len()];
+    halve(sums, separators);
+    let loads = separators.windows(2).map(|pair| sums[pair[1] as usize] - sums[pair[0] as usize]);
+    Ok(Bound {
+        load: loads.max().unwrap_or(0) as u64,
+        speed: speeds[0] as u64,
+    })
+}
+
+/// Halving the row, level by level.
+pub fn halving(speeds: &[u32], weights: &[u32], separators: &mut [u32]) -> Result<Bound, u32> {
+    halved(speeds, weights, separators, halve_levels)
+}
+
+/// Halving the row, one side after the other.
+pub fn halving_by_sides(speeds: &[u32], weights: &[u32], separators: &mut [u32]) -> Result<Bound, u32> {
+    halved(speeds, weights, separators, |sums, separators| {
+        separators[0] = 0;
+        halve_sides(sums, 0, sums.len() - 1, &mut separators[1..]);
+    })
 }
 
 /// The trial at a lent bound: None where it fits, else the least next bid. Only a fit writes the separators.

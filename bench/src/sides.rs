@@ -14,6 +14,17 @@ extern "C" {
         answer_len: usize,
     ) -> u32;
 
+    fn exported_halving(
+        speeds: *const u32,
+        speeds_len: usize,
+        weights: *const u32,
+        weights_len: usize,
+        separators: *mut u32,
+        separators_len: usize,
+        answer: *mut u64,
+        answer_len: usize,
+    ) -> u32;
+
     fn exported_probe(
         speeds: *const u32,
         speeds_len: usize,
@@ -148,6 +159,24 @@ pub fn planner_quick(job: &Job, room: &mut Room) -> u32 {
 
 #[no_mangle]
 #[inline(never)]
+pub fn planner_halving(job: &Job, room: &mut Room) -> u32 {
+    // SAFETY: as above.
+    unsafe {
+        exported_halving(
+            job.speeds.as_ptr(),
+            job.speeds.len(),
+            job.weights.as_ptr(),
+            job.weights.len(),
+            room.separators.as_mut_ptr(),
+            room.separators.len(),
+            room.answer.as_mut_ptr(),
+            room.answer.len(),
+        )
+    }
+}
+
+#[no_mangle]
+#[inline(never)]
 pub fn planner_trial(job: &Job, room: &mut Room) -> u32 {
     // SAFETY: as above.
     unsafe {
@@ -245,10 +274,10 @@ pub fn plain_nicoltrial(job: &Job, room: &mut Room) -> u32 {
     plain_plan(Method::NicolByTrial, job, room)
 }
 
-#[no_mangle]
-#[inline(never)]
-pub fn plain_quick(job: &Job, room: &mut Room) -> u32 {
-    match plain::heuristic(&job.speeds, &job.weights, &mut room.separators) {
+/// The bottleneck of a quick plan as the planner answers it.
+#[inline(always)]
+fn plain_bottleneck(answered: Result<Bound, u32>, room: &mut Room) -> u32 {
+    match answered {
         Err(number) => number,
         Ok(bound) => {
             room.answer[0] = bound.load;
@@ -256,6 +285,27 @@ pub fn plain_quick(job: &Job, room: &mut Room) -> u32 {
             0
         }
     }
+}
+
+#[no_mangle]
+#[inline(never)]
+pub fn plain_quick(job: &Job, room: &mut Room) -> u32 {
+    let answered = plain::heuristic(&job.speeds, &job.weights, &mut room.separators);
+    plain_bottleneck(answered, room)
+}
+
+#[no_mangle]
+#[inline(never)]
+pub fn plain_halving(job: &Job, room: &mut Room) -> u32 {
+    let answered = plain::halving(&job.speeds, &job.weights, &mut room.separators);
+    plain_bottleneck(answered, room)
+}
+
+#[no_mangle]
+#[inline(never)]
+pub fn plain_halvingsides(job: &Job, room: &mut Room) -> u32 {
+    let answered = plain::halving_by_sides(&job.speeds, &job.weights, &mut room.separators);
+    plain_bottleneck(answered, room)
 }
 
 #[no_mangle]

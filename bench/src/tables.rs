@@ -1,19 +1,39 @@
-//! The table of docs/BENCHMARKS.md and the further ones of target/benchmarks.md, from the records of a run.
+//! The two tables of docs/BENCHMARKS.md and the further ones of target/benchmarks.md, from the records of a run.
 use crate::jobs::{Family, Shape, Size};
-use crate::measure::{growth_with_processors, growth_with_tasks, FASTEST, LARGEST, PLACEMENTS, SIZES};
+use crate::measure::{
+    growth_with_processors, growth_with_tasks, long_row, short_row, FASTEST, HALVED_SIZES, LARGEST, PLACEMENTS, ROW_PROCESSORS, SIZES,
+};
 use crate::records::{self, Records};
 
-/// A table of ratios: its title and the two sides.
-const RATIOS: [(&str, &str, &str); 9] = [
-    ("Table", "planner_table", "plain_table"),
-    ("Bidding, plain Rust in the same resumed form", "planner_bidding", "plain_resumed"),
-    ("Bidding, plain Rust with every walk from machine 1", "planner_bidding", "plain_bidding"),
-    ("Bisection", "planner_bisection", "plain_bisection"),
-    ("Nicol's search, plain Rust by the same trial", "planner_nicol", "plain_nicoltrial"),
-    ("Nicol's search, plain Rust by a walk without bids", "planner_nicol", "plain_nicol"),
-    ("Quick plan", "planner_quick", "plain_quick"),
-    ("Single trial", "planner_trial", "plain_trial"),
-    ("Grading", "planner_grade", "plain_grade"),
+/// The shapes of a ratio: every family with these sizes and ranges of speeds.
+#[derive(Clone, Copy)]
+struct Span {
+    sizes: [Size; 3],
+    fastest: &'static [u32],
+}
+
+const ALL: Span = Span { sizes: SIZES, fastest: &FASTEST };
+const HALVED: Span = Span { sizes: HALVED_SIZES, fastest: &[1] };
+
+impl Span {
+    fn shapes(self) -> impl Iterator<Item = Shape> {
+        self.sizes.into_iter().flat_map(move |size| shapes(size, self.fastest))
+    }
+}
+
+/// A table of ratios: its title, the two sides, its shapes.
+const RATIOS: [(&str, &str, &str, Span); 11] = [
+    ("Table", "planner_table", "plain_table", ALL),
+    ("Bidding, plain Rust in the same resumed form", "planner_bidding", "plain_resumed", ALL),
+    ("Bidding, plain Rust with every walk from machine 1", "planner_bidding", "plain_bidding", ALL),
+    ("Bisection", "planner_bisection", "plain_bisection", ALL),
+    ("Nicol's search, plain Rust by the same trial", "planner_nicol", "plain_nicoltrial", ALL),
+    ("Nicol's search, plain Rust by a walk without bids", "planner_nicol", "plain_nicol", ALL),
+    ("Quick plan", "planner_quick", "plain_quick", ALL),
+    ("Halving, plain Rust level by level without branches", "planner_halving", "plain_halving", HALVED),
+    ("Halving, plain Rust one side after the other", "planner_halving", "plain_halvingsides", HALVED),
+    ("Single trial", "planner_trial", "plain_trial", ALL),
+    ("Grading", "planner_grade", "plain_grade", ALL),
 ];
 
 /// A side's name as a column's title, with the plain Rust beside it.
@@ -40,11 +60,11 @@ fn texts(words: &[&str]) -> Vec<String> {
     words.iter().map(|word| word.to_string()).collect()
 }
 
-/// The shapes of a size: every family with every range of speeds.
-fn shapes(size: Size) -> Vec<Shape> {
+/// The shapes of a size: every family with each range of speeds.
+fn shapes(size: Size, speeds: &[u32]) -> Vec<Shape> {
     let mut shapes = Vec::new();
     for family in Family::ALL {
-        for fastest in FASTEST {
+        for &fastest in speeds {
             shapes.push(Shape::new(family, size, fastest));
         }
     }
@@ -52,8 +72,8 @@ fn shapes(size: Size) -> Vec<Shape> {
 }
 
 /// A table's rows where each size has columns of its own: the shapes of a row differ in their size alone.
-fn rows<const COUNT: usize>(sizes: [Size; COUNT]) -> Vec<[Shape; COUNT]> {
-    let kinds = shapes(sizes[0]);
+fn rows<const COUNT: usize>(sizes: [Size; COUNT], speeds: &[u32]) -> Vec<[Shape; COUNT]> {
+    let kinds = shapes(sizes[0], speeds);
     kinds.iter().map(|kind| sizes.map(|size| Shape::new(kind.family, size, kind.fastest))).collect()
 }
 
@@ -94,15 +114,15 @@ fn ratio(records: &Records, kind: &str, planner: &str, plain: &str, shape: Shape
 fn ratios(records: &Records) {
     println!("## Planner against plain Rust: time and instructions\n");
     println!("Each pair is the ratio of times, then the ratio of instructions, planner / plain Rust; N/P = {}.\n", quotients());
-    for (title, planner, plain) in RATIOS {
+    for (title, planner, plain, span) in RATIOS {
         println!("### {title}\n");
         let mut columns = texts(&["weights", "speeds"]);
-        for size in SIZES {
+        for size in span.sizes {
             columns.push(format!("{}: time", size_name(size)));
             columns.push("instructions".to_string());
         }
         head(&columns);
-        for shapes in rows(SIZES) {
+        for shapes in rows(span.sizes, span.fastest) {
             let mut cells = label(shapes[0]);
             for shape in shapes {
                 for kind in KINDS {
@@ -113,11 +133,6 @@ fn ratios(records: &Records) {
         }
         println!();
     }
-}
-
-/// The 27 shapes of the ratios.
-fn all_shapes() -> impl Iterator<Item = Shape> {
-    SIZES.into_iter().flat_map(shapes)
 }
 
 fn geometric_mean(values: &[f64]) -> f64 {
@@ -134,15 +149,15 @@ fn least(values: &[f64]) -> f64 {
 
 /// The geometric mean, the least and the greatest over the shapes of each ratio, and the greatest single pass.
 fn summary(records: &Records) {
-    println!("Planner / plain Rust over the 27 shapes; the mean is the geometric one.\n");
+    println!("Planner / plain Rust over the 27 shapes, of halving over 9; the mean is the geometric one.\n");
     head(&texts(&["", "time: mean", "least", "greatest", "greatest single pass", "instructions: mean", "least", "greatest"]));
-    for (title, planner, plain) in RATIOS {
+    for (title, planner, plain, span) in RATIOS {
         let mut cells = vec![title.to_string()];
         for kind in KINDS {
-            let all: Vec<f64> = all_shapes().map(|shape| ratio(records, kind, planner, plain, shape)).collect();
+            let all: Vec<f64> = span.shapes().map(|shape| ratio(records, kind, planner, plain, shape)).collect();
             cells.extend([geometric_mean(&all), least(&all), greatest(&all)].map(|value| format!("{value:.2}")));
             if kind == "ratio" {
-                cells.push(format!("{:.2}", greatest(&every_pass(records, plain))));
+                cells.push(format!("{:.2}", greatest(&every_pass(records, plain, span))));
             }
         }
         row(&cells);
@@ -151,33 +166,33 @@ fn summary(records: &Records) {
 }
 
 /// The ratios of times of all single passes.
-fn every_pass(records: &Records, plain: &str) -> Vec<f64> {
-    all_shapes().flat_map(|shape| records.values("ratio", plain, shape).to_vec()).collect()
+fn every_pass(records: &Records, plain: &str, span: Span) -> Vec<f64> {
+    span.shapes().flat_map(|shape| records.values("ratio", plain, shape).to_vec()).collect()
 }
 
 /// Each ratio in other ways than the median of the passes: by place, by pass, and of the least times of all passes.
 fn passes(records: &Records) {
     println!("## Every pass, and every place of the code\n");
-    println!("The same ratios of times over the 27 shapes, taken in other ways: mean and greatest shape in each of the four places of the");
-    println!("code (a shape's mean of two passes); the greatest of all single passes, and how many are above 1.2; and the ratio of the least");
-    println!("times that each side had anywhere.\n");
+    println!("The same ratios of times over the 27 shapes, of halving over 9, taken in other ways: mean and greatest shape in each of the four");
+    println!("places of the code (a shape's mean of two passes); the greatest of all single passes, and how many are above 1.2; and the ratio");
+    println!("of the least times that each side had anywhere.\n");
     let mut columns = vec![String::new()];
     columns.extend(PLACEMENTS.map(|place| format!("place {place}")));
     columns.extend(texts(&["passes", "greatest pass", "above 1.2", "least times: mean", "greatest"]));
     head(&columns);
-    for (title, planner, plain) in RATIOS {
+    for (title, planner, plain, span) in RATIOS {
         let mut cells = vec![title.to_string()];
         cells.extend(PLACEMENTS.map(|place| {
             let kind = records::placed(place);
-            let shapes: Vec<f64> = all_shapes().map(|shape| records.get(&kind, plain, shape)).collect();
+            let shapes: Vec<f64> = span.shapes().map(|shape| records.get(&kind, plain, shape)).collect();
             format!("{:.2}, {:.2}", geometric_mean(&shapes), greatest(&shapes))
         }));
-        let all = every_pass(records, plain);
+        let all = every_pass(records, plain, span);
         cells.push(all.len().to_string());
         cells.push(format!("{:.2}", greatest(&all)));
         cells.push(all.iter().filter(|&&value| value > 1.2).count().to_string());
         let time = |side: &str, shape: Shape| records.get("time", side, shape);
-        let of_least: Vec<f64> = all_shapes().map(|shape| time(planner, shape) / time(plain, shape)).collect();
+        let of_least: Vec<f64> = span.shapes().map(|shape| time(planner, shape) / time(plain, shape)).collect();
         cells.push(format!("{:.2}", geometric_mean(&of_least)));
         cells.push(format!("{:.2}", greatest(&of_least)));
         row(&cells);
@@ -191,7 +206,7 @@ fn single(records: &Records) {
     let mut columns = texts(&["weights", "speeds"]);
     columns.extend(PAIRS.iter().map(|pair| pair.0.to_string()));
     head(&columns);
-    for shape in shapes(LARGEST) {
+    for shape in shapes(LARGEST, &FASTEST) {
         let mut cells = label(shape);
         for (_, planner, plain) in PAIRS {
             let time = |side: &str| micros(records.get("time", side, shape));
@@ -238,7 +253,7 @@ fn imbalances(records: &Records) {
         columns.extend(texts(&["best", "factor", "time"]));
     }
     head(&columns);
-    for shapes in rows(sizes) {
+    for shapes in rows(sizes, &FASTEST) {
         let mut cells = label(shapes[0]);
         for shape in shapes {
             let quick = records.get("fact", "quick plan imbalance", shape);
@@ -254,6 +269,47 @@ fn imbalances(records: &Records) {
     println!();
 }
 
+/// The methods, by the planner's sides.
+const METHODS: [(&str, &str); 4] =
+    [("table", "planner_table"), ("bidding", "planner_bidding"), ("bisection", "planner_bisection"), ("Nicol", "planner_nicol")];
+
+/// How many jobs each of these contests has gone round; the times beside each other are of these.
+const TIMED: usize = 12;
+
+/// The quick plans beside the best plan on rows of equal machines, and the times of each.
+fn equal_rows(records: &Records, row_of: fn(Family, usize) -> Shape) {
+    let mut columns = texts(&["weights", "N", "P", "imbalance: best plan", "quick plan", "halving", "halving's bound"]);
+    columns.extend(texts(&["meets the best: quick plan", "halving", "smaller: quick plan", "halving"]));
+    columns.extend(texts(&["µs: quick plan", "halving", "fastest method"]));
+    head(&columns);
+    for family in Family::ALL {
+        for processors in ROW_PROCESSORS {
+            let shape = row_of(family, processors);
+            let mut cells = vec![family.name().to_string(), shape.tasks.to_string(), processors.to_string()];
+            let names = ["bisection thousandths", "quick plan thousandths", "halving thousandths", "halving bound"];
+            cells.extend(names.map(|name| format!("{:.1}", records.get("fact", name, shape))));
+            let load = |name: &str| records.values("fact", &format!("{name} load"), shape);
+            let (best, quick, halving) = (load("bisection"), load("quick plan"), load("halving"));
+            assert_eq!((best.len(), quick.len()), (halving.len(), halving.len()), "other jobs");
+            cells.extend([quick, halving].map(|plan| count_of(plan, best, |plan, best| plan == best)));
+            cells.push(count_of(quick, halving, |quick, halving| quick < halving));
+            cells.push(count_of(quick, halving, |quick, halving| halving < quick));
+            let time = |side: &str| records.values("time", side, shape)[..TIMED].iter().sum::<f64>() / TIMED as f64;
+            cells.extend(["planner_quick", "planner_halving"].map(|side| micros(time(side))));
+            let methods = METHODS.map(|(name, side)| (name, time(side)));
+            let (name, fastest) = methods.into_iter().min_by(|a, b| a.1.total_cmp(&b.1)).expect("a method");
+            cells.push(format!("{} ({name})", micros(fastest)));
+            row(&cells);
+        }
+    }
+    println!();
+}
+
+/// On how many jobs it holds.
+fn count_of(these: &[f64], those: &[f64], holds: fn(f64, f64) -> bool) -> String {
+    these.iter().zip(those).filter(|&(&a, &b)| holds(a, b)).count().to_string()
+}
+
 /// Grading beside planning by bisection: the planner alone.
 fn gradings(records: &Records) {
     println!("## Grading against planning by bisection\n");
@@ -267,7 +323,7 @@ fn gradings(records: &Records) {
         columns.push("best".to_string());
     }
     head(&columns);
-    for shapes in rows(SIZES) {
+    for shapes in rows(SIZES, &FASTEST) {
         let mut cells = label(shapes[0]);
         for shape in shapes {
             cells.push(format!("{:.2}", of_plan(shape)));
@@ -275,7 +331,7 @@ fn gradings(records: &Records) {
         }
         row(&cells);
     }
-    let all: Vec<f64> = all_shapes().map(of_plan).collect();
+    let all: Vec<f64> = ALL.shapes().map(of_plan).collect();
     let (mean, low, high) = (geometric_mean(&all), least(&all), greatest(&all));
     println!("\nOver the 27 shapes: mean {mean:.2} (the geometric one), least {low:.2}, greatest {high:.2}.\n");
 }
@@ -299,9 +355,14 @@ fn growth_table(records: &Records, shapes: &[Shape]) {
     println!();
 }
 
-/// The one table of the page.
+/// The two tables of the page.
 pub fn print_summary(files: &[String]) {
-    summary(&Records::read(files));
+    let records = Records::read(files);
+    summary(&records);
+    println!("Quick plan, halving and best plan on rows of equal machines with the most tiles: imbalance in thousandths, rounded up, the mean of");
+    println!("64 jobs; on how many of the 64 a quick plan's bottleneck is the best plan's, and on how many it is smaller than the other one's;");
+    println!("the planner's time in microseconds, the mean of the first {TIMED} jobs.\n");
+    equal_rows(&records, long_row);
 }
 
 /// All the others.
@@ -312,6 +373,9 @@ pub fn print(files: &[String]) {
     ratios(&records);
     counts(&records);
     imbalances(&records);
+    println!("## Quick plan, halving and best plan with 8 tiles a machine\n");
+    println!("Rows of equal machines; the columns are those of the table of the page, which is of the most tiles.\n");
+    equal_rows(&records, short_row);
     gradings(&records);
     println!("## Growth with N and with P, in microseconds\n");
     println!("The planner; lognormal weights, speeds 1–4. The last columns are the time of bisection and of Nicol's search over their trials");
