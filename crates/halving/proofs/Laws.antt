@@ -4,6 +4,7 @@ use Prim.Native.Nat.{ℕ, zero, suc, _+_, _-_, _*_, _/_, _^_, _≤_, _<_}
 use mathlib.Core.Path.{_≡_, refl, sym, ap, ap₂, subst, _∙_}
 use mathlib.Core.List.{List, [], _∷_, _++_, append-nil, append-assoc}
 use native.Mathlib.Omega.{arith}
+use native.Mathlib.Numerals.{add-one}
 use lib.ListN.{length, set, take, drop, length-append, length-set, take-append-drop}
 use lib.Seq.{length-take-le, append-snoc, drop-append-add, set-split, take-set-le, drop-set-lt, take-suc-set, drop-drop, take-at, drop-at}
 use Rattle.chain.specs.Lists.{smallestLeast, distance, levels, digits, digitsWithin}
@@ -13,20 +14,23 @@ use Rattle.chain.proofs.Parts.{weight-split}
 use Rattle.chain.proofs.Indices.{SmallestLeast, smallest-least-is}
 use Rattle.chain.proofs.Halving.{Halved, halved-power, split-from, split-to}
 use Rattle.parts.specs.Prefix.{Ready}
-use Rattle.parts.specs.Rising.{Rising}
-use Rattle.heuristic.specs.Target.{FirstAbove, offIn, nearestIn, PastFrom}
+use Rattle.parts.specs.Rising.{LastAtMost}
+use Rattle.heuristic.specs.Target.{offIn, nearestIn, PastFrom}
 use Rattle.heuristic.proofs.Nearest.{smallest-least-unique}
 use Rattle.halving.specs.Row.{splitIn, splitsIn}
 
 -- What the search for a split asks and gives.
-pub split-past : {xs : List ℕ} {a b target r : ℕ} → FirstAbove xs (a + 1) b (target / 2) r → PastFrom xs 2 target a b r
-split-past w =
+pub split-past : {xs : List ℕ} {a b cap target r : ℕ} → cap ≡ target / 2 → LastAtMost xs a b cap r → PastFrom xs 2 target a b (r + 1)
+split-past {xs} {a} {b} {cap} {target} {r} e w =
     record {
-      some = omega (arith, w .from);
+      past =
+          record {
+            some = omega arith;
+            to = omega (arith, w .to);
+            below = subst (λ (i : ℕ). at xs i * 2 ≤ target) (let z : r ≡ r + 1 - 1 = omega arith in z) (omega (arith, w .below));
+            above = λ l. subst (λ (i : ℕ). target < at xs i * 2) (sym (add-one r)) (omega (arith, w .above (omega arith)));
+          };
       from = omega (arith, w .from);
-      to = w .to;
-      below = omega (arith, w .below);
-      above = λ l. omega (arith, w .above l);
       nearer = λ l. absurd (let z : ⊥ = omega (arith, w .from) in z);
     }
 

@@ -10,9 +10,10 @@ ghost use Rattle.chain.specs.Halving.{Halvable, halving};
 ghost use Rattle.parts.specs.Prefix.{Ready};
 ghost use Rattle.parts.specs.Rising.{Rising};
 ghost use Rattle.halving.specs.Row.{splitIn, splitsIn};
-use heuristic::first_past;
 use heuristic::nearest_in;
+use parts::last_between;
 use parts::narrow;
+use parts::narrow_load;
 use parts::wide;
 
 // Inner. The prefix sums at a and at b together: twice what the middle of the part from a to b is to have.
@@ -30,7 +31,7 @@ fn split_in(sums: &[u32], a: usize, b: usize) -> usize
     ensures { λ r. ⌜ r ≡ splitIn (now (sums .entry)) a b ⌝ }
 {
     let target = ends_sum(sums, a, b);
-    let past = first_past(sums, b, a + 1, 2, target);
+    let past = last_between(sums, a, b, narrow_load(target / 2)) + 1;
     nearest_in(sums, a, b, past, 2, target)
 }
 

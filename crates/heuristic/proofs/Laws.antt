@@ -25,8 +25,8 @@ use Rattle.parts.specs.Prefix.{Prefix, Ready}
 use Rattle.parts.specs.Rising.{Rising, LastAtMost}
 use Rattle.parts.proofs.Front.{Front, front-store, front-end}
 use Rattle.parts.proofs.Laws.{speed-read, prefix-fits}
-use Rattle.heuristic.specs.Target.{firstAtLeast, FirstAbove, offIn, nearestIn, PastFrom, nearestTo, Target, NonePast, FirstPast}
-use Rattle.heuristic.proofs.Nearest.{smallest-unique, in-high, in-low, sum-of-behind, first-past-is, nearest-hinted, past-from, targetOf, nearest-to-target, target-grows, target-most, none-first, none-more}
+use Rattle.heuristic.specs.Target.{firstAtLeast, FirstAbove, offIn, nearestIn, PastAt, PastFrom, nearestTo, Target, NonePast, FirstPast}
+use Rattle.heuristic.proofs.Nearest.{smallest-unique, sum-of-behind, first-past-is, nearest-hinted, past-from, targetOf, nearest-to-target, target-grows, target-most, none-first, none-more}
 
 -- The sum of the speeds of the first p processors.
 pub record SpeedTo (job : Job) (p total : ℕ) : Type 0 where
@@ -151,36 +151,25 @@ above-after {xs} {i} {n} {cap} {c} {r} h e w =
     }
 
 -- The choice between the first index g past a target and the one before it, whose entries are high and low.
-module _ {xs : List ℕ} {factor target s n g : ℕ} (rising : Rising xs n) (some : 1 ≤ factor) (p : PastFrom xs factor target s n g) where
-  pub choice-products : {low high : ℕ} → at xs n * factor < 2 ^ 64 → g ≤ n → low ≡ at xs (g - 1) → high ≡ at xs g
-      → (low * factor ≤ target) × (target ≤ high * factor) × (high * factor < 2 ^ 64)
-  choice-products {low} {high} fits h x y = (
+module _ {xs : List ℕ} {factor target n g : ℕ} (p : PastAt xs factor target n g) {low high : ℕ} (x : low ≡ at xs (g - 1)) (y : high ≡ at xs g) where
+  pub choice-products : Rising xs n → at xs n * factor < 2 ^ 64 → g ≤ n → (low * factor ≤ target) × (target ≤ high * factor) × (high * factor < 2 ^ 64)
+  choice-products rising fits h = (
     subst (λ (i : ℕ). i * factor ≤ target) (sym x) (p .below),
     subst (λ (i : ℕ). target ≤ i * factor) (sym y) (omega (arith, p .above h)),
     subst (λ (i : ℕ). i * factor < 2 ^ 64) (sym y) (lt-of-le-of-lt (mul-le-mul-right factor (rising .up g n h (omega arith))) fits),
   )
 
-  -- The first index past the target is chosen,
-  pub choice-high : {low high : ℕ} → g ≤ n → low ≡ at xs (g - 1) → high ≡ at xs g
-      → ltb (distance (high * factor) target) (distance (low * factor) target) ≡ true → g ≡ nearestIn xs factor target s n
-  choice-high {low} {high} h x y e =
-      in-high rising some p h
-      (subst (λ (i : ℕ). distance (i * factor) target < offIn xs factor target (g - 1)) y
+  pub choice-high : ltb (distance (high * factor) target) (distance (low * factor) target) ≡ true → offIn xs factor target g < offIn xs factor target (g - 1)
+  choice-high e =
+      subst (λ (i : ℕ). distance (i * factor) target < offIn xs factor target (g - 1)) y
       (subst (λ (i : ℕ). distance (high * factor) target < distance (i * factor) target) x
-      (ltb-true (distance (high * factor) target) (distance (low * factor) target) e)))
+      (ltb-true (distance (high * factor) target) (distance (low * factor) target) e))
 
-  -- or the index before,
-  pub choice-low : {low high : ℕ} → g ≤ n → low ≡ at xs (g - 1) → high ≡ at xs g
-      → ltb (distance (high * factor) target) (distance (low * factor) target) ≡ false → offIn xs factor target (g - 1) ≤ offIn xs factor target g
-  choice-low {low} {high} h x y e =
+  pub choice-low : ltb (distance (high * factor) target) (distance (low * factor) target) ≡ false → offIn xs factor target (g - 1) ≤ offIn xs factor target g
+  choice-low e =
       subst (λ (i : ℕ). offIn xs factor target (g - 1) ≤ distance (i * factor) target) y
       (subst (λ (i : ℕ). distance (i * factor) target ≤ distance (high * factor) target) x
       (ltb-false (distance (high * factor) target) (distance (low * factor) target) e))
-
-  -- and then the smallest index with its entry is found.
-  pub choice-end : {low r : ℕ} → (g ≤ n → offIn xs factor target (g - 1) ≤ offIn xs factor target g) → low ≡ at xs (g - 1)
-      → r ≡ firstAtLeast xs s (g - 1) low → r ≡ nearestIn xs factor target s n
-  choice-end near x e = e ∙ ap (firstAtLeast xs s (g - 1)) x ∙ in-low rising some p near
 
 -- The heuristic's separators up to p: the speed so far, the first index not known to be past the target and the nearest index.
 pub record Placed (job : Job) (before now : List ℕ) (total weight p speed past s : ℕ) : Type 0 where

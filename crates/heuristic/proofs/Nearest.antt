@@ -8,9 +8,9 @@ use mathlib.Core.List.{List}
 use mathlib.Core.Logic.{inl, inr}
 use native.Mathlib.Omega.{arith}
 use native.Mathlib.Decide.{decLe}
-use native.Mathlib.Nat.{mul-le-mul-left, mul-le-mul-right, mul-lt-mul-of-pos-right, le-div-iff-mul-le, div-lt-iff-lt-mul}
+use native.Mathlib.Nat.{lt-of-mul-lt-mul-right, mul-le-mul-left, mul-le-mul-right, mul-lt-mul-of-pos-right, le-div-iff-mul-le, div-lt-iff-lt-mul}
 use lib.Dec.{leb, ltb}
-use borrow.Author.Tests.{leb-true, leb-false, lt-ltb, le-ltb}
+use borrow.Author.Tests.{lt-leb, leb-true, leb-false, lt-ltb, le-ltb}
 use Rattle.chain.specs.Lists.{sumTo, smallestFrom, smallestLeast, distance}
 use Rattle.chain.specs.Job.{Job, tasks, processors, speedOf, partWeight, totalWeight, totalSpeed, at}
 use Rattle.chain.specs.Heuristic.{miss, nearest}
@@ -22,7 +22,7 @@ use Rattle.chain.proofs.Ranges.{total-speed-positive}
 use Rattle.parts.specs.Prefix.{Ready}
 use Rattle.parts.specs.Rising.{Rising, LastAtMost}
 use Rattle.parts.proofs.Laws.{prefix-grows}
-use Rattle.heuristic.specs.Target.{firstAtLeast, offIn, nearestIn, PastFrom, off, nearestTo, NonePast, FirstPast}
+use Rattle.heuristic.specs.Target.{firstAtLeast, offIn, nearestIn, PastFrom, Nearer, off, nearestTo, NonePast, FirstPast}
 
 -- There is only one smallest index at which a test holds,
 pub smallest-one : {f : ℕ → Bool} {a d r q : ℕ} → Smallest f a d r → Smallest f a d q → r ≤ q
@@ -116,7 +116,7 @@ module _ {xs : List ℕ} {factor target s n g : ℕ} (rising : Rising xs n) (som
   unfolding nearestIn
   in-high h nearer =
       let l : SmallestLeast (λ d. offIn xs factor target (s + d)) (n - s) (g - s) =
-      high-least times s n target g times-grows (p .some) (p .to) (p .below) (p .above) (p .from) h nearer
+      high-least times s n target g times-grows (p .past .some) (p .past .to) (p .past .below) (p .past .above) (p .from) h nearer
       in
       omega (arith, smallest-least-unique l, p .from)
 
@@ -125,7 +125,7 @@ module _ {xs : List ℕ} {factor target s n g : ℕ} (rising : Rising xs n) (som
   in-before near =
       elim (decLe g s) [
         | yes h ↦ absurd (let q = p .nearer h in let z : ⊥ = omega (arith, q .1, near (q .0)) in z)
-        | no h ↦ omega (arith, p .some)
+        | no h ↦ omega (arith, p .past .some)
       ]
 
   -- and it is the smallest index with the entry of the one before it.
@@ -139,7 +139,7 @@ module _ {xs : List ℕ} {factor target s n g : ℕ} (rising : Rising xs n) (som
       go : (q : ℕ) → Smallest f s (g - 1 - s) q → q ≡ s + smallestLeast (λ d. offIn xs factor target (s + d)) (n - s)
       go q y =
           let l : SmallestLeast (λ d. offIn xs factor target (s + d)) (n - s) (q - s) =
-          low-least times s n target g times-grows (p .some) (p .to) (p .below) (p .above) near q (y .from) within (ap (λ (w : ℕ). w * factor) same) less
+          low-least times s n target g times-grows (p .past .some) (p .past .to) (p .past .below) (p .past .above) near q (y .from) within (ap (λ (w : ℕ). w * factor) same) less
           in
           omega (arith, smallest-least-unique l, y .from)
         where
@@ -154,10 +154,34 @@ module _ {xs : List ℕ} {factor target s n g : ℕ} (rising : Rising xs n) (som
               ]
 
           same : at xs q ≡ at xs (g - 1)
-          same = omega (arith, least, rising .up q (g - 1) within (omega (arith, p .to)))
+          same = omega (arith, least, rising .up q (g - 1) within (omega (arith, p .past .to)))
 
           less : (k : ℕ) → s ≤ k → k < q → times k < times q
           less k i j = mul-lt-mul-of-pos-right (omega (arith, leb-false (at xs (g - 1)) (at xs k) (y .before k i j), same)) some
+
+  -- The entry before is less.
+  step : g ≤ n → at xs (g - 1) < at xs g
+  step h = lt-of-mul-lt-mul-right factor (omega (arith, p .past .below, p .past .above h))
+
+  -- The nearer of the two is in range, and the smallest index with its entry is the smallest nearest.
+  pub nearer-in : {r : ℕ} → Nearer xs factor target n g r → (s ≤ r) × (r ≤ n)
+  nearer-in (inl (e, h, l)) = (omega (arith, p .from), omega arith)
+  nearer-in (inr (e, near)) = (omega (arith, in-before near), omega (arith, p .past .to))
+
+  pub nearer-found : {r q : ℕ} → Nearer xs factor target n g r → q ≡ firstAtLeast xs s r (at xs r) → q ≡ nearestIn xs factor target s n
+  unfolding firstAtLeast
+  nearer-found {r} {q} (inl (e, h, l)) f =
+      f ∙ ap (λ (i : ℕ). firstAtLeast xs s i (at xs i)) e ∙ sym (smallest-unique alone) ∙ in-high h l
+    where
+      alone : Smallest (λ i. leb (at xs g) (at xs i)) s (g - s) g
+      alone =
+          record {
+            from = p .from;
+            to = omega (arith, p .from);
+            found = inl (omega (arith, p .from));
+            before = λ k i j. lt-leb (at xs g) (at xs k) (omega (arith, rising .up k (g - 1) (omega arith) (omega (arith, p .past .to)), step h));
+          }
+  nearer-found {r} {q} (inr (e, near)) f = f ∙ ap (λ (i : ℕ). firstAtLeast xs s i (at xs i)) e ∙ in-low near
 
 module _ (job : Job) where
   -- What the first tasks weigh, times all speed.
@@ -273,11 +297,14 @@ module _ {job : Job} {xs : List ℕ} (r : Ready job xs) where
   pub past-from : {target g s : ℕ} → FirstPast job target g → s ≤ nearestTo job target → PastFrom xs (totalSpeed job) target s (tasks job) g
   past-from {target} {g} {s} p h =
       record {
-        some = p .behind .from;
+        past =
+            record {
+              some = p .behind .from;
+              to = p .behind .to;
+              below = omega (arith, sum-is (g - 1) (omega (arith, p .behind .to, p .behind .from)), p .behind .before (g - 1) (omega (arith, p .behind .from)));
+              above = λ l. omega (arith, sum-is g l, p .past l);
+            };
         from = omega (arith, nearest-to);
-        to = p .behind .to;
-        below = omega (arith, sum-is (g - 1) (omega (arith, p .behind .to, p .behind .from)), p .behind .before (g - 1) (omega (arith, p .behind .from)));
-        above = λ l. omega (arith, sum-is g l, p .past l);
         nearer = λ l.
             let k : g ≤ tasks job = omega (arith, (nearest-to-is job target) .to) in
             (k, rw (off-is target g k, off-is target (g - 1) (omega arith)) (nearer l));

@@ -2,6 +2,7 @@
 use Prim.Native.Nat.{ℕ, suc, _+_, _-_, _*_, _≤_, _<_}
 use mathlib.Core.Path.{_≡_}
 use mathlib.Core.List.{List}
+use mathlib.Core.Logic.{_⊎_}
 use lib.Dec.{leb}
 use Rattle.chain.specs.Lists.{smallestFrom, smallestLeast, distance}
 use Rattle.chain.specs.Job.{Job, tasks, partWeight, totalWeight, totalSpeed, at}
@@ -25,15 +26,24 @@ offIn xs factor target i = distance (at xs i * factor) target
 unfoldable pub nearestIn : List ℕ → ℕ → ℕ → ℕ → ℕ → ℕ
 nearestIn xs factor target s n = s + smallestLeast (λ d. offIn xs factor target (s + d)) (n - s)
 
--- i is the first index past the target of those from s to n, n + 1 if there is none, and the one before it is not past; where i is s
--- itself, it is nearer than the one before.
-pub record PastFrom (xs : List ℕ) (factor target s n i : ℕ) : Type 0 where
+-- i is the first index past the target up to n, n + 1 if there is none, and the one before it is not past.
+pub record PastAt (xs : List ℕ) (factor target n i : ℕ) : Type 0 where
   pub some : 1 ≤ i
-  pub from : s ≤ i
   pub to : i ≤ suc n
   pub below : at xs (i - 1) * factor ≤ target
   pub above : i ≤ n → target < at xs i * factor
+
+-- So it is of those from s on; where it is s itself, it is nearer than the one before.
+pub record PastFrom (xs : List ℕ) (factor target s n i : ℕ) : Type 0 where
+  pub past : PastAt xs factor target n i
+  pub from : s ≤ i
   pub nearer : i ≤ s → (i ≤ n) × (offIn xs factor target i < offIn xs factor target (i - 1))
+
+-- r is the nearer of the first index i past the target and the one before it, which is taken where they are as near.
+abbrev pub Nearer : List ℕ → ℕ → ℕ → ℕ → ℕ → ℕ → Type 0
+Nearer xs factor target n i r =
+    ((r ≡ i) × (i ≤ n) × (offIn xs factor target i < offIn xs factor target (i - 1)))
+    ⊎ ((r ≡ i - 1) × (i ≤ n → offIn xs factor target (i - 1) ≤ offIn xs factor target i))
 
 -- How far W(1,i) times Etot is from the target.
 abbrev pub off : Job → ℕ → ℕ → ℕ

@@ -10,7 +10,7 @@ ghost use Rattle.chain.specs.Job.{Job, jobOf, processors};
 ghost use Rattle.chain.specs.Heuristic.{heuristic};
 ghost use Rattle.parts.specs.Prefix.{Ready};
 ghost use Rattle.parts.specs.Rising.{Rising};
-ghost use Rattle.heuristic.specs.Target.{firstAtLeast, FirstAbove, nearestIn, PastFrom};
+ghost use Rattle.heuristic.specs.Target.{firstAtLeast, FirstAbove, nearestIn, PastAt, PastFrom, Nearer};
 use parts::last_at_most;
 use parts::last_far;
 use parts::narrow;
@@ -19,7 +19,7 @@ use parts::total;
 use parts::wide;
 
 // Inner. The first index from i to n whose entry is above the target over the factor, n + 1 if there is none. The one before i is not.
-pub fn first_past(sums: &[u32], n: usize, i: usize, factor: u64, target: u64) -> usize
+fn first_past(sums: &[u32], n: usize, i: usize, factor: u64, target: u64) -> usize
     requires { ⌜ Rising (now sums) n ⌝ }
     requires { ⌜ (1 ≤ factor) × (target / factor < 2 ^ 32) ⌝ }
     requires { ⌜ (1 ≤ i) × (i ≤ suc n) × (getD (now sums) (i - 1) 0 ≤ target / factor) ⌝ }
@@ -54,6 +54,21 @@ fn first_level(sums: &[u32], a: usize, b: usize, limit: u32) -> usize
     a
 }
 
+// Inner. The first index past the target or, where that is no nearer, the one before it.
+fn nearer_of(sums: &[u32], n: usize, past: usize, factor: u64, target: u64) -> usize
+    requires { ⌜ Rising (now sums) n ⌝ }
+    requires { ⌜ getD (now sums) n 0 * factor < 2 ^ 64 ⌝ }
+    requires { ⌜ PastAt (now sums) factor target n past ⌝ }
+    ensures { λ r. ⌜ Nearer (now (sums .entry)) factor target n past r ⌝ }
+{
+    if past <= n {
+        if high_nearer(wide(sums[past - 1]), wide(sums[past]), factor, target) {
+            return past;
+        }
+    }
+    past - 1
+}
+
 // Inner. The smallest index from s to n nearest to the target; the first index past the target is known.
 pub fn nearest_in(sums: &[u32], s: usize, n: usize, past: usize, factor: u64, target: u64) -> usize
     requires { ⌜ Rising (now sums) n ⌝ }
@@ -61,14 +76,8 @@ pub fn nearest_in(sums: &[u32], s: usize, n: usize, past: usize, factor: u64, ta
     requires { ⌜ PastFrom (now sums) factor target s n past ⌝ }
     ensures { λ r. ⌜ r ≡ nearestIn (now (sums .entry)) factor target s n ⌝ }
 {
-    let before = past - 1;
-    let low = sums[before];
-    if past <= n {
-        if high_nearer(wide(low), wide(sums[past]), factor, target) {
-            return past;
-        }
-    }
-    first_level(sums, s, before, low)
+    let i = nearer_of(sums, n, past, factor, target);
+    first_level(sums, s, i, sums[i])
 }
 
 // Inner. Writes the heuristic's separators to the front of the list.
