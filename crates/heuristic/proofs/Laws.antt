@@ -2,13 +2,14 @@
 -- Assumes nothing.
 use Prim.Native.Nat.{ℕ, suc, _+_, _-_, _*_, _/_, _≤_, _<_, _^_}
 use mathlib.Core.Path.{_≡_, refl, sym, ap, ap₂, subst, _∙_}
-use mathlib.Core.Bool.{true, false}
+use mathlib.Core.Bool.{Bool, true, false}
 use mathlib.Core.List.{List, [], _++_, append-nil}
 use mathlib.Core.Logic.{_⊎_, inl, inr}
 use native.Mathlib.Omega.{arith}
 use native.Mathlib.Decide.{decLe}
 use native.Mathlib.Numerals.{add-one}
 use native.Mathlib.Nat.{lt-of-le-of-lt, div-le-of-le-mul, mul-le-mul-right}
+use mir.Val.{boolByte}
 use lib.Dec.{ltb, lit<}
 use lib.ListN.{length, getD, set, drop, length-set}
 use lib.Seq.{getD-set-same, drop-set-lt, ext-getD}
@@ -25,7 +26,7 @@ use Rattle.parts.specs.Prefix.{Prefix, Ready}
 use Rattle.parts.specs.Rising.{Rising, LastAtMost}
 use Rattle.parts.proofs.Front.{Front, front-store, front-end}
 use Rattle.parts.proofs.Laws.{speed-read, prefix-fits}
-use Rattle.heuristic.specs.Target.{firstAtLeast, FirstAbove, offIn, nearestIn, PastAt, PastFrom, nearestTo, Target, NonePast, FirstPast}
+use Rattle.heuristic.specs.Target.{firstAtLeast, FirstAbove, offIn, nearestIn, PastAt, PastFrom, Nearer, nearestTo, Target, NonePast, FirstPast}
 use Rattle.heuristic.proofs.Nearest.{smallest-unique, sum-of-behind, first-past-is, nearest-hinted, past-from, targetOf, nearest-to-target, target-grows, target-most, none-first, none-more}
 
 -- The sum of the speeds of the first p processors.
@@ -159,17 +160,25 @@ module _ {xs : List ℕ} {factor target n g : ℕ} (p : PastAt xs factor target 
     subst (λ (i : ℕ). i * factor < 2 ^ 64) (sym y) (lt-of-le-of-lt (mul-le-mul-right factor (rising .up g n h (omega arith))) fits),
   )
 
-  pub choice-high : ltb (distance (high * factor) target) (distance (low * factor) target) ≡ true → offIn xs factor target g < offIn xs factor target (g - 1)
-  choice-high e =
-      subst (λ (i : ℕ). distance (i * factor) target < offIn xs factor target (g - 1)) y
-      (subst (λ (i : ℕ). distance (high * factor) target < distance (i * factor) target) x
-      (ltb-true (distance (high * factor) target) (distance (low * factor) target) e))
-
-  pub choice-low : ltb (distance (high * factor) target) (distance (low * factor) target) ≡ false → offIn xs factor target (g - 1) ≤ offIn xs factor target g
-  choice-low e =
-      subst (λ (i : ℕ). offIn xs factor target (g - 1) ≤ distance (i * factor) target) y
-      (subst (λ (i : ℕ). distance (i * factor) target ≤ distance (high * factor) target) x
-      (ltb-false (distance (high * factor) target) (distance (low * factor) target) e))
+  -- By the test, added as 1 or 0.
+  pub choice-nearer : (b : Bool) → b ≡ ltb (distance (high * factor) target) (distance (low * factor) target) → g ≤ n
+      → Nearer xs factor target n g (g - 1 + boolByte b)
+  choice-nearer true e h =
+      inl (
+        omega (arith, p .some),
+        h,
+        subst (λ (i : ℕ). distance (i * factor) target < offIn xs factor target (g - 1)) y
+            (subst (λ (i : ℕ). distance (high * factor) target < distance (i * factor) target) x
+            (ltb-true (distance (high * factor) target) (distance (low * factor) target) (sym e))),
+      )
+  choice-nearer false e h =
+      inr (
+        omega arith,
+        λ k.
+            subst (λ (i : ℕ). offIn xs factor target (g - 1) ≤ distance (i * factor) target) y
+            (subst (λ (i : ℕ). distance (i * factor) target ≤ distance (high * factor) target) x
+            (ltb-false (distance (high * factor) target) (distance (low * factor) target) (sym e))),
+      )
 
 -- The heuristic's separators up to p: the speed so far, the first index not known to be past the target and the nearest index.
 pub record Placed (job : Job) (before now : List ℕ) (total weight p speed past s : ℕ) : Type 0 where

@@ -54,7 +54,8 @@ fn first_level(sums: &[u32], a: usize, b: usize, limit: u32) -> usize
     a
 }
 
-// Inner. The first index past the target or, where that is no nearer, the one before it.
+// Inner. The first index past the target or, where that is no nearer, the one before it; which one is added, so that the compiled code
+// has no branch on it.
 fn nearer_of(sums: &[u32], n: usize, past: usize, factor: u64, target: u64) -> usize
     requires { ⌜ Rising (now sums) n ⌝ }
     requires { ⌜ getD (now sums) n 0 * factor < 2 ^ 64 ⌝ }
@@ -62,9 +63,8 @@ fn nearer_of(sums: &[u32], n: usize, past: usize, factor: u64, target: u64) -> u
     ensures { λ r. ⌜ Nearer (now (sums .entry)) factor target n past r ⌝ }
 {
     if past <= n {
-        if high_nearer(wide(sums[past - 1]), wide(sums[past]), factor, target) {
-            return past;
-        }
+        let nearer = high_nearer(wide(sums[past - 1]), wide(sums[past]), factor, target);
+        return past - 1 + nearer as usize;
     }
     past - 1
 }

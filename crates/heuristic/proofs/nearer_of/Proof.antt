@@ -1,11 +1,12 @@
 -- `nearer_of` meets its contract: the two distances are compared where there is an index past the target.
 -- Assumes nothing.
-use Prim.Native.Nat.{_-_, _≤_}
-use mathlib.Core.Logic.{inl, inr, ⊎-elim}
-use mathlib.Core.Path.{refl, sym, _∙_}
+use Prim.Native.Nat.{_≤_}
+use mathlib.Core.Bool.{Bool, true, false}
+use mathlib.Core.Logic.{inr}
+use mathlib.Core.Path.{refl}
 use native.Mathlib.Omega.{arith}
-use Rattle.heuristic.specs.Target.{offIn}
-use Rattle.heuristic.proofs.Laws.{choice-products, choice-high, choice-low}
+use mir.Val.{boolByte}
+use Rattle.heuristic.proofs.Laws.{choice-products, choice-nearer}
 use borrow.Author.Needs.{needs}
 use Rattle.heuristic.proofs.nearer_of.Statement.{statement}
 use Rattle.heuristic.proofs.nearer_of.Tie as tie
@@ -36,26 +37,29 @@ high-nearer-requires c κs =
     let s = c .before .before .before .before .before .before in
     choice-products (s .pre .1 .1) (c .before .before .wide .ensures) (c .wide2 .ensures) (s .pre .0) (s .pre .1 .0) (c .before .before .before .before .if1 .taken)
 
-returns : tie.Need-returns
-returns c =
-    let s = c .before .before .before .before .before .before .before .before in
-    inl (refl, c .before .before .before .before .before .before .if1 .taken, choice-high (s .pre .1 .1) (c .before .before .before .before .wide .ensures) (c .before .before .wide2 .ensures) (sym (c .before .high-nearer .ensures) ∙ c .if2 .taken))
-
 sub-result : tie.Need-sub-result
 sub-result c = search needs
 
--- Where the one before is taken, it is as near.
-near : (c : tie.Joined1)
-    → let s = c .before .before in
-    s .args .past ≤ s .args .n
-    → offIn (s .args .sums .now) (s .args .factor) (s .args .target) (s .args .past - 1)
-    ≤ offIn (s .args .sums .now) (s .args .factor) (s .args .target) (s .args .past)
-near c h =
-    let s = c .before .before in
-    ⊎-elim (λ w. choice-low (s .pre .1 .1) (w .2 .ensures) (w .4 .ensures) (sym (w .5 .ensures) ∙ w .6 .left)) (λ w. absurd (let z : ⊥ = omega arith in z)) (c .if1 .came)
+cast-result : tie.Need-cast-result
+cast-result c = search needs
+
+one-at-most : (b : Bool) → boolByte b ≤ 1
+one-at-most true = omega arith
+one-at-most false = omega arith
+
+add-result : tie.Need-add-result
+add-result c = omega (arith, one-at-most (c .high-nearer .result))
+
+returns : tie.Need-returns
+returns c =
+    let s = c .before .before .before .before .before .before .before in
+    choice-nearer (s .pre .1 .1) (c .before .before .before .wide .ensures) (c .before .wide2 .ensures) (c .high-nearer .result) (c .high-nearer .ensures) (c .before .before .before .before .before .if1 .taken)
+
+sub-result-2 : tie.Need-sub-result-2
+sub-result-2 c = search needs
 
 returns-2 : tie.Need-returns-2
-returns-2 c = inr (refl, near c)
+returns-2 c = inr (refl, λ h. absurd (let z : ⊥ = omega arith in z))
 
 pub nearer-of-spec : {M : Type 1} → statement M
 nearer-of-spec =
@@ -69,6 +73,9 @@ nearer-of-spec =
     shared-slice-read-wide-2
     wide-requires-2
     high-nearer-requires
-    returns
     sub-result
+    cast-result
+    add-result
+    returns
+    sub-result-2
     returns-2)
