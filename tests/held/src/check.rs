@@ -24,7 +24,7 @@ pub struct Check {
     /// The part of the test that runs.
     pub part: &'static str,
     /// How often each call gave each number.
-    seen: [[u64; 16]; 13],
+    seen: [[u64; OTHER + 1]; KINDS.len()],
     pub fits: u64,
     /// How often a search ended early, and had its least candidate on the first machine, on one between, on the last.
     pub searches: [u64; 4],
@@ -57,6 +57,9 @@ pub const KINDS: [(&str, &[u32]); 13] = [
     ("grading", &[0, 5, 6, 7, 8, 11, 12, 13]),
     ("C grading", &[0, 2, 3, 4, 5, 6, 7, 8, 9, 11, 12, 13]),
 ];
+
+/// One more than the greatest number: what no call can give counts as this.
+const OTHER: usize = 15;
 
 /// Where the two gradings stand among the calls.
 const GRADING: usize = 11;
@@ -120,7 +123,7 @@ impl Check {
             failures: 0,
             hasty: false,
             part: "",
-            seen: [[0; 16]; 13],
+            seen: [[0; OTHER + 1]; KINDS.len()],
             fits: 0,
             searches: [0; 4],
             noughts: [0; 4],
@@ -155,7 +158,7 @@ impl Check {
         guard::note(call, at);
         let code = unsafe { planner::call(call, at) };
         guard::done();
-        self.seen[kind(call)][(code as usize).min(15)] += 1;
+        self.seen[kind(call)][(code as usize).min(OTHER)] += 1;
         let number = wanted.as_ref().err().copied().unwrap_or(0);
         if code != number {
             self.fail(&format!("answer {} instead of {}", code, number), describe(call, given));
@@ -264,6 +267,7 @@ impl Check {
     pub fn unseen(&self) -> Vec<String> {
         let mut list = Vec::new();
         for (k, (name, numbers)) in KINDS.iter().enumerate() {
+            assert!(numbers.iter().all(|&n| (n as usize) < OTHER));
             for &n in numbers.iter().filter(|&&n| self.seen[k][n as usize] == 0) {
                 list.push(format!("{} {}", name, n));
             }

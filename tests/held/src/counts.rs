@@ -144,10 +144,11 @@ fn speeds_to_halve(c: &mut Check) {
             speeds[p] = (speeds[p] as i32 + off) as u32;
             unequal.push(speeds);
         }
-        // The same sum, each half or every second of another speed, pairs, and one half the other's mirror.
+        // Each half or every second machine of another speed, pairs, the two ends; and speeds with the sum that equal ones have.
         let (a, b) = (c.rng.range(2, 4_000), c.rng.range(4_001, SPEED));
         let shaped = |f: &dyn Fn(usize) -> bool| (0..machines).map(|p| if f(p) { a } else { b }).collect::<Vec<u32>>();
-        unequal.extend([shaped(&|p| p < machines / 2), shaped(&|p| p % 2 == 0), shaped(&|p| p == 0 || p == machines - 1), shaped(&|p| p / 2 % 2 == 0)]);
+        unequal.extend([shaped(&|p| p < machines / 2), shaped(&|p| p % 2 == 0)]);
+        unequal.extend([shaped(&|p| p / 2 % 2 == 0), shaped(&|p| p == 0 || p == machines - 1)]);
         for (p, q) in [(0, 1), (0, machines - 1), (machines - 1, machines / 2 - 1)] {
             let mut speeds = vec![a; machines];
             speeds[p] += 1;

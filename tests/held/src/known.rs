@@ -87,9 +87,9 @@ const ROWS: [Row; 7] = [
 ];
 
 /// Worked by hand: halves that are no whole numbers, tiles of weight 0 in front, behind and at two nearest, nothing that weighs, a heavy
-/// tile, the greatest load on two machines, equal tiles on four machines and on eight.
+/// tile, the greatest load on two machines, equal tiles on four machines and on eight, and one each that is better and worse than the quick plan.
 #[rustfmt::skip]
-const MORE_ROWS: [Row; 9] = [
+const MORE_ROWS: [Row; 11] = [
     Row { name: "a half of 5, the greater nearer", weights: &[1, 2, 2], speeds: &[1, 1], separators: &[0, 2, 3], bottleneck: (3, 1), splits: [0, 0], meets: false },
     Row { name: "a half of 5, both as near", weights: &[2, 1, 2], speeds: &[1, 1], separators: &[0, 1, 3], bottleneck: (3, 1), splits: [1, 0], meets: false },
     Row { name: "0 in front and behind", weights: &[0, 0, 2, 2, 0, 0], speeds: &[1, 1], separators: &[0, 3, 6], bottleneck: (2, 1), splits: [0, 0], meets: false },
@@ -99,27 +99,35 @@ const MORE_ROWS: [Row; 9] = [
     Row { name: "the greatest load twice", weights: &[3, 1, 2, 0, 0, 3], speeds: &[2, 2, 2, 2], separators: &[0, 1, 2, 3, 6], bottleneck: (3, 2), splits: [0, 1], meets: false },
     Row { name: "five equal tiles", weights: &[2, 2, 2, 2, 2], speeds: &[1, 1, 1, 1], separators: &[0, 1, 2, 3, 5], bottleneck: (4, 1), splits: [2, 0], meets: true },
     Row { name: "eight machines", weights: &[1, 1, 1, 1, 1, 1, 1, 1, 1], speeds: &[1; 8], separators: &[0, 1, 2, 3, 4, 5, 6, 7, 9], bottleneck: (2, 1), splits: [3, 0], meets: true },
+    Row { name: "better than the quick plan, 0 1 1 3 4", weights: &[3, 3, 1, 2], speeds: &[1; 4], separators: &[0, 0, 1, 2, 4], bottleneck: (3, 1), splits: [2, 0], meets: false },
+    Row { name: "worse than the quick plan, 0 1 2 3 3 4 6 7 8", weights: &[1, 2, 2, 2, 1, 1, 2, 1], speeds: &[1; 8], separators: &[0, 1, 2, 2, 3, 4, 5, 6, 8], bottleneck: (3, 1), splits: [4, 0], meets: false },
 ];
 
-/// The solver must give what is known of a row, then the planner, in a list that is longer; then with lists of every length.
+/// The solver must give what is known of a row, then the planner; then with lists of every length.
 fn halved(c: &mut Check, row: &Row) {
     let job = Job::new(row.speeds, row.weights);
     let found = halving::in_turn(&job);
     let separators: Vec<usize> = row.separators.iter().map(|&s| s as usize).collect();
     let mut good = found.separators == separators && halving::by_sums(&job) == separators;
-    good &= [found.ties, found.noughts] == row.splits && slow::bottleneck(&job, &separators) == (row.bottleneck.0 as u128, row.bottleneck.1 as u128);
-    good &= (job.speeds.len() as u128 * row.bottleneck.0 as u128 == halving::most(&job)) == row.meets;
+    let (load, speed) = (row.bottleneck.0 as u128, row.bottleneck.1 as u128);
+    good &= [found.ties, found.noughts] == row.splits && slow::bottleneck(&job, &separators) == (load, speed);
+    good &= (job.speeds.len() as u128 * load == halving::most(&job)) == row.meets;
     if !good {
         c.fail(&format!("the solver gives {:?} for row {}", found, row.name), String::new());
     }
-    let (e, w) = (bytes_of(row.speeds), bytes_of(row.weights));
-    let answer: Vec<u8> = [row.bottleneck.0, row.bottleneck.1].iter().flat_map(|n| n.to_le_bytes()).collect();
-    let list = |front: Vec<u8>| After { front, free: 0 };
-    let wanted = Ok(vec![After::default(), After::default(), list(bytes_of(row.separators)), list(answer)]);
-    let (lent, said) = (c.rng.pattern(4 * row.separators.len() + 12), c.rng.pattern(24));
-    c.ask(Call::Halving, &[&e, &w, &lent, &said], &wanted);
+    halved_as(c, &job, row.separators, row.bottleneck);
     c.jobs_seen += 1;
     every::halve(c, &job, &methods::quick(&job), fast::solve(&job).1, true);
+}
+
+/// The planner must give these separators and this bottleneck, in lists that are longer.
+fn halved_as(c: &mut Check, job: &Job, separators: &[u32], (load, speed): (u64, u64)) {
+    let (e, w) = (bytes_of(&job.speeds), bytes_of(&job.weights));
+    let list = |front: Vec<u8>| After { front, free: 0 };
+    let answer = [load.to_le_bytes(), speed.to_le_bytes()].concat();
+    let wanted = Ok(vec![After::default(), After::default(), list(bytes_of(separators)), list(answer)]);
+    let (lent, said) = (c.rng.pattern(4 * separators.len() + 12), c.rng.pattern(8 * 3));
+    c.ask(Call::Halving, &[&e, &w, &lent, &said], &wanted);
 }
 
 /// The rows as the scope writes them, and what it says of I and J beside them; then 16.10, and the longest row at the limits.
@@ -142,21 +150,20 @@ fn rows(c: &mut Check) {
     // As many and as heavy tiles as there can be; then as many as leave one more than goes evenly, which the last machine takes.
     let each = TILES / LONGEST_HALVED;
     for (tiles, share) in [(TILES, each), (TILES - LONGEST_HALVED + 1, each - 1)] {
-        let (e, w) = (bytes_of(&[SPEED; LONGEST_HALVED]), bytes_of(&vec![WEIGHT; tiles]));
         let mut separators: Vec<u32> = (0..=LONGEST_HALVED).map(|p| (p * share) as u32).collect();
         separators[LONGEST_HALVED] = tiles as u32;
-        let load = each as u64 * WEIGHT as u64;
-        let said: Vec<u8> = [load, SPEED as u64].iter().flat_map(|n| n.to_le_bytes()).collect();
-        let (lent, answer) = (c.rng.pattern(4 * (LONGEST_HALVED + 1)), c.rng.pattern(16));
-        let list = |front: Vec<u8>| After { front, free: 0 };
-        c.ask(Call::Halving, &[&e, &w, &lent, &answer], &Ok(vec![After::default(), After::default(), list(bytes_of(&separators)), list(said)]));
+        let job = Job::new(&[SPEED; LONGEST_HALVED], &vec![WEIGHT; tiles]);
+        halved_as(c, &job, &separators, (each as u64 * WEIGHT as u64, SPEED as u64));
     }
 }
 
 /// Numbers as the scope's tables write them.
 fn text(list: &[u32]) -> String {
     let words: Vec<String> = list.iter().map(|n| n.to_string()).collect();
-    if words.is_empty() { "none".to_string() } else { words.join(" ") }
+    match words.len() {
+        0 => "none".to_string(),
+        _ => words.join(" "),
+    }
 }
 
 /// A row of the scope's table up to its last cell.
