@@ -838,7 +838,7 @@ const FAULTS: &[(&str, &str, Run)] = &[
     ("halving-6-taken", "halving: six machines taken", |l| l.halving_gives(0, 14, |e| e.len() == 6 && e.windows(2).all(|v| v[0] == v[1]))),
     ("halving-96-taken", "halving: the most machines taken", |l| l.halving_gives(0, 14, |e| e.len() == MACHINES && e.windows(2).all(|v| v[0] == v[1]))),
     ("halving-128-taken", "halving: a power of two above the most machines taken", |l| l.halving_gives(0, 7, |e| e.len() == 2 * LONGEST_HALVED)),
-    ("halving-none-14", "halving: 14 for no machine", |l| match l.real() { 7 if l.call == Call::Halving && l.at[0].1 == 0 => 14, code => code }),
+    ("halving-no-machine", "halving: 14 for no machine", |l| match l.real() { 7 if l.call == Call::Halving && l.at[0].1 == 0 => 14, code => code }),
     ("halving-one-refused", "halving: one machine refused", |l| l.halving_gives(14, 0, |e| e.len() == 1)),
     ("halving-64-refused", "halving: the longest row refused", |l| l.halving_gives(14, 0, |e| e.len() == LONGEST_HALVED)),
     ("halving-speeds-last", "halving: the last speed not compared", |l| l.halving_gives(0, 14, |e| e.len().is_power_of_two() && e[..e.len() - 1].windows(2).all(|v| v[0] == v[1]))),
