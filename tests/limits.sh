@@ -154,6 +154,12 @@ says docs/WHY.md '' 'any stored job has # machines' "$machines"
 says docs/WHY.md '' 'a row of # is refused' $((machines + 1))
 says docs/WHY.md '' 'a job of up to # machines' "$machines"
 says docs/TESTING.md '' "of $(grouped "$tiles") × #" "$machines"
+halved=1
+while [ $((2 * halved)) -le "$machines" ]; do halved=$((2 * halved)); done
+says docs/TESTING.md '' '32 and # machines are halved' "$halved"
+says docs/TESTING.md '' 'other numbers up to # give 14' "$machines"
+says docs/TESTING.md '' "up to # machines and $(grouped "$tiles") tiles" "$halved"
+says docs/TESTING.md '' "up to $halved machines and # tiles" "$tiles"
 text=docs/BENCHMARKS.md
 says $text '- **Jobs**' 'N = # tiles on' $((8 * machines))
 says $text '- **Jobs**' 'on P = # machines' "$machines"

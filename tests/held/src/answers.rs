@@ -5,7 +5,7 @@ use crate::limits::{self, BOUND_LOAD, BOUND_SPEED, MACHINES, SPEED, TILES, WEIGH
 use crate::methods::{self, Search, Tried};
 use crate::planner::Call;
 use crate::slow::{self, Bound};
-use crate::{damage, fast, grading, listing};
+use crate::{damage, fast, grading, halving, listing};
 
 /// What a lent list holds after a call: this in front, then `free` bytes with anything, then what it held.
 #[derive(Clone, Debug, Default)]
@@ -152,6 +152,7 @@ fn accepted(call: Call, job: Job, given: &[&[u8]], solved: Option<&Solved>) -> R
             let grade = grading::grade(&job, given[2], solved)?;
             return Ok(vec![stays(), stays(), stays(), answer(given[3], &[grade.number() as u128])]);
         }
+        Call::Halving if !halving::can_halve(&job.speeds) => return Err(14),
         _ => {}
     }
     let separators = words(given[2]);
@@ -166,6 +167,7 @@ fn accepted(call: Call, job: Job, given: &[&[u8]], solved: Option<&Solved>) -> R
     match call {
         Call::Trial { load, speed } => tried(&job, load, speed, given),
         Call::Measure | Call::PlanFile => divided(call, &job, &separators[..machines + 1], given),
+        Call::Halving => Ok(written(&job, &halving::in_turn(&job).separators, given)),
         _ => solved_answer(call, job, given, solved),
     }
 }
@@ -196,6 +198,12 @@ fn divided(call: Call, job: &Job, separators: &[u32], given: &[&[u8]]) -> Result
     Ok(vec![stays(), stays(), stays(), After { front: plan, free: 0 }, answer(given[4], &[bytes])])
 }
 
+/// The quick plan and halving the row: the separators, and their bottleneck for an answer.
+fn written(job: &Job, separators: &[usize], given: &[&[u8]]) -> Vec<After> {
+    let found = slow::bottleneck(job, separators);
+    vec![After::default(), After::default(), front(separators), answer(given[3], &[found.0, found.1])]
+}
+
 /// The quick plan and the plan by a method.
 fn solved_answer(call: Call, job: Job, given: &[&[u8]], solved: Option<&Solved>) -> Result<Vec<After>, u32> {
     let own;
@@ -208,8 +216,7 @@ fn solved_answer(call: Call, job: Job, given: &[&[u8]], solved: Option<&Solved>)
     };
     let stays = After::default;
     let Call::Plan { method } = call else {
-        let found = slow::bottleneck(&job, &s.quick);
-        return Ok(vec![stays(), stays(), front(&s.quick), answer(given[3], &[found.0, found.1])]);
+        return Ok(written(&job, &s.quick, given));
     };
     let work = After { front: Vec::new(), free: 4 * limits::work_numbers(job.weights.len()) };
     let figures = [

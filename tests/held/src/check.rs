@@ -24,7 +24,7 @@ pub struct Check {
     /// The part of the test that runs.
     pub part: &'static str,
     /// How often each call gave each number.
-    seen: [[u64; 15]; 12],
+    seen: [[u64; OTHER + 1]; KINDS.len()],
     pub fits: u64,
     /// How often a search ended early, and had its least candidate on the first machine, on one between, on the last.
     pub searches: [u64; 4],
@@ -34,16 +34,22 @@ pub struct Check {
     grades: [[u64; 2]; 2],
     /// How many best plans had other separators than the planner's, and of these how many had their bottleneck as another pair.
     pub others: [u64; 2],
+    /// How many splits of halved rows had two nearest weights on the left, and how many tiles of weight 0 behind the separator.
+    pub splits: [u64; 2],
+    /// Of rows of two machines and more that were halved: how many had the greatest load that 16.7 allows, and more than one tile that
+    /// weighs; how many had other separators than the quick plan, a smaller bottleneck, a greater one; and how many one above the best.
+    pub halved: [u64; 5],
 }
 
 /// The calls, the name of each, and the numbers that it can give.
-pub const KINDS: [(&str, &[u32]); 12] = [
+pub const KINDS: [(&str, &[u32]); 13] = [
     ("testing", &[0, 5, 6, 7, 8]),
     ("reading", &[0, 2, 3, 4, 5, 6, 7, 8, 9]),
     ("writing", &[0, 5, 6, 7, 8, 9]),
     ("measuring", &[0, 5, 6, 7, 8, 9, 11]),
     ("trial", &[0, 5, 6, 7, 8, 9, 10]),
     ("quick plan", &[0, 5, 6, 7, 8, 9]),
+    ("halving", &[0, 5, 6, 7, 8, 14, 9]),
     ("plan", &[0, 1, 5, 6, 7, 8, 9]),
     ("plan file", &[0, 5, 6, 7, 8, 9, 11]),
     ("C call", &[0, 1, 2, 3, 4, 5, 6, 7, 8, 9]),
@@ -52,8 +58,11 @@ pub const KINDS: [(&str, &[u32]); 12] = [
     ("C grading", &[0, 2, 3, 4, 5, 6, 7, 8, 9, 11, 12, 13]),
 ];
 
+/// One more than the greatest number: what no call can give counts as this.
+const OTHER: usize = 15;
+
 /// Where the two gradings stand among the calls.
-const GRADING: usize = 10;
+const GRADING: usize = 11;
 
 fn kind(call: Call) -> usize {
     match call {
@@ -63,10 +72,11 @@ fn kind(call: Call) -> usize {
         Call::Measure => 3,
         Call::Trial { .. } => 4,
         Call::Quick => 5,
-        Call::Plan { .. } => 6,
-        Call::PlanFile => 7,
-        Call::Host { .. } => 8,
-        Call::List => 9,
+        Call::Halving => 6,
+        Call::Plan { .. } => 7,
+        Call::PlanFile => 8,
+        Call::Host { .. } => 9,
+        Call::List => 10,
         Call::Grade => GRADING,
         Call::HostGrade => GRADING + 1,
     }
@@ -113,12 +123,14 @@ impl Check {
             failures: 0,
             hasty: false,
             part: "",
-            seen: [[0; 15]; 12],
+            seen: [[0; OTHER + 1]; KINDS.len()],
             fits: 0,
             searches: [0; 4],
             noughts: [0; 4],
             grades: [[0; 2]; 2],
             others: [0; 2],
+            splits: [0; 2],
+            halved: [0; 5],
         }
     }
 
@@ -146,7 +158,7 @@ impl Check {
         guard::note(call, at);
         let code = unsafe { planner::call(call, at) };
         guard::done();
-        self.seen[kind(call)][(code as usize).min(14)] += 1;
+        self.seen[kind(call)][(code as usize).min(OTHER)] += 1;
         let number = wanted.as_ref().err().copied().unwrap_or(0);
         if code != number {
             self.fail(&format!("answer {} instead of {}", code, number), describe(call, given));
@@ -255,6 +267,7 @@ impl Check {
     pub fn unseen(&self) -> Vec<String> {
         let mut list = Vec::new();
         for (k, (name, numbers)) in KINDS.iter().enumerate() {
+            assert!(numbers.iter().all(|&n| (n as usize) < OTHER));
             for &n in numbers.iter().filter(|&&n| self.seen[k][n as usize] == 0) {
                 list.push(format!("{} {}", name, n));
             }

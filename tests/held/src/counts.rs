@@ -1,10 +1,10 @@
 //! How many machines and tiles a job may have, asked of every call that takes a job, by lists and by file: the most pass, one more and
-//! many more are refused, after a bad speed or weight and before a list that is too short.
+//! many more are refused, after a bad speed or weight and before a list that is too short. And which rows can be halved.
 
 use crate::answers::{bytes_of, Solved};
 use crate::check::Check;
 use crate::job::{self, Job};
-use crate::limits::{job_bytes, plan_bytes, work_numbers, BOUND_LOAD, LISTING, MACHINES, SPEED, TILES, TOO_MANY, WEIGHT};
+use crate::limits::{job_bytes, plan_bytes, work_numbers, BOUND_LOAD, LISTING, LONGEST_HALVED, MACHINES, SPEED, TILES, TOO_MANY, WEIGHT};
 use crate::planner::Call;
 use crate::{every, listing, small};
 
@@ -41,6 +41,7 @@ fn by_lists(c: &mut Check, job: &Job, number: u32) {
         c.refuse(Call::Measure, &[&e, &w, s, &answer], number);
         c.refuse(Call::Trial { load, speed }, &[&e, &w, s, &answer], number);
         c.refuse(Call::Quick, &[&e, &w, s, &answer], number);
+        c.refuse(Call::Halving, &[&e, &w, s, &answer], number);
         for method in 1..=4 {
             c.refuse(Call::Plan { method }, &[&e, &w, s, &work, &answer], number);
         }
@@ -101,7 +102,76 @@ fn too_much(c: &mut Check, machines: usize, tiles: usize, number: u32) {
     }
 }
 
+/// The call that halves a row, with so many entries for separators.
+fn halve(c: &mut Check, job: &Job, room: usize, number: u32) {
+    let (e, w) = (bytes_of(&job.speeds), bytes_of(&job.weights));
+    let (separators, answer) = (c.rng.pattern(4 * room), c.rng.pattern(8 * 3));
+    c.refuse(Call::Halving, &[&e, &w, &separators, &answer], number);
+}
+
+/// Rows of one speed, of every length: those of 1, 2, 4 and so on machines up to the limit are halved, all others up to it give 14, with
+/// no room for separators too; past it they give 7, also where they are a power of two. With too many tiles it is 8 before 14.
+fn lengths_to_halve(c: &mut Check) {
+    let doubled: Vec<usize> = (0..8).map(|k| 1 << k).filter(|&p| p <= MACHINES).collect();
+    assert_eq!(doubled.last(), Some(&LONGEST_HALVED));
+    for machines in (0..=2 * MACHINES + 70).chain([511, 512, 1 << 16]) {
+        c.jobs_seen += 1;
+        let speed = c.rng.pick(&[1, 2, 3, SPEED]);
+        for tiles in [0, 1, 5, TILES + 1] {
+            let weights = (0..tiles).map(|_| c.rng.range(0, 9)).collect();
+            let job = Job { speeds: vec![speed; machines], weights };
+            for room in [0, machines / 2, machines, machines + 1, machines + 4] {
+                let number = match machines {
+                    _ if machines == 0 || machines > MACHINES => 7,
+                    _ if tiles > TILES => 8,
+                    _ if !doubled.contains(&machines) => 14,
+                    _ if room <= machines => 9,
+                    _ => 0,
+                };
+                halve(c, &job, room, number);
+            }
+        }
+    }
+}
+
+/// A row of one speed is halved, and the same row is not with another speed at any one place, or at several.
+fn speeds_to_halve(c: &mut Check) {
+    let mut machines = 2;
+    while machines <= LONGEST_HALVED {
+        let mut unequal: Vec<Vec<u32>> = Vec::new();
+        for (p, off) in (0..machines).flat_map(|p| [1, 256, 4_096, -1].map(|off| (p, off))) {
+            let mut speeds = vec![c.rng.range(2, 5_000); machines];
+            speeds[p] = (speeds[p] as i32 + off) as u32;
+            unequal.push(speeds);
+        }
+        // Each half or every second machine of another speed, pairs, the two ends; and speeds with the sum that equal ones have.
+        let (a, b) = (c.rng.range(2, 4_000), c.rng.range(4_001, SPEED));
+        let shaped = |f: &dyn Fn(usize) -> bool| (0..machines).map(|p| if f(p) { a } else { b }).collect::<Vec<u32>>();
+        unequal.extend([shaped(&|p| p < machines / 2), shaped(&|p| p % 2 == 0)]);
+        unequal.extend([shaped(&|p| p / 2 % 2 == 0), shaped(&|p| p == 0 || p == machines - 1)]);
+        for (p, q) in [(0, 1), (0, machines - 1), (machines - 1, machines / 2 - 1)] {
+            let mut speeds = vec![a; machines];
+            speeds[p] += 1;
+            speeds[q] -= 1;
+            unequal.push(speeds);
+        }
+        for speeds in unequal.into_iter().filter(|s| s.iter().any(|e| *e != s[0])) {
+            let tiles = c.rng.pick(&[0, 1, 3, 40]);
+            let weights = (0..tiles).map(|_| c.rng.range(0, 9)).collect();
+            let job = Job { speeds, weights };
+            c.jobs_seen += 1;
+            for room in [0, machines, machines + 1] {
+                halve(c, &job, room, 14);
+            }
+            halve(c, &Job { speeds: vec![job.speeds[0]; machines], ..job }, machines + 1, 0);
+        }
+        machines *= 2;
+    }
+}
+
 pub fn run(c: &mut Check) {
+    lengths_to_halve(c);
+    speeds_to_halve(c);
     let most = [(1, 0), (1, TILES), (MACHINES - 1, 1), (MACHINES, 0), (MACHINES, 1), (MACHINES, TILES - 1), (MACHINES, TILES)];
     for (machines, tiles) in most {
         for _ in 0..4 {

@@ -3,13 +3,13 @@
 use crate::answers::{bytes_of, Solved};
 use crate::check::Check;
 use crate::damage::is_tiny;
-use crate::grades;
 use crate::job::Job;
 use crate::limits::{job_bytes, plan_bytes, work_numbers, BOUND_LOAD, BOUND_SPEED};
 use crate::methods::{self, Tried};
 use crate::planner::Call;
 use crate::rng::Rng;
 use crate::slow::{self, less, Bound};
+use crate::{grades, halving};
 
 fn around(r: &mut Rng, exact: usize) -> Vec<usize> {
     let mut list = vec![0, exact.saturating_sub(1), exact, exact + 1, exact + 2 + r.below(9)];
@@ -185,6 +185,47 @@ fn trials(c: &mut Check, s: &Solved, e: &[u8], w: &[u8], thorough: bool) {
     }
 }
 
+/// What the test expects of halving must itself be as it has to: its two forms agree, no load is above what 16.7 allows, and the
+/// bottleneck is no smaller than the best.
+fn halves(c: &mut Check, job: &Job, quick: &[usize], best: Bound) {
+    let found = halving::in_turn(job);
+    let (machines, most) = (job.speeds.len() as u128, halving::most(job));
+    let bottleneck = slow::bottleneck(job, &found.separators);
+    let mut good = halving::by_sums(job) == found.separators && found.separators.len() == job.speeds.len() + 1;
+    good &= machines * bottleneck.0 <= most && !less(bottleneck, best);
+    if !good {
+        c.fail(&format!("the solver's own halving is wrong: {:?}, {:?}", found, bottleneck), format!("  {:?}", job));
+    }
+    if machines == 1 {
+        return;
+    }
+    let weighing = job.weights.iter().filter(|&&w| w > 0).count();
+    let other = slow::bottleneck(job, quick);
+    for (count, is) in c.splits.iter_mut().zip([found.ties, found.noughts]) {
+        *count += is;
+    }
+    let meets = machines * bottleneck.0 == most && weighing > 1;
+    let differs = [found.separators != quick, less(bottleneck, other), less(other, bottleneck), less(best, bottleneck)];
+    for (count, is) in c.halved.iter_mut().zip([meets].into_iter().chain(differs)) {
+        *count += is as u64;
+    }
+}
+
+/// Halving a row, where it can be, beside its quick plan and the best bottleneck; else a refusal, with room and with any list.
+pub fn halve(c: &mut Check, job: &Job, quick: &[usize], best: Bound, thorough: bool) {
+    let (e, w) = (bytes_of(&job.speeds), bytes_of(&job.weights));
+    let can = halving::can_halve(&job.speeds);
+    if can {
+        halves(c, job, quick, best);
+    }
+    let mut list = lengths(&mut c.rng, &[job.speeds.len() + 1, 2], thorough && can);
+    list.truncate(if can { list.len() } else { 2 });
+    for l in list {
+        let (lent, answer) = (c.rng.pattern(4 * l[0]), c.rng.pattern(8 * l[1]));
+        c.judge(Call::Halving, &[&e, &w, &lent, &answer], None);
+    }
+}
+
 /// The search of method 4 that the test expects must itself end as it has to: no candidate is below the best, one is equal to it,
 /// and an empty share fits exactly where nothing weighs. Up to 200 tiles its other form must agree.
 fn searched(c: &mut Check, s: &Solved) {
@@ -243,6 +284,7 @@ pub fn job(c: &mut Check, s: &Solved, thorough: bool) {
     files(c, s, &e, &w, thorough);
     measures(c, s, &e, &w, thorough);
     trials(c, s, &e, &w, thorough);
+    halve(c, &s.job, &s.quick, s.bottleneck, thorough);
     plans(c, s, &e, &w, thorough);
     grading(c, s, &e, &w);
 }

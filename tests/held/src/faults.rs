@@ -5,9 +5,10 @@ use std::sync::OnceLock;
 
 use crate::answers;
 use crate::grading;
+use crate::halving;
 use crate::job::{self, Job};
 use crate::limits::{job_bytes, plan_bytes, work_numbers, BOUND_LOAD, BOUND_SPEED, JOB_INTAKE, LISTING, LONGEST_JOB};
-use crate::limits::{MACHINES, SPEED, TILES, WEIGHT};
+use crate::limits::{LONGEST_HALVED, MACHINES, SPEED, TILES, WEIGHT};
 use crate::listing;
 use crate::methods::{self, Tried};
 use crate::planner::{self, At, Call, Slot};
@@ -169,6 +170,7 @@ impl Lists<'_> {
             (w.iter().any(|&w| w > WEIGHT), 6),
             (e.is_empty() || e.len() > MACHINES, 7),
             (w.len() > TILES, 8),
+            (self.call == Call::Halving && !halving::can_halve(e), 14),
             (short, 9),
             (matches!(self.call, Call::Trial { load, speed } if out(load, speed)), 10),
             (divides && s.len() > e.len() && !answers::is_division(&s[..e.len() + 1], w.len()), 11),
@@ -183,6 +185,24 @@ impl Lists<'_> {
         }
         let all = self.numbers();
         order.iter().copied().find(|n| all.contains(n)).unwrap_or_else(|| self.real())
+    }
+
+    /// Halving with its tests in another order.
+    fn halving_ordered(&self, order: &[u32]) -> u32 {
+        if self.call == Call::Halving {
+            self.ordered(order)
+        } else {
+            self.real()
+        }
+    }
+
+    /// Halving that gives another number to rows which are like this, where no other test fails.
+    fn halving_gives(&self, number: u32, instead: u32, like: fn(&[u32]) -> bool) -> u32 {
+        let others = || self.numbers().into_iter().filter(|&n| n != instead).count();
+        if self.call == Call::Halving && self.real() == instead && others() == 0 && like(self.words(Slot::Speeds)) {
+            return number;
+        }
+        self.real()
     }
 
     /// Files, by numbers that a rule makes of all records.
@@ -463,6 +483,64 @@ fn requick(l: Lists, nearer: fn(i128, i128) -> bool) -> u32 {
     })
 }
 
+/// Other separators of a row that is halved, with their bottleneck.
+fn rehalve(l: Lists, other: impl FnOnce(&Job) -> Vec<usize>) -> u32 {
+    l.then(l.call == Call::Halving, |job| {
+        let s = other(job);
+        let found = slow::bottleneck(job, &s);
+        for (to, from) in l.words(Slot::Separators).iter_mut().zip(&s) {
+            *to = *from as u32;
+        }
+        for (to, from) in l.answer().iter_mut().zip([found.0, found.1]) {
+            *to = from as u64;
+        }
+    })
+}
+
+/// A row halved another way: where the separator is put in the part from a to b, of so many machines, and which sides are then split:
+/// the part, and whether it is a left one. A side that is not split is all its last machine's.
+fn halved_by(job: &Job, put: &dyn Fn(usize, usize, usize) -> usize, goes_on: &dyn Fn(usize, bool) -> bool) -> Vec<usize> {
+    let machines = job.speeds.len();
+    let mut s = vec![0; machines + 1];
+    let mut parts = vec![(0, machines, 0, job.weights.len(), true)];
+    while let Some((first, last, a, b, split)) = parts.pop() {
+        s[last] = b;
+        let middle = (first + last) / 2;
+        if first == middle {
+            continue;
+        }
+        let at = if split { put(a, b, last - first) } else { a };
+        parts.push((first, middle, a, at, split && goes_on(middle - first, true)));
+        parts.push((middle, last, at, b, split && goes_on(middle - first, false)));
+    }
+    s
+}
+
+/// Another choice of the nearest: by the doubled distances of an index and of the one chosen so far, below 0 on the left of the half.
+fn halved_nearer(job: &Job, nearer: fn(i128, i128) -> bool) -> Vec<usize> {
+    halved_to(job, |off, _| off, nearer)
+}
+
+/// Another half: by what is made of the doubled distance and of the part's weight.
+fn halved_to(job: &Job, made: fn(i128, i128) -> i128, nearer: fn(i128, i128) -> bool) -> Vec<usize> {
+    let put = |a: usize, b: usize, _: usize| {
+        let part = job.weight(a, b) as i128;
+        let off = |i: usize| made(2 * job.weight(a, i) as i128 - part, part);
+        (a..=b).reduce(|best, i| if nearer(off(i), off(best)) { i } else { best }).unwrap()
+    };
+    halved_by(job, &put, &|_, _| true)
+}
+
+fn is_nearer(new: i128, old: i128) -> bool {
+    new.abs() < old.abs()
+}
+
+/// Halving as it has to be, but that some sides are not split.
+fn halved_but(job: &Job, goes_on: &dyn Fn(usize, bool) -> bool) -> Vec<usize> {
+    let put = |a: usize, b: usize, _: usize| halving::by_sums(&Job::new(&[1, 1], &job.weights[a..b]))[1] + a;
+    halved_by(job, &put, goes_on)
+}
+
 /// The table's value where each entry looks only at its crossing.
 fn crossing_only(job: &Job) -> Bound {
     let tiles = job.weights.len();
@@ -606,13 +684,13 @@ const FAULTS: &[(&str, &str, Run)] = &[
     ("bottleneck-last", "plan: the pair of the highest-numbered machine", |l| { let s = l.words(Slot::Separators); l.pair(l.is_plans(), 2, |j, b| of_last_machine(j, s, b)) }),
     ("bottleneck-nought", "plan: 0/1 where nothing weighs", |l| l.pair(l.is_plans(), 2, |_, b| if b.0 == 0 { (0, 1) } else { b })),
     // Refusals.
-    ("order-6-5", "weights before speeds", |l| l.ordered(&[1, 6, 5, 7, 8, 9, 10, 11])),
-    ("order-7-5", "counts before values", |l| l.ordered(&[1, 7, 8, 5, 6, 9, 10, 11])),
-    ("order-8-7", "tiles counted before machines", |l| l.ordered(&[1, 5, 6, 8, 7, 9, 10, 11])),
-    ("order-9-8", "lengths before the count of tiles", |l| l.ordered(&[1, 5, 6, 7, 9, 8, 10, 11])),
-    ("order-10-9", "the bound before the lengths", |l| l.ordered(&[1, 5, 6, 7, 8, 10, 9, 11])),
-    ("order-11-9", "the division before the lengths", |l| l.ordered(&[1, 5, 6, 7, 8, 11, 9, 10])),
-    ("order-1-last", "the method tested last", |l| l.ordered(&[5, 6, 7, 8, 9, 10, 11, 1])),
+    ("order-6-5", "weights before speeds", |l| l.ordered(&[1, 6, 5, 7, 8, 14, 9, 10, 11])),
+    ("order-7-5", "counts before values", |l| l.ordered(&[1, 7, 8, 5, 6, 14, 9, 10, 11])),
+    ("order-8-7", "tiles counted before machines", |l| l.ordered(&[1, 5, 6, 8, 7, 14, 9, 10, 11])),
+    ("order-9-8", "lengths before the count of tiles", |l| l.ordered(&[1, 5, 6, 7, 9, 8, 14, 10, 11])),
+    ("order-10-9", "the bound before the lengths", |l| l.ordered(&[1, 5, 6, 7, 8, 14, 10, 9, 11])),
+    ("order-11-9", "the division before the lengths", |l| l.ordered(&[1, 5, 6, 7, 8, 14, 11, 9, 10])),
+    ("order-1-last", "the method tested last", |l| l.ordered(&[5, 6, 7, 8, 14, 9, 10, 11, 1])),
     ("order-rules", "reading: 3 to 6 rule by rule, not record by record", |l| l.by_records(rule_by_rule)),
     ("order-5-4", "reading: 5 before 4 in one record", |l| l.by_records(speed_before_place)),
     ("order-2-late", "reading: the length tested after the records", |l| if l.call == Call::Read && l.at[0].1 % 8 != 0 { let mut f = l.bytes(Slot::File).to_vec(); f.truncate(l.at[0].1 / 8 * 8); match l.with(Slot::File, &mut f) { n @ 3..=6 => n, _ => 2 } } else { l.real() }),
@@ -720,6 +798,63 @@ const FAULTS: &[(&str, &str, Run)] = &[
     ("quick-tie", "quick plan: the greatest of the nearest indices", |l| requick(l, |new, old| new.abs() <= old.abs())),
     ("quick-below", "quick plan: the last index below the target, not the nearest", |l| requick(l, |new, _| new <= 0)),
     ("quick-best", "quick plan: the bottleneck of the best plan", |l| l.pair(l.call == Call::Quick, 0, |j, _| best_bound(j))),
+    // Halving the row: where the separators are put.
+    ("halving-greater", "halving: of two nearest weights on the left the greater", |l| rehalve(l, |j| halved_nearer(j, |new, old| new.abs() < old.abs() || new == -old && new > 0))),
+    ("halving-zeros", "halving: behind the tiles of weight 0 at the separator", |l| rehalve(l, |j| halved_nearer(j, |new, old| is_nearer(new, old) || new == old))),
+    ("halving-above", "halving: the first index with half of the weight, not the nearest", |l| rehalve(l, |j| halved_nearer(j, |_, old| old < 0))),
+    ("halving-down", "halving: a half rounded down", |l| rehalve(l, |j| halved_to(j, |off, part| off + part % 2, is_nearer))),
+    ("halving-up", "halving: a half rounded up", |l| rehalve(l, |j| halved_to(j, |off, part| off - part % 2, is_nearer))),
+    ("halving-30-bits", "halving: a part's weight of 30 bits", |l| rehalve(l, |j| halved_to(j, |off, part| off + part - part % (1 << 30), is_nearer))),
+    ("halving-whole", "halving: half of the whole row's weight, in each part", |l| rehalve(l, |j| { let whole = methods::ideal(j).0 as i128; halved_by(j, &|a, b, _| { let off = |i: usize| (2 * j.weight(a, i) as i128 - whole).abs(); (a..=b).reduce(|best, i| if off(i) < off(best) { i } else { best }).unwrap() }, &|_, _| true) })),
+    ("halving-tiles", "halving: half of the tiles", |l| rehalve(l, |j| halved_by(j, &|a, b, _| (a + b) / 2, &|_, _| true))),
+    ("halving-left", "halving: no left side is split", |l| rehalve(l, |j| halved_but(j, &|_, left| !left))),
+    ("halving-right", "halving: no right side is split, all is its last machine's", |l| rehalve(l, |j| halved_but(j, &|_, left| left))),
+    ("halving-right-first", "halving: of the right half of the row all is the first machine's", |l| rehalve(l, |j| { let mut s = halving::by_sums(j); let half = j.speeds.len() / 2; s[half + 1..].fill(j.weights.len()); s })),
+    ("halving-deep", "halving: the longest row's pairs of machines not split", |l| rehalve(l, |j| { let most = j.speeds.len() == LONGEST_HALVED; halved_but(j, &|part, _| part > 2 || !most) })),
+    ("halving-relative", "halving: in the right half of the row indices counted from where it begins", |l| l.inner(l.call == Call::Halving, |_, s| { let (machines, half) = (s.len() - 1, s.len() / 2); for p in half + 1..machines { s[p] -= s[half] } })),
+    ("halving-end", "halving: the tiles of weight 0 at the end left out", |l| l.inner(l.call == Call::Halving, |j, s| { let k = s.len() - 1; s[k] = j.weights.iter().rposition(|&w| w > 0).map_or(0, |i| i as u32 + 1).max(s[k - 1]) })),
+    ("halving-start", "halving: the first separator not written", |l| { let first = l.words(Slot::Separators).first().copied(); l.inner(l.call == Call::Halving, |_, s| s[0] = first.unwrap()) }),
+    ("halving-quick", "halving: the quick plan in its place", |l| rehalve(l, methods::quick)),
+    ("halving-best", "halving: a best division in its place, where its bottleneck is smaller", |l| rehalve(l, |j| { let s = halving::by_sums(j); if j.weights.len() < 200 && less(best_bound(j), slow::bottleneck(j, &s)) { answers::Solved::of(j).best } else { s } })),
+    ("halving-many", "halving: a separator wrong with the longest row and 2,000 tiles only", |l| l.inner(l.call == Call::Halving && l.at[0].1 == LONGEST_HALVED && l.at[1].1 > 2_000, |_, s| { let k = s.len() - 2; if s[k] > s[k - 1] { s[k] -= 1 } })),
+    ("halving-seldom", "halving: a separator wrong once in 5,000 rows", |l| l.inner(l.call == Call::Halving, |_, s| if s.len() > 2 && s[1] > 0 && seldom(5_000) { s[1] -= 1 })),
+    ("halving-nothing", "halving: no separators written", |l| { let before = l.words(Slot::Separators).to_vec(); l.then(l.call == Call::Halving, |_| l.words(Slot::Separators).copy_from_slice(&before)) }),
+    // Its answer.
+    ("halving-answer-quick", "halving: the bottleneck of the quick plan", |l| l.pair(l.call == Call::Halving, 0, |j, _| slow::bottleneck(j, &methods::quick(j)))),
+    ("halving-answer-best", "halving: the bottleneck of the best plan", |l| l.pair(l.call == Call::Halving && l.at[1].1 < 200, 0, |j, _| best_bound(j))),
+    ("halving-answer-most", "halving: the greatest load that its bound allows", |l| l.figure(l.call == Call::Halving, 0, |j, _| (halving::most(j) / j.speeds.len() as u128) as u64)),
+    ("halving-answer-speed", "halving: the greatest load over the speed of the whole row", |l| l.pair(l.call == Call::Halving, 0, |j, b| (b.0, methods::ideal(j).1))),
+    ("halving-answer-reduced", "halving: the pair reduced", |l| l.pair(l.call == Call::Halving, 0, |_, b| reduced(b))),
+    ("halving-answer-nought", "halving: 0/1 where nothing weighs", |l| l.pair(l.call == Call::Halving, 0, |_, b| if b.0 == 0 { (0, 1) } else { b })),
+    // Its refusals.
+    ("halving-9-14", "halving: 9 before 14", |l| l.halving_ordered(&[5, 6, 7, 8, 9, 14])),
+    ("halving-14-8", "halving: 14 before 8", |l| l.halving_ordered(&[5, 6, 7, 14, 8, 9])),
+    ("halving-14-7", "halving: 14 before 7", |l| l.halving_ordered(&[5, 6, 14, 7, 8, 9])),
+    ("halving-14-6", "halving: 14 before 6", |l| l.halving_ordered(&[5, 14, 6, 7, 8, 9])),
+    ("halving-14-5", "halving: 14 before 5", |l| l.halving_ordered(&[14, 5, 6, 7, 8, 9])),
+    ("halving-7-for-14", "halving: 7 for a number of machines that is no power of two", |l| l.halving_gives(7, 14, |e| !e.len().is_power_of_two())),
+    ("halving-5-for-14", "halving: 5 for speeds that are not equal", |l| l.halving_gives(5, 14, |e| e.iter().any(|v| *v != e[0]))),
+    ("halving-3-taken", "halving: three machines taken", |l| l.halving_gives(0, 14, |e| e.len() == 3 && e.windows(2).all(|v| v[0] == v[1]))),
+    ("halving-6-taken", "halving: six machines taken", |l| l.halving_gives(0, 14, |e| e.len() == 6 && e.windows(2).all(|v| v[0] == v[1]))),
+    ("halving-96-taken", "halving: the most machines taken", |l| l.halving_gives(0, 14, |e| e.len() == MACHINES && e.windows(2).all(|v| v[0] == v[1]))),
+    ("halving-128-taken", "halving: a power of two above the most machines taken", |l| l.halving_gives(0, 7, |e| e.len() == 2 * LONGEST_HALVED)),
+    ("halving-no-machine", "halving: 14 for no machine", |l| match l.real() { 7 if l.call == Call::Halving && l.at[0].1 == 0 => 14, code => code }),
+    ("halving-one-refused", "halving: one machine refused", |l| l.halving_gives(14, 0, |e| e.len() == 1)),
+    ("halving-64-refused", "halving: the longest row refused", |l| l.halving_gives(14, 0, |e| e.len() == LONGEST_HALVED)),
+    ("halving-speeds-last", "halving: the last speed not compared", |l| l.halving_gives(0, 14, |e| e.len().is_power_of_two() && e[..e.len() - 1].windows(2).all(|v| v[0] == v[1]))),
+    ("halving-speeds-first", "halving: the first speed not compared", |l| l.halving_gives(0, 14, |e| e.len().is_power_of_two() && e[1..].windows(2).all(|v| v[0] == v[1]))),
+    ("halving-speeds-two", "halving: the first two speeds compared, no others", |l| l.halving_gives(0, 14, |e| e.len().is_power_of_two() && e[0] == e[1])),
+    ("halving-speeds-pairs", "halving: speeds compared in pairs only", |l| l.halving_gives(0, 14, |e| e.len().is_power_of_two() && e.chunks(2).all(|v| v[0] == v[1]))),
+    ("halving-speeds-sum", "halving: speeds whose sum is P times the first taken", |l| l.halving_gives(0, 14, |e| e.len().is_power_of_two() && e.iter().sum::<u32>() == e.len() as u32 * e[0])),
+    ("halving-speeds-byte", "halving: the lowest bytes of the speeds compared", |l| l.halving_gives(0, 14, |e| e.len().is_power_of_two() && e.iter().all(|v| v % 256 == e[0] % 256))),
+    ("halving-speeds-empty", "halving: unequal speeds taken where there are no tiles", |l| if l.call == Call::Halving && l.at[1].1 == 0 { l.halving_gives(0, 14, |e| e.len().is_power_of_two()) } else { l.real() }),
+    ("halving-short", "halving: P separators taken for enough", |l| if l.call == Call::Halving && l.numbers() == [9] && l.at[2].1 == l.at[0].1 { 0 } else { l.real() }),
+    // What it leaves.
+    ("halving-refused", "halving: separators changed by a refusal with 14", |l| { let code = l.real(); if l.call == Call::Halving && code == 14 { if let Some(v) = l.words(Slot::Separators).last_mut() { *v = 0 } } code }),
+    ("halving-refused-answer", "halving: an answer given with 14", |l| { let code = l.real(); if l.call == Call::Halving && code == 14 { if let Some(v) = l.answer().first_mut() { *v ^= 1 } } code }),
+    ("halving-past", "halving: written past the separators", |l| l.stray(l.call == Call::Halving, Slot::Separators, true)),
+    ("halving-later", "halving: the entry after the separators changed", |l| l.then(l.call == Call::Halving, |j| if let Some(v) = l.words(Slot::Separators).get_mut(j.speeds.len() + 1) { *v = j.weights.len() as u32 })),
+    ("halving-input", "halving: a weight changed", |l| l.then(l.call == Call::Halving, |_| if let Some(v) = l.words(Slot::Weights).last_mut() { *v ^= 1 })),
 ];
 
 /// Of each call alone: a row of the most machines refused, one of a machine more taken.

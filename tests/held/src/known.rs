@@ -1,13 +1,14 @@
-//! The jobs A to E and the edge lines of the scope, section 11, with the values written there, and more jobs, worked by hand.
+//! The jobs A to E, the edge lines of the scope, section 11, and the rows F to L of section 16, with the values written there, and more
+//! jobs, worked by hand.
 
 use crate::answers::{bytes_of, After, Solved};
 use crate::check::Check;
 use crate::damage::is_tiny;
 use crate::job::{self, machine, tile, Job, Record};
-use crate::limits::{BOUND_LOAD, BOUND_SPEED, LISTING, LONGEST_PLAN, MACHINES, PLAN_INTAKE, SPEED, TILES, TOO_MANY, WEIGHT};
+use crate::limits::{BOUND_LOAD, BOUND_SPEED, LISTING, LONGEST_HALVED, LONGEST_PLAN, MACHINES, PLAN_INTAKE, SPEED, TILES, TOO_MANY, WEIGHT};
 use crate::planner::Call;
-use crate::slow::Bound;
-use crate::{every, fast, methods};
+use crate::slow::{self, Bound};
+use crate::{every, fast, halving, methods};
 
 /// A job with all that is known of it, of each method count and allowance.
 struct Known {
@@ -60,6 +61,123 @@ const ONE_LIGHTER: [u32; TILES] = {
     weights
 };
 
+/// A row that is halved.
+struct Row {
+    name: &'static str,
+    weights: &'static [u32],
+    speeds: &'static [u32],
+    separators: &'static [u32],
+    bottleneck: (u64, u64),
+    /// The splits with two nearest weights on the left, and those with tiles of weight 0 behind the separator.
+    splits: [u64; 2],
+    /// Whether the greatest load is the most that 16.7 allows.
+    meets: bool,
+}
+
+/// The rows of the scope.
+#[rustfmt::skip]
+const ROWS: [Row; 7] = [
+    Row { name: "F", weights: &[4, 3, 2, 6, 1], speeds: &[7], separators: &[0, 5], bottleneck: (16, 7), splits: [0, 0], meets: true },
+    Row { name: "G", weights: &[1, 2, 1], speeds: &[1, 1], separators: &[0, 1, 3], bottleneck: (3, 1), splits: [1, 0], meets: true },
+    Row { name: "H", weights: &[2, 0, 0, 2], speeds: &[1, 1], separators: &[0, 1, 4], bottleneck: (2, 1), splits: [0, 1], meets: false },
+    Row { name: "I", weights: &[5, 1, 1, 1, 4, 2, 2, 2], speeds: &[3, 3, 3, 3], separators: &[0, 1, 4, 5, 8], bottleneck: (6, 3), splits: [1, 0], meets: false },
+    Row { name: "J", weights: &[1, 3, 1, 2, 3], speeds: &[1, 1, 1, 1], separators: &[0, 1, 3, 4, 5], bottleneck: (4, 1), splits: [1, 0], meets: false },
+    Row { name: "K", weights: &[], speeds: &[3, 3], separators: &[0, 0, 0], bottleneck: (0, 3), splits: [0, 0], meets: true },
+    Row { name: "L", weights: &[6], speeds: &[1, 1, 1, 1], separators: &[0, 0, 0, 0, 1], bottleneck: (6, 1), splits: [2, 0], meets: true },
+];
+
+/// Worked by hand: halves that are no whole numbers, tiles of weight 0 in front, behind and at two nearest, nothing that weighs, a heavy
+/// tile, the greatest load on two machines, equal tiles on four machines and on eight, and one each that is better and worse than the quick plan.
+#[rustfmt::skip]
+const MORE_ROWS: [Row; 11] = [
+    Row { name: "a half of 5, the greater nearer", weights: &[1, 2, 2], speeds: &[1, 1], separators: &[0, 2, 3], bottleneck: (3, 1), splits: [0, 0], meets: false },
+    Row { name: "a half of 5, both as near", weights: &[2, 1, 2], speeds: &[1, 1], separators: &[0, 1, 3], bottleneck: (3, 1), splits: [1, 0], meets: false },
+    Row { name: "0 in front and behind", weights: &[0, 0, 2, 2, 0, 0], speeds: &[1, 1], separators: &[0, 3, 6], bottleneck: (2, 1), splits: [0, 0], meets: false },
+    Row { name: "0 in front of two nearest", weights: &[0, 0, 6, 0], speeds: &[1, 1], separators: &[0, 0, 4], bottleneck: (6, 1), splits: [1, 1], meets: true },
+    Row { name: "nothing weighs", weights: &[0, 0, 0], speeds: &[2, 2, 2, 2], separators: &[0, 0, 0, 0, 3], bottleneck: (0, 2), splits: [0, 0], meets: true },
+    Row { name: "a heavy tile", weights: &[1, 1, 7, 0], speeds: &[4, 4], separators: &[0, 2, 4], bottleneck: (7, 4), splits: [0, 0], meets: false },
+    Row { name: "the greatest load twice", weights: &[3, 1, 2, 0, 0, 3], speeds: &[2, 2, 2, 2], separators: &[0, 1, 2, 3, 6], bottleneck: (3, 2), splits: [0, 1], meets: false },
+    Row { name: "five equal tiles", weights: &[2, 2, 2, 2, 2], speeds: &[1, 1, 1, 1], separators: &[0, 1, 2, 3, 5], bottleneck: (4, 1), splits: [2, 0], meets: true },
+    Row { name: "eight machines", weights: &[1, 1, 1, 1, 1, 1, 1, 1, 1], speeds: &[1; 8], separators: &[0, 1, 2, 3, 4, 5, 6, 7, 9], bottleneck: (2, 1), splits: [3, 0], meets: true },
+    Row { name: "better than the quick plan, 0 1 1 3 4", weights: &[3, 3, 1, 2], speeds: &[1; 4], separators: &[0, 0, 1, 2, 4], bottleneck: (3, 1), splits: [2, 0], meets: false },
+    Row { name: "worse than the quick plan, 0 1 2 3 3 4 6 7 8", weights: &[1, 2, 2, 2, 1, 1, 2, 1], speeds: &[1; 8], separators: &[0, 1, 2, 2, 3, 4, 5, 6, 8], bottleneck: (3, 1), splits: [4, 0], meets: false },
+];
+
+/// The solver must give what is known of a row, then the planner; then with lists of every length.
+fn halved(c: &mut Check, row: &Row) {
+    let job = Job::new(row.speeds, row.weights);
+    let found = halving::in_turn(&job);
+    let separators: Vec<usize> = row.separators.iter().map(|&s| s as usize).collect();
+    let mut good = found.separators == separators && halving::by_sums(&job) == separators;
+    let (load, speed) = (row.bottleneck.0 as u128, row.bottleneck.1 as u128);
+    good &= [found.ties, found.noughts] == row.splits && slow::bottleneck(&job, &separators) == (load, speed);
+    good &= (job.speeds.len() as u128 * load == halving::most(&job)) == row.meets;
+    if !good {
+        c.fail(&format!("the solver gives {:?} for row {}", found, row.name), String::new());
+    }
+    halved_as(c, &job, row.separators, row.bottleneck);
+    c.jobs_seen += 1;
+    every::halve(c, &job, &methods::quick(&job), fast::solve(&job).1, true);
+}
+
+/// The planner must give these separators and this bottleneck, in lists that are longer.
+fn halved_as(c: &mut Check, job: &Job, separators: &[u32], (load, speed): (u64, u64)) {
+    let (e, w) = (bytes_of(&job.speeds), bytes_of(&job.weights));
+    let list = |front: Vec<u8>| After { front, free: 0 };
+    let answer = [load.to_le_bytes(), speed.to_le_bytes()].concat();
+    let wanted = Ok(vec![After::default(), After::default(), list(bytes_of(separators)), list(answer)]);
+    let (lent, said) = (c.rng.pattern(4 * separators.len() + 12), c.rng.pattern(8 * 3));
+    c.ask(Call::Halving, &[&e, &w, &lent, &said], &wanted);
+}
+
+/// The rows as the scope writes them, and what it says of I and J beside them; then 16.10, and the longest row at the limits.
+fn rows(c: &mut Check) {
+    for row in ROWS.iter().chain(&MORE_ROWS) {
+        halved(c, row);
+    }
+    let quick = methods::quick(&Job::new(ROWS[3].speeds, ROWS[3].weights));
+    let best = fast::solve(&Job::new(ROWS[4].speeds, ROWS[4].weights)).1;
+    let said = format!("the quick plan is {} |", text(&quick.iter().map(|&s| s as u32).collect::<Vec<_>>()));
+    in_scope(c, &format!("{} half of the part, not of the whole; {}", cells(&ROWS[3]), said));
+    in_scope(c, &format!("{} it is not the plan, whose bottleneck is {}/{} |", cells(&ROWS[4]), best.0, best.1));
+    for row in &ROWS {
+        in_scope(c, &cells(row));
+    }
+    for (speeds, room) in [(&[1, 2][..], 0), (&[1, 2], 3), (&[5, 5, 5], 0), (&[5, 5, 5], 4)] {
+        let (e, lent) = (bytes_of(speeds), c.rng.pattern(4 * room));
+        c.refuse(Call::Halving, &[&e, &[], &lent, &[]], 14);
+    }
+    // As many and as heavy tiles as there can be; then as many as leave one more than goes evenly, which the last machine takes.
+    let each = TILES / LONGEST_HALVED;
+    for (tiles, share) in [(TILES, each), (TILES - LONGEST_HALVED + 1, each - 1)] {
+        let mut separators: Vec<u32> = (0..=LONGEST_HALVED).map(|p| (p * share) as u32).collect();
+        separators[LONGEST_HALVED] = tiles as u32;
+        let job = Job::new(&[SPEED; LONGEST_HALVED], &vec![WEIGHT; tiles]);
+        halved_as(c, &job, &separators, (each as u64 * WEIGHT as u64, SPEED as u64));
+    }
+}
+
+/// Numbers as the scope's tables write them.
+fn text(list: &[u32]) -> String {
+    let words: Vec<String> = list.iter().map(|n| n.to_string()).collect();
+    match words.len() {
+        0 => "none".to_string(),
+        _ => words.join(" "),
+    }
+}
+
+/// A row of the scope's table up to its last cell.
+fn cells(row: &Row) -> String {
+    let (load, speed) = row.bottleneck;
+    format!("| {} | {} | {} | {} | {}/{} |", row.name, text(row.weights), text(row.speeds), text(row.separators), load, speed)
+}
+
+fn in_scope(c: &mut Check, words: &str) {
+    if !include_str!("../../../docs/SCOPE.md").contains(words) {
+        c.fail(&format!("docs/SCOPE.md does not say: {}", words), String::new());
+    }
+}
+
 /// The solver must give what is known, then the planner what the solver gives: of a tiny job with lists of all lengths together.
 fn marked(c: &mut Check, k: &Known) {
     let job = Job::new(k.speeds, k.weights);
@@ -106,6 +224,7 @@ pub fn run(c: &mut Check) {
         marked(c, k);
     }
     lines_of_a(c);
+    rows(c);
     files_of_a_and_d(c);
     sentences(c);
     edges(c);
@@ -121,7 +240,6 @@ fn figure(number: u64) -> String {
 
 /// The limits of this test stand in the scope's sentences.
 fn sentences(c: &mut Check) {
-    let scope = include_str!("../../../docs/SCOPE.md");
     let (machines, tiles) = (MACHINES as u64, TILES as u64);
     for words in [
         format!("A job has N tiles, 0 to {},", figure(tiles)),
@@ -133,9 +251,7 @@ fn sentences(c: &mut Check) {
         format!("{} machines are taken; none and {} are refused with 7, with {} tiles too.", figure(machines), figure(machines + 1), figure(tiles + 1)),
         format!("{} tiles are taken; {} are refused with 8.", figure(tiles), figure(tiles + 1)),
     ] {
-        if !scope.contains(&words) {
-            c.fail(&format!("docs/SCOPE.md does not say: {}", words), String::new());
-        }
+        in_scope(c, &words);
     }
 }
 

@@ -3,7 +3,7 @@
 use crate::answers::Solved;
 use crate::check::Check;
 use crate::job::Job;
-use crate::limits::{LONGEST_PLAN, MACHINES, SPEED, TILES, WEIGHT};
+use crate::limits::{LONGEST_HALVED, LONGEST_PLAN, MACHINES, SPEED, TILES, WEIGHT};
 use crate::planner::{self, Call};
 use crate::rng::Rng;
 use crate::{every, fast, guard, job, small};
@@ -50,7 +50,46 @@ pub fn run(c: &mut Check, times: usize) {
     for job in shapes(c) {
         one(c, &job);
     }
+    for _ in 0..2_000 * times {
+        row(c);
+    }
+    for job in row_shapes(c) {
+        small::row(c, &job);
+    }
     threads(c);
+}
+
+/// A row of one speed, of as many machines as can be halved, with any weights: often as many tiles as there may be, or as few as machines.
+pub fn row(c: &mut Check) {
+    let machines = 1 << c.rng.below(1 + LONGEST_HALVED.ilog2() as usize);
+    let tiles = match c.rng.below(4) {
+        0 => TILES,
+        1 => c.rng.below(TILES + 1),
+        2 => c.rng.below(120),
+        _ => c.rng.below(machines + 2),
+    };
+    let speeds = vec![c.rng.range(1, SPEED); machines];
+    let weights = small::weights(&mut c.rng, tiles, &speeds);
+    small::row(c, &Job { speeds, weights });
+}
+
+/// Rows of one speed and each length that can be halved, with weights of a special shape, and with equal weights, one tile more than
+/// would go evenly: these have the greatest load that 16.7 allows.
+fn row_shapes(c: &mut Check) -> Vec<Job> {
+    let mut list = Vec::new();
+    let mut machines = 1;
+    while machines <= LONGEST_HALVED {
+        let mut shapes = weight_shapes(&mut c.rng);
+        for each in [0, 1, 2, TILES / machines - 1] {
+            let weight = c.rng.pick(&[1, 2, 999_983, WEIGHT]);
+            shapes.push(vec![weight; machines * each + 1]);
+        }
+        for w in shapes {
+            list.push(Job { speeds: vec![c.rng.pick(&[1, 7, SPEED]); machines], weights: w });
+        }
+        machines *= 2;
+    }
+    list
 }
 
 /// Rows and machines of a special shape, each with each.

@@ -5,6 +5,9 @@
 pub const MACHINES: usize = 96;
 pub const TILES: usize = 2_048;
 
+/// The most machines of a row that can be halved, the greatest power of two up to the most machines: 16.1.
+pub const LONGEST_HALVED: usize = 1 << MACHINES.ilog2();
+
 /// The greatest speed and the greatest weight: 1.4, 1.2. The least are 1 and 0.
 pub const SPEED: u32 = 10_000;
 pub const WEIGHT: u32 = 1_000_000;

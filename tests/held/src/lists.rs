@@ -2,7 +2,8 @@
 
 use crate::answers::bytes_of;
 use crate::check::Check;
-use crate::limits::{job_bytes, plan_bytes, work_numbers, BOUND_LOAD, BOUND_SPEED, LONGEST_JOB, MACHINES, SPEED, TILES, TOO_MANY, WEIGHT};
+use crate::limits::{job_bytes, plan_bytes, work_numbers, BOUND_LOAD, BOUND_SPEED, LONGEST_HALVED, LONGEST_JOB};
+use crate::limits::{MACHINES, SPEED, TILES, TOO_MANY, WEIGHT};
 use crate::planner::Call;
 use crate::rng::Rng;
 
@@ -17,13 +18,14 @@ struct Input {
     room: usize,
 }
 
-/// A call by number, so that the calls can be gone through; its numbers come from the input.
-const CALLS: [(&str, &[u32]); 7] = [
+/// A call by name, so that the calls can be gone through, and its numbers in the order of its tests.
+const CALLS: [(&str, &[u32]); 8] = [
     ("test", &[5, 6, 7, 8]),
     ("write", &[5, 6, 7, 8, 9]),
     ("measure", &[5, 6, 7, 8, 9, 11]),
     ("trial", &[5, 6, 7, 8, 9, 10]),
     ("quick", &[5, 6, 7, 8, 9]),
+    ("halving", &[5, 6, 7, 8, 14, 9]),
     ("plan", &[1, 5, 6, 7, 8, 9]),
     ("plan file", &[5, 6, 7, 8, 9, 11]),
 ];
@@ -35,6 +37,7 @@ fn call_of(name: &str, i: &Input) -> Call {
         "measure" => Call::Measure,
         "trial" => Call::Trial { load: i.bound.0, speed: i.bound.1 },
         "quick" => Call::Quick,
+        "halving" => Call::Halving,
         "plan" => Call::Plan { method: i.method },
         _ => Call::PlanFile,
     }
@@ -105,6 +108,34 @@ pub fn job_with(r: &mut Rng, faults: &[u32]) -> (Vec<u32>, Vec<u32>, Vec<u32>) {
     (speeds, weights, made)
 }
 
+/// A row to be halved with these faults of 5, 7 and 14, and the numbers of those that could be made. Rows that are too long may be of a
+/// power of two.
+fn row_with(r: &mut Rng, faults: &[u32]) -> (Vec<u32>, Vec<u32>) {
+    let has = |n: u32| faults.contains(&n);
+    let mut made = Vec::new();
+    let (machines, unequal) = match (has(7), has(14)) {
+        (true, _) if r.once_in(4) => (0, false),
+        (true, bad) => (r.pick(&[TOO_MANY[0], TOO_MANY[3], 2 * LONGEST_HALVED, 4 * LONGEST_HALVED]), bad),
+        (false, false) => (1 << r.below(1 + LONGEST_HALVED.ilog2() as usize), false),
+        (false, true) if r.once_in(2) => (r.pick(&[3, 5, 6, 7, 12, LONGEST_HALVED - 1, LONGEST_HALVED + 1, MACHINES - 1, MACHINES]), false),
+        (false, true) => (2 << r.below(LONGEST_HALVED.ilog2() as usize), true),
+    };
+    let speed = r.pick(&[1, 2, SPEED - 1, SPEED]);
+    let mut speeds = vec![speed; machines];
+    let place = |r: &mut Rng| r.pick(&[0, machines / 2, machines - 1]);
+    if unequal {
+        let k = place(r);
+        speeds[k] = if speed == SPEED { SPEED - 1 } else { speed + 1 };
+    }
+    if has(5) && machines > 0 {
+        let k = place(r);
+        speeds[k] = r.pick(&BAD_SPEED);
+        made.push(5);
+    }
+    made.extend([7, 14].into_iter().filter(|&n| has(n)));
+    (speeds, made)
+}
+
 /// The lent lists: too short ones, and separators that are no division.
 fn lend_with(r: &mut Rng, name: &str, faults: &[u32], i: &mut Input, made: &mut Vec<u32>) {
     let (machines, tiles) = (i.speeds.len(), i.weights.len());
@@ -137,9 +168,15 @@ fn lend_with(r: &mut Rng, name: &str, faults: &[u32], i: &mut Input, made: &mut 
     }
 }
 
-/// An input with these faults, and the least number among those that could be made.
-fn input_with(r: &mut Rng, name: &str, faults: &[u32]) -> (Input, u32) {
-    let (speeds, weights, mut made) = job_with(r, faults);
+/// An input with these faults, and the first number among those that could be made.
+fn input_with(r: &mut Rng, name: &str, numbers: &[u32], faults: &[u32]) -> (Input, u32) {
+    let (mut speeds, weights, mut made) = job_with(r, faults);
+    if name == "halving" {
+        made.retain(|n| *n != 5);
+        let (row, more) = row_with(r, faults);
+        speeds = row;
+        made.extend(more);
+    }
     let separators = some_division(r, speeds.len(), weights.len());
     let mut i = Input { method: r.range(1, 4), bound: (1_000_000, 1), speeds, weights, separators, room: 0 };
     lend_with(r, name, faults, &mut i, &mut made);
@@ -151,7 +188,7 @@ fn input_with(r: &mut Rng, name: &str, faults: &[u32]) -> (Input, u32) {
         i.bound = r.pick(&[(BOUND_LOAD + 1, 1), (0, 0), (5, BOUND_SPEED + 1), (u64::MAX, u64::MAX), (1, 1 << 32)]);
         made.push(10);
     }
-    let number = made.into_iter().min().unwrap_or(0);
+    let number = numbers.iter().copied().find(|n| made.contains(n)).unwrap_or(0);
     (i, number)
 }
 
@@ -162,7 +199,7 @@ fn together(c: &mut Check, rounds: usize) {
             let faults: Vec<u32> = numbers.iter().enumerate().filter(|(k, _)| set >> k & 1 == 1).map(|(_, &n)| n).collect();
             let times = if faults.is_empty() { 1 } else { rounds };
             for _ in 0..times {
-                let (i, number) = input_with(&mut c.rng, name, &faults);
+                let (i, number) = input_with(&mut c.rng, name, numbers, &faults);
                 refuse(c, name, &i, number);
             }
         }
@@ -192,11 +229,13 @@ fn smallest_jobs(c: &mut Check, name: &str) {
         refuse(c, name, &smallest_input(speeds, weights, &[], 0), number);
     }
     refuse(c, name, &smallest_input(&[SPEED], &[WEIGHT], &[0, 1], PLENTY), 0);
-    refuse(c, name, &smallest_input(&many[1..], none, &[0; MACHINES + 1], PLENTY), 0);
+    // The longest row is no power of two.
+    let longest = if name == "halving" { 14 } else { 0 };
+    refuse(c, name, &smallest_input(&many[1..], none, &[0; MACHINES + 1], PLENTY), longest);
     refuse(c, name, &smallest_input(&[1], &row[1..], &[0, TILES as u32], PLENTY), 0);
 }
 
-/// The smallest lists that cause 9 and 11, the nearest bounds that cause 10, and any method for 1.
+/// The smallest lists that cause 9, 11 and 14, the nearest bounds that cause 10, and any method for 1.
 fn smallest_lists(c: &mut Check, name: &str, numbers: &[u32]) {
     if name != "write" && name != "test" {
         refuse(c, name, &smallest_input(&[1], &[], &[], PLENTY), 9);
@@ -218,6 +257,11 @@ fn smallest_lists(c: &mut Check, name: &str, numbers: &[u32]) {
         }
         for (s, number) in [(&[0, 2, 1][..], 11), (&[0, 1, 0], 11), (&[0, 1, 1, 0], 0)] {
             refuse(c, name, &smallest_input(&[1, 1], &[5], s, PLENTY), number);
+        }
+    }
+    for (speeds, number) in [(&[1, 2][..], 14), (&[2, 1], 14), (&[1, 1, 1], 14), (&[1, 1], 9), (&[SPEED; 4], 9)] {
+        for room in (0..=speeds.len()).filter(|_| name == "halving") {
+            refuse(c, name, &smallest_input(speeds, &[], &vec![7; room], 0), number);
         }
     }
     for method in BAD_METHOD.into_iter().filter(|_| name == "plan") {

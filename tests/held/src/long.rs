@@ -20,6 +20,8 @@ pub fn run(c: &mut Check, count: u64) {
             1..=9 => large::middle(c),
             10..=29 => small::near(c),
             30..=199 => damage::one(c),
+            200..=204 => large::row(c),
+            205..=299 => small::random_row(c),
             _ => small::random(c),
         }
         if shown.elapsed() >= Duration::from_secs(1) || k + 1 == count {

@@ -12,6 +12,7 @@ mod fast;
 mod grades;
 mod grading;
 mod guard;
+mod halving;
 mod job;
 mod known;
 mod large;
@@ -67,9 +68,14 @@ fn whole(c: &mut Check) {
     }
     // A run in which some answer never came up would be no test of it.
     let unseen = c.unseen();
-    if !unseen.is_empty() || c.fits == 0 || c.searches.contains(&0) || c.noughts.contains(&0) || c.others.contains(&0) {
-        let mut seen = format!("{} fits, searches {:?}, plans at and off the ideal {:?}", c.fits, c.searches, c.noughts);
-        seen += &format!(", best plans of other separators {:?}", c.others);
+    let mut never = c.searches.contains(&0) || c.noughts.contains(&0) || c.others.contains(&0);
+    never |= c.splits.contains(&0) || c.halved.contains(&0);
+    let mut seen = format!("{} fits, searches {:?}, plans at and off the ideal {:?}", c.fits, c.searches, c.noughts);
+    seen += &format!(", best plans of other separators {:?}, splits {:?}, halved rows {:?}", c.others, c.splits, c.halved);
+    if talk {
+        eprintln!("{}", seen);
+    }
+    if !unseen.is_empty() || c.fits == 0 || never {
         c.fail(&format!("answers never seen: {:?}; {}", unseen, seen), String::new());
     }
 }

@@ -9,6 +9,7 @@ pub enum Call {
     Measure,
     Trial { load: u64, speed: u64 },
     Quick,
+    Halving,
     Plan { method: u32 },
     PlanFile,
     List,
@@ -50,7 +51,7 @@ impl Call {
             Call::Test => &[Speeds, Weights],
             Call::Read => &[File, Speeds, Weights, Answer],
             Call::Write => &[Speeds, Weights, File, Answer],
-            Call::Measure | Call::Trial { .. } | Call::Quick => &[Speeds, Weights, Separators, Answer],
+            Call::Measure | Call::Trial { .. } | Call::Quick | Call::Halving => &[Speeds, Weights, Separators, Answer],
             Call::Plan { .. } => &[Speeds, Weights, Separators, Work, Answer],
             Call::PlanFile => &[Speeds, Weights, Separators, Plan, Answer],
             Call::List => &[File, Text, Answer],
@@ -78,6 +79,7 @@ extern "C" {
     fn exported_grade(e: Words, e_len: usize, w: Words, w_len: usize, f: Bytes, f_len: usize, a: Longs, a_len: usize) -> u32;
     fn exported_measure(e: Words, e_len: usize, w: Words, w_len: usize, s: Words, s_len: usize, a: Longs, a_len: usize) -> u32;
     fn exported_heuristic(e: Words, e_len: usize, w: Words, w_len: usize, s: Words, s_len: usize, a: Longs, a_len: usize) -> u32;
+    fn exported_halving(e: Words, e_len: usize, w: Words, w_len: usize, s: Words, s_len: usize, a: Longs, a_len: usize) -> u32;
     #[rustfmt::skip]
     fn exported_probe(e: Words, e_len: usize, w: Words, w_len: usize, load: u64, speed: u64, s: Words, s_len: usize, a: Longs, a_len: usize) -> u32;
     #[rustfmt::skip]
@@ -100,6 +102,7 @@ pub unsafe fn real(call: Call, at: &[At]) -> u32 {
         Call::Measure => exported_measure(w(0), n(0), w(1), n(1), w(2), n(2), a(3), n(3)),
         Call::Trial { load, speed } => exported_probe(w(0), n(0), w(1), n(1), load, speed, w(2), n(2), a(3), n(3)),
         Call::Quick => exported_heuristic(w(0), n(0), w(1), n(1), w(2), n(2), a(3), n(3)),
+        Call::Halving => exported_halving(w(0), n(0), w(1), n(1), w(2), n(2), a(3), n(3)),
         Call::Plan { method } => exported_plan(method, w(0), n(0), w(1), n(1), w(2), n(2), w(3), n(3), a(4), n(4)),
         Call::PlanFile => exported_write_plan(w(0), n(0), w(1), n(1), w(2), n(2), b(3), n(3), a(4), n(4)),
         Call::List => exported_list(b(0), n(0), b(1), n(1), a(2), n(2)),

@@ -1,10 +1,11 @@
 //! Small jobs against the slow solver.
 
 use crate::check::Check;
-use crate::every;
 use crate::job::Job;
 use crate::limits::{SPEED, WEIGHT};
 use crate::rng::Rng;
+use crate::slow::{self, Bound};
+use crate::{every, fast, methods};
 
 /// Every call on the job; now and then with lists of all lengths together.
 fn both(c: &mut Check, job: &Job) {
@@ -69,6 +70,49 @@ fn every(c: &mut Check) {
             });
         }
     }
+}
+
+/// Every list of up to 9 small weights on 1, 2, 4 and 8 machines of one speed, to be halved.
+fn every_row(c: &mut Check) {
+    for machines in [1, 2, 4, 8] {
+        for (tiles, heaviest) in [(0, 0), (1, 9), (2, 9), (3, 7), (4, 5), (5, 3), (6, 2), (7, 2), (8, 1), (9, 1)] {
+            every_list(tiles, 0, heaviest, &mut |w| {
+                let speed = c.rng.pick(&[1, 2, 3, SPEED]);
+                row(c, &Job::new(&vec![speed; machines], w));
+            });
+        }
+    }
+}
+
+/// A row of one speed to be halved, as many machines as can be; now and then with lists of all lengths together.
+pub fn row(c: &mut Check, job: &Job) {
+    c.jobs_seen += 1;
+    let thorough = c.rng.once_in(60);
+    every::halve(c, job, &methods::quick(job), least(job), thorough);
+}
+
+/// The best bottleneck: by every division where these are few, else by the fast reference.
+fn least(job: &Job) -> Bound {
+    let (machines, tiles) = (job.speeds.len(), job.weights.len());
+    if !(machines <= 4 && tiles <= 9 || machines <= 8 && tiles <= 5) {
+        return fast::solve(job).1;
+    }
+    let mut least: Option<Bound> = None;
+    slow::every_division(&mut vec![0], machines, tiles, &mut |separators| {
+        let b = slow::bottleneck(job, separators);
+        if least.map_or(true, |l| slow::less(b, l)) {
+            least = Some(b);
+        }
+    });
+    least.unwrap()
+}
+
+/// Any small row of 1, 2, 4 or 8 machines of one speed.
+pub fn random_row(c: &mut Check) {
+    let (machines, tiles) = (1 << c.rng.below(4), c.rng.below(9));
+    let speeds = vec![c.rng.range(1, SPEED); machines];
+    let weights = weights(&mut c.rng, tiles, &speeds);
+    row(c, &Job { speeds, weights });
 }
 
 /// Every list of so many numbers, each from the least to the greatest.
@@ -147,6 +191,10 @@ pub fn random(c: &mut Check) {
 
 pub fn run(c: &mut Check, times: usize) {
     every(c);
+    every_row(c);
+    for _ in 0..10_000 * times {
+        random_row(c);
+    }
     for _ in 0..4_000 * times {
         near(c);
     }
