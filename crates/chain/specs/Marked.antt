@@ -193,32 +193,32 @@ worked =
     ∷ planned (jobOf (1 ∷ 2 ∷ []) (2 ∷ 2 ∷ [])) (0 ∷ 1 ∷ 2 ∷ []) (over 2 1) 500 (four 1 2 1 2) (four 2 3 5 2)
     ∷ []
 
-abbrev pub rowI : Job
-rowI = jobOf (3 ∷ 3 ∷ 3 ∷ 3 ∷ []) (5 ∷ 1 ∷ 1 ∷ 1 ∷ 4 ∷ 2 ∷ 2 ∷ 2 ∷ [])
+abbrev pub jobI : Job
+jobI = jobOf (3 ∷ 3 ∷ 3 ∷ 3 ∷ []) (5 ∷ 1 ∷ 1 ∷ 1 ∷ 4 ∷ 2 ∷ 2 ∷ 2 ∷ [])
 
-abbrev pub rowJ : Job
-rowJ = jobOf (1 ∷ 1 ∷ 1 ∷ 1 ∷ []) (1 ∷ 3 ∷ 1 ∷ 2 ∷ 3 ∷ [])
+abbrev pub jobJ : Job
+jobJ = jobOf (1 ∷ 1 ∷ 1 ∷ 1 ∷ []) (1 ∷ 3 ∷ 1 ∷ 2 ∷ 3 ∷ [])
 
-abbrev pub rowL : Job
-rowL = jobOf (1 ∷ 1 ∷ 1 ∷ 1 ∷ []) (6 ∷ [])
+abbrev pub jobL : Job
+jobL = jobOf (1 ∷ 1 ∷ 1 ∷ 1 ∷ []) (6 ∷ [])
 
--- The rows F to L of the scope's section 16, with the quick plan of I and the plan of J. Scope 16.10: "Speeds 1 2 are refused with 14, and
+-- The jobs F to L of the scope's section 16, with the quick plan of I and the plan of J. Scope 16.10: "Speeds 1 2 are refused with 14, and
 -- so are three machines of one speed, with no room for separators too." Beside them: six and 96 machines; 64, with room and without; a last
 -- speed that is greater or less; 5, 6, 7 and 8 before 14.
-unfoldable pub rows : List Row
-rows =
+unfoldable pub halvedJobs : List Row
+halvedJobs =
     halved (jobOf (7 ∷ []) (4 ∷ 3 ∷ 2 ∷ 6 ∷ 1 ∷ [])) (0 ∷ 5 ∷ []) (over 16 7)
     ∷ halved (jobOf (1 ∷ 1 ∷ []) (1 ∷ 2 ∷ 1 ∷ [])) (0 ∷ 1 ∷ 3 ∷ []) (over 3 1)
     ∷ halved (jobOf (1 ∷ 1 ∷ []) (2 ∷ 0 ∷ 0 ∷ 2 ∷ [])) (0 ∷ 1 ∷ 4 ∷ []) (over 2 1)
-    ∷ halved rowI (0 ∷ 1 ∷ 4 ∷ 5 ∷ 8 ∷ []) (over 6 3)
-    ∷ quick rowI (0 ∷ 1 ∷ 4 ∷ 6 ∷ 8 ∷ []) (over 6 3)
-    ∷ halved rowJ (0 ∷ 1 ∷ 3 ∷ 4 ∷ 5 ∷ []) (over 4 1)
-    ∷ beaten rowJ (0 ∷ 1 ∷ 3 ∷ 4 ∷ 5 ∷ [])
-    ∷ best rowJ (0 ∷ 1 ∷ 2 ∷ 4 ∷ 5 ∷ [])
-    ∷ measures rowJ (0 ∷ 1 ∷ 2 ∷ 4 ∷ 5 ∷ []) (over 3 1)
+    ∷ halved jobI (0 ∷ 1 ∷ 4 ∷ 5 ∷ 8 ∷ []) (over 6 3)
+    ∷ quick jobI (0 ∷ 1 ∷ 4 ∷ 6 ∷ 8 ∷ []) (over 6 3)
+    ∷ halved jobJ (0 ∷ 1 ∷ 3 ∷ 4 ∷ 5 ∷ []) (over 4 1)
+    ∷ beaten jobJ (0 ∷ 1 ∷ 3 ∷ 4 ∷ 5 ∷ [])
+    ∷ best jobJ (0 ∷ 1 ∷ 2 ∷ 4 ∷ 5 ∷ [])
+    ∷ measures jobJ (0 ∷ 1 ∷ 2 ∷ 4 ∷ 5 ∷ []) (over 3 1)
     ∷ halved (jobOf (3 ∷ 3 ∷ []) []) (0 ∷ 0 ∷ 0 ∷ []) (over 0 3)
-    ∷ halved rowL (0 ∷ 0 ∷ 0 ∷ 0 ∷ 1 ∷ []) (over 6 1)
-    ∷ heavy rowL
+    ∷ halved jobL (0 ∷ 0 ∷ 0 ∷ 0 ∷ 1 ∷ []) (over 6 1)
+    ∷ heavy jobL
     ∷ unhalved (jobOf (1 ∷ 2 ∷ []) []) 3 14
     ∷ unhalved (jobOf (1 ∷ 2 ∷ []) []) 0 14
     ∷ unhalved (jobOf (1 ∷ 1 ∷ 1 ∷ []) []) 4 14

@@ -108,7 +108,7 @@ unfoldable pub trueTest : Job → PlanRecords → Test
 trueTest job plan = test 13 (all (trueAt job plan) (processors job))
 
 -- The number of the first test that fails, 0 where all pass. Scope 8.2: "The tests are made in the order of the numbers, but 14
--- after 8 and 12 before 11, each call making those of the inputs that it takes."
+-- directly after 8 and 12 before 11, each call making those of the inputs that it takes."
 unfoldable pub firstRefusal : List Test → ℕ
 firstRefusal [] = 0
 firstRefusal (t ∷ ts) = cond (t .passes) (firstRefusal ts) (t .number)

@@ -113,7 +113,7 @@ recordsOrder (suc n) = recordsOrder n ++ 3 ∷ 4 ∷ 5 ∷ 6 ∷ []
 unfoldable pub fileOrder : List ℕ → List ℕ
 fileOrder file = 2 ∷ (recordsOrder (recordCount file) ++ 7 ∷ 8 ∷ [])
 
--- Scope 8.2: "The tests are made in the order of the numbers, but 14 after 8 and 12 before 11": the number of each test, 9 for each list that is lent.
+-- Scope 8.2: "The tests are made in the order of the numbers, but 14 directly after 8 and 12 before 11": the number of each test, 9 for each list that is lent.
 abbrev pub order : Call → List ℕ
 order (TestJob es ws) = numbers (TestJob es ws)
 order (ReadJob file es ws) = fileOrder file ++ 9 ∷ 9 ∷ []

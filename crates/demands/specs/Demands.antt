@@ -47,7 +47,7 @@ pub record DemandOne (call : Call) : Type 0 where
   -- The number is 0 or one of its row, all of which are from 1 to 14.
   pub listed : List·Memᴰ (number call) (0 ∷ numbers call)
   pub ranged : T (eachBetween 1 14 (numbers call))
-  -- Scope 8.2: "The tests are made in the order of the numbers, but 14 after 8 and 12 before 11"
+  -- Scope 8.2: "The tests are made in the order of the numbers, but 14 directly after 8 and 12 before 11"
   pub ordered : map (λ t. t .number) (tests call) ≡ order call
   -- A number is given exactly where it is that of the first test that fails; 0 exactly where all pass.
   pub first : (n : ℕ) → n ≢ 0 → (number call ≡ n) ↔ FirstFailing (tests call) n
