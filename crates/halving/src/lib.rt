@@ -11,7 +11,7 @@ ghost use Rattle.parts.specs.Prefix.{Ready};
 ghost use Rattle.parts.specs.Rising.{Rising};
 ghost use Rattle.halving.specs.Row.{splitIn, splitsIn};
 use heuristic::nearest_in;
-use parts::last_between;
+use parts::last_at_most;
 use parts::narrow;
 use parts::narrow_load;
 use parts::wide;
@@ -31,7 +31,7 @@ fn split_in(sums: &[u32], a: usize, b: usize) -> usize
     ensures { λ r. ⌜ r ≡ splitIn (now (sums .entry)) a b ⌝ }
 {
     let target = ends_sum(sums, a, b);
-    let past = last_between(sums, a, b, narrow_load(target / 2)) + 1;
+    let past = last_at_most(sums, a, b, narrow_load(target / 2)) + 1;
     nearest_in(sums, a, b, past, 2, target)
 }
 

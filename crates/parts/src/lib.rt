@@ -232,20 +232,6 @@ pub fn last_far(xs: &[u32], a: usize, n: usize, cap: u32) -> usize
     last_near(xs, low, n, cap)
 }
 
-// Inner. The same by halving and counting, where the last entry is as likely far as near.
-pub fn last_between(xs: &[u32], a: usize, n: usize, cap: u32) -> usize
-    requires { ⌜ Rising (now xs) n ⌝ }
-    requires { ⌜ (a ≤ n) × (getD (now xs) a 0 ≤ cap) ⌝ }
-    ensures { λ r. ⌜ LastAtMost (now (xs .entry)) a n cap r ⌝ }
-{
-    let span = Span {
-        low: a,
-        step: n - a + 1,
-    };
-    let low = halve(xs, span, n, cap);
-    last_near(xs, low, n, cap)
-}
-
 // Inner. The last entry at most the cap from a to n. Often it is a itself: one look tells. It takes time in the logarithm of its
 // distance from a.
 pub fn last_at_most(xs: &[u32], a: usize, n: usize, cap: u32) -> usize

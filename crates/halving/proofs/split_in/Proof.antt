@@ -15,8 +15,8 @@ narrow-load-requires c κs =
     let low = s .pre .0 .up (s .args .a) (s .args .b) (s .pre .1) (omega arith) in
     omega (arith, low, c .ends-sum .ensures, c .before .shared-slice-known .given (s .args .b))
 
-last-between-requires : tie.Need-last-between-requires
-last-between-requires c κs =
+last-at-most-requires : tie.Need-last-at-most-requires
+last-at-most-requires c κs =
     let s = c .before .before .before in
     let low = s .pre .0 .up (s .args .a) (s .args .b) (s .pre .1) (omega arith) in
     (s .pre .0, (s .pre .1, omega (arith, low, c .before .ends-sum .ensures, c .narrow-load .ensures)))
@@ -27,7 +27,7 @@ add-past c = search needs
 nearest-in-requires : tie.Need-nearest-in-requires
 nearest-in-requires c κs =
     let s = c .before .before .before .before in
-    (s .pre .0, ((omega arith, omega (arith, c .before .before .before .shared-slice-known .given (s .args .b))), split-past (c .before .narrow-load .ensures) (c .last-between .ensures)))
+    (s .pre .0, ((omega arith, omega (arith, c .before .before .before .shared-slice-known .given (s .args .b))), split-past (c .before .narrow-load .ensures) (c .last-at-most .ensures)))
 
 returns : tie.Need-returns
 returns c =
@@ -40,7 +40,7 @@ split-in-spec =
     (tie.spec
     ends-sum-requires
     narrow-load-requires
-    last-between-requires
+    last-at-most-requires
     add-past
     nearest-in-requires
     returns)
