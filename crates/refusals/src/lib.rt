@@ -182,7 +182,8 @@ fn test_row(speeds: &[u32]) -> u32
     requires { ⌜ 1 ≤ length (now speeds) ⌝ }
     ensures { λ r. ⌜ r ≡ firstRefusal (rowTest (now (speeds .entry)) ∷ []) ⌝ }
 {
-    if !each_between(speeds[0], speeds[0], speeds) {
+    let first = speeds[0];
+    if !each_between(first, first, speeds) {
         return 14;
     }
     if !power_of_two(speeds.len()) {

@@ -5,11 +5,8 @@ use borrow.Author.Needs.{needs}
 use Rattle.refusals.proofs.test_row.Statement.{statement}
 use Rattle.refusals.proofs.test_row.Tie as tie
 
-shared-slice-read-each-between : tie.Need-shared-slice-read-each-between
-shared-slice-read-each-between c = search needs
-
-shared-slice-read-each-between-2 : tie.Need-shared-slice-read-each-between-2
-shared-slice-read-each-between-2 c = search needs
+shared-slice-read-first : tie.Need-shared-slice-read-first
+shared-slice-read-first c = search needs
 
 each-between-requires : tie.Need-each-between-requires
 each-between-requires c κs = search needs
@@ -30,8 +27,7 @@ pub test-row-spec : {M : Type 1} → statement M
 test-row-spec =
     tie.close
     (tie.spec
-    shared-slice-read-each-between
-    shared-slice-read-each-between-2
+    shared-slice-read-first
     each-between-requires
     returns
     power-of-two-requires
