@@ -52,6 +52,8 @@ extern "C" {
  *    9  a lent list or buffer is too short
  *       (here the plan buffer, which needs 16 bytes a machine)
  *
+ * The numbers 10 and 14 belong to calls by lists, which C has not (docs/REFUSALS.md).
+ *
  * No division of the job has a smaller bottleneck (the greatest weight / speed of a machine), and of all best divisions this is
  * the one whose separators are furthest along. The call needs no memory but at most 51 KB of stack (some 3 KB more where the
  * dynamic linker binds memset during the call, as it may at its first use in a process), keeps no state and may run in several
