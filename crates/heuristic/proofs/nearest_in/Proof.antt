@@ -27,7 +27,7 @@ first-level-requires : tie.Need-first-level-requires
 first-level-requires c κs =
     let s = c .before .before .before in
     let i = nearer-in (s .pre .0) (s .pre .1 .0 .0) (s .pre .1 .1) (c .before .nearer-of .ensures) in
-    (rising-to (i .1) (s .pre .0), i .0)
+    (rising-to (i .1) (s .pre .0), omega (arith, i .0))
 
 returns : tie.Need-returns
 returns c =
