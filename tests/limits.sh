@@ -156,7 +156,7 @@ says docs/WHY.md '' 'a job of up to # machines' "$machines"
 says docs/TESTING.md '' "of $(grouped "$tiles") × #" "$machines"
 halved=1
 while [ $((2 * halved)) -le "$machines" ]; do halved=$((2 * halved)); done
-says docs/API.md '' '16, 32 or #; any other row' "$halved"
+says docs/API.md '' '16, 32 or #; a job within' "$halved"
 says docs/TESTING.md '' '32 and # machines are halved' "$halved"
 says docs/TESTING.md '' 'other numbers up to # give 14' "$machines"
 says docs/TESTING.md '' "up to # machines and $(grouped "$tiles") tiles" "$halved"

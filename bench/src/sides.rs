@@ -139,12 +139,15 @@ pub fn planner_nicol(job: &Job, room: &mut Room) -> u32 {
     planner_plan(4, job, room)
 }
 
-#[no_mangle]
-#[inline(never)]
-pub fn planner_quick(job: &Job, room: &mut Room) -> u32 {
+/// A call that divides a job: speeds, weights, separators and answer, each a pointer and a length.
+type Divide =
+    unsafe extern "C" fn(*const u32, usize, *const u32, usize, *mut u32, usize, *mut u64, usize) -> u32;
+
+#[inline(always)]
+fn planner_divides(call: Divide, job: &Job, room: &mut Room) -> u32 {
     // SAFETY: as above.
     unsafe {
-        exported_heuristic(
+        call(
             job.speeds.as_ptr(),
             job.speeds.len(),
             job.weights.as_ptr(),
@@ -159,20 +162,14 @@ pub fn planner_quick(job: &Job, room: &mut Room) -> u32 {
 
 #[no_mangle]
 #[inline(never)]
+pub fn planner_quick(job: &Job, room: &mut Room) -> u32 {
+    planner_divides(exported_heuristic, job, room)
+}
+
+#[no_mangle]
+#[inline(never)]
 pub fn planner_halving(job: &Job, room: &mut Room) -> u32 {
-    // SAFETY: as above.
-    unsafe {
-        exported_halving(
-            job.speeds.as_ptr(),
-            job.speeds.len(),
-            job.weights.as_ptr(),
-            job.weights.len(),
-            room.separators.as_mut_ptr(),
-            room.separators.len(),
-            room.answer.as_mut_ptr(),
-            room.answer.len(),
-        )
-    }
+    planner_divides(exported_halving, job, room)
 }
 
 #[no_mangle]
