@@ -16,7 +16,7 @@ use lib.Seq.{getD-append-add}
 use Rattle.bound.proofs.Order.{open-le}
 use Rattle.chain.specs.Lists.{smallestLeast, distance, digits, digitsWithin, levels, powerOfTwo}
 use Rattle.chain.specs.Job.{Job, tasks, processors, last, speedOf, partWeight, partLoad, totalWeight, heaviest, partBound, at, Partition, boundAt, bottleneck}
-use Rattle.chain.specs.Halving.{Halvable, uneven, split, splits, halving}
+use Rattle.chain.specs.Halving.{Halvable, uneven, split, splitsBy, halving}
 use Rattle.chain.specs.Refusal.{eachBetween, allEqual, rowTest}
 use Rattle.chain.proofs.Tests.{and-left, and-right, and-both, same-test}
 use Rattle.chain.proofs.Refusals.{each-at, each-of}
@@ -124,6 +124,14 @@ row-test es = (
 doubled : (k : ℕ) → 2 ^ suc k ≡ 2 ^ k + 2 ^ k
 doubled k = omega arith
 
+-- How many splits there are.
+pub length-splits : (cut : ℕ → ℕ → ℕ) (k a b : ℕ) → suc (length (splitsBy cut k a b)) ≡ 2 ^ k
+unfolding splitsBy
+length-splits cut zero a b = refl
+length-splits cut (suc k) a b =
+    let i = cut a b in
+    omega (arith, length-append (splitsBy cut k a i) (i ∷ splitsBy cut k i b), length-splits cut k a i, length-splits cut k i b)
+
 -- What is at most half of u and half of h, and of that again: with n processors, then with twice as many.
 half-of : (n w v u h : ℕ) → n * w + h ≤ v + h * n → 2 * v ≤ u + h → (n + n) * w + h ≤ u + h * (n + n)
 half-of n w v u h x y = omega arith
@@ -164,13 +172,6 @@ module _ (job : Job) where
   pub right-light : (a b : ℕ) → a ≤ b → 2 * partWeight job (split job a b) b ≤ partWeight job a b + heaviest job
   unfolding uneven
   right-light a b h = omega (arith, split-close a b h, weight-split job a (split job a b) b (split-from a b) (split-to a b h))
-
-  pub length-splits : (k a b : ℕ) → suc (length (splits job k a b)) ≡ 2 ^ k
-  unfolding splits
-  length-splits zero a b = refl
-  length-splits (suc k) a b =
-      let i = split job a b in
-      omega (arith, length-append (splits job k a i) (i ∷ splits job k i b), length-splits k a i, length-splits k i b)
 
   -- The separators of n processors from a to b, and the weights of their parts.
   pub record Halves (n a b : ℕ) (s : List ℕ) : Type 0 where
@@ -232,16 +233,16 @@ module _ (job : Job) where
         }
 
   -- A row of 2 ^ k processors.
-  pub halves : (k a b : ℕ) → a ≤ b → Halves (2 ^ k) a b (a ∷ (splits job k a b ++ (b ∷ [])))
-  unfolding splits
+  pub halves : (k a b : ℕ) → a ≤ b → Halves (2 ^ k) a b (a ∷ (splitsBy (split job) k a b ++ (b ∷ [])))
+  unfolding splitsBy
   halves zero a b h = one-half a b h
   halves (suc k) a b h =
       let i = split job a b in
-      let xs = a ∷ splits job k a i in
-      let ys = splits job k i b ++ (b ∷ []) in
-      subst (λ (n : ℕ). Halves n a b (a ∷ (splits job k a i ++ i ∷ splits job k i b ++ (b ∷ [])))) (sym (doubled k))
-      (subst (λ (s : List ℕ). Halves (2 ^ k + 2 ^ k) a b (a ∷ s)) (sym (append-assoc (splits job k a i) (i ∷ splits job k i b) (b ∷ [])))
-      (two-halves (2 ^ k) i xs ys (length-splits k a i) (left-light a b h) (right-light a b h) (halves k a i (split-from a b)) (halves k i b (split-to a b h))))
+      let xs = a ∷ splitsBy (split job) k a i in
+      let ys = splitsBy (split job) k i b ++ (b ∷ []) in
+      subst (λ (n : ℕ). Halves n a b (a ∷ (splitsBy (split job) k a i ++ i ∷ splitsBy (split job) k i b ++ (b ∷ [])))) (sym (doubled k))
+      (subst (λ (s : List ℕ). Halves (2 ^ k + 2 ^ k) a b (a ∷ s)) (sym (append-assoc (splitsBy (split job) k a i) (i ∷ splitsBy (split job) k i b) (b ∷ [])))
+      (two-halves (2 ^ k) i xs ys (length-splits (split job) k a i) (left-light a b h) (right-light a b h) (halves k a i (split-from a b)) (halves k i b (split-to a b h))))
 
 module _ (job : Job) (row : Halvable (job .speeds)) where
   -- It is halved as often as its number of processors was doubled.
@@ -295,5 +296,5 @@ module _ (job : Job) (row : Halvable (job .speeds)) where
 
   -- One processor takes all tasks.
   pub halving-one : processors job ≡ 1 → halving job ≡ 0 ∷ tasks job ∷ []
-  unfolding halving levels digits digitsWithin splits
-  halving-one e = ap (λ (n : ℕ). 0 ∷ (splits job (levels n) 0 (tasks job) ++ (tasks job ∷ []))) e
+  unfolding halving levels digits digitsWithin splitsBy
+  halving-one e = ap (λ (n : ℕ). 0 ∷ (splitsBy (split job) (levels n) 0 (tasks job) ++ (tasks job ∷ []))) e

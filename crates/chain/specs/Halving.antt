@@ -20,13 +20,13 @@ uneven job a b i = distance (2 * partWeight job a i) (partWeight job a b)
 unfoldable pub split : Job → ℕ → ℕ → ℕ
 split job a b = a + smallestLeast (λ d. uneven job a b (a + d)) (b - a)
 
--- The separators between a and b of a row of 2 ^ k processors that takes the part from a to b. Scope 16.2: "A row of one machine takes
--- its tiles". Scope 16.5: "The first half of the row takes the tiles a + 1 to i, the second the tiles i + 1 to b; each is then split
--- likewise."
-unfoldable pub splits : Job → ℕ → ℕ → ℕ → List ℕ
-splits job zero a b = []
-splits job (suc k) a b = splits job k a (split job a b) ++ split job a b ∷ splits job k (split job a b) b
+-- The separators between a and b of a row of 2 ^ k processors that takes the part from a to b; cut says where a part is split. Scope 16.2:
+-- "A row of one machine takes its tiles". Scope 16.5: "The first half of the row takes the tiles a + 1 to i, the second the tiles i + 1 to
+-- b; each is then split likewise."
+unfoldable pub splitsBy : (ℕ → ℕ → ℕ) → ℕ → ℕ → ℕ → List ℕ
+splitsBy cut zero a b = []
+splitsBy cut (suc k) a b = splitsBy cut k a (cut a b) ++ cut a b ∷ splitsBy cut k (cut a b) b
 
 -- The separators of the halved row, s0 = 0 and sP = N among them.
 unfoldable pub halving : Job → List ℕ
-halving job = 0 ∷ (splits job (levels (processors job)) 0 (tasks job) ++ (tasks job ∷ []))
+halving job = 0 ∷ (splitsBy (split job) (levels (processors job)) 0 (tasks job) ++ (tasks job ∷ []))

@@ -33,6 +33,6 @@ pub record HalvedRow (job : Job) (s : List ℕ) : Type 0 where
 pub record Halvings : Type 0 where
   pub halved : (es ws s : List ℕ) → Accepts (Halving es ws s) → HalvedRow (jobOf es ws) s
   -- Scope 16.11: "What the quick plan accepts is accepted where the row is such a one; a job within its limits whose row is none is refused
-  -- with 14, whatever list is lent." Nothing else is, of either.
+  -- with 14, whatever list is lent." No other call is accepted, and none other is refused with 14.
   pub accepted : (es ws s : List ℕ) → Accepts (Halving es ws s) ↔ (Accepts (Heuristic es ws s) × Halvable es)
   pub refused : (es ws s : List ℕ) → (number (Halving es ws s) ≡ 14) ↔ (Accepts (TestJob es ws) × (Halvable es → ⊥))

@@ -9,15 +9,15 @@ use lib.ListN.{length, set, take, drop, length-append, length-set, take-append-d
 use lib.Seq.{length-take-le, append-snoc, drop-append-add, set-split, take-set-le, drop-set-lt, take-suc-set, drop-drop, take-at, drop-at}
 use Rattle.chain.specs.Lists.{smallestLeast, distance, levels, digits, digitsWithin}
 use Rattle.chain.specs.Job.{Job, tasks, processors, partWeight, at}
-use Rattle.chain.specs.Halving.{Halvable, uneven, split, splits, halving}
+use Rattle.chain.specs.Halving.{uneven, split, splitsBy, halving}
 use Rattle.chain.proofs.Parts.{weight-split}
 use Rattle.chain.proofs.Indices.{SmallestLeast, smallest-least-is}
-use Rattle.chain.proofs.Halving.{Halved, halved-power, split-from, split-to}
+use Rattle.chain.proofs.Halving.{Halved, halved-power, split-from, split-to, length-splits}
 use Rattle.parts.specs.Prefix.{Ready}
 use Rattle.parts.specs.Rising.{LastAtMost}
 use Rattle.heuristic.specs.Target.{offIn, nearestIn, PastFrom}
 use Rattle.heuristic.proofs.Nearest.{smallest-least-unique}
-use Rattle.halving.specs.Row.{splitIn, splitsIn}
+use Rattle.halving.specs.Row.{splitIn}
 
 -- What the search for a split asks and gives.
 pub split-past : {xs : List ℕ} {a b cap target r : ℕ} → cap ≡ target / 2 → LastAtMost xs a b cap r → PastFrom xs 2 target a b (r + 1)
@@ -75,22 +75,14 @@ module _ {job : Job} {xs : List ℕ} (ready : Ready job xs) where
         weight-split job 0 a b (omega arith) h,
       )))
 
-  pub splits-are : (k a b : ℕ) → a ≤ b → b ≤ tasks job → splitsIn xs k a b ≡ splits job k a b
-  unfolding splitsIn splits
+  pub splits-are : (k a b : ℕ) → a ≤ b → b ≤ tasks job → splitsBy (splitIn xs) k a b ≡ splitsBy (split job) k a b
+  unfolding splitsBy
   splits-are zero a b h l = refl
   splits-are (suc k) a b h l =
       let i = split job a b in
-      ap (λ (j : ℕ). splitsIn xs k a j ++ j ∷ splitsIn xs k j b) (split-is a b h l)
+      ap (λ (j : ℕ). splitsBy (splitIn xs) k a j ++ j ∷ splitsBy (splitIn xs) k j b) (split-is a b h l)
       ∙ ap₂ (λ (ys zs : List ℕ). ys ++ i ∷ zs) (splits-are k a i (split-from job a b) (omega (arith, split-to job a b h)))
       (splits-are k i b (split-to job a b h) l)
-
--- How many splits there are.
-pub length-splits-in : (xs : List ℕ) (k a b : ℕ) → suc (length (splitsIn xs k a b)) ≡ 2 ^ k
-unfolding splitsIn
-length-splits-in xs zero a b = refl
-length-splits-in xs (suc k) a b =
-    let i = splitIn xs a b in
-    omega (arith, length-append (splitsIn xs k a i) (i ∷ splitsIn xs k i b), length-splits-in xs k a i, length-splits-in xs k i b)
 
 -- The two halves of a row, written one after the other: old is the list before, m the split, H and K what the halves write.
 module _ (old : List ℕ) (first middle last m : ℕ) (H K : List ℕ) (f : first < middle) (g : middle < last) (l : last < length old)
@@ -163,39 +155,39 @@ module _ (first last : ℕ) (power : 2 ^ levels (last - first) ≡ last - first)
 
   -- What the two calls leave is what the whole is to leave.
   pub row-halves : (xs old : List ℕ) (a b : ℕ) {i m : ℕ} {two three : List ℕ} → last < length old → i ≡ splitIn xs a b → m ≡ i
-      → two ≡ take (suc first) (set old middle m) ++ splitsIn xs (levels (middle - first)) a i ++ drop middle (set old middle m)
-      → three ≡ take (suc middle) two ++ splitsIn xs (levels (last - middle)) i b ++ drop last two
-      → three ≡ take (suc first) old ++ splitsIn xs (levels (last - first)) a b ++ drop last old
-  unfolding splitsIn
+      → two ≡ take (suc first) (set old middle m) ++ splitsBy (splitIn xs) (levels (middle - first)) a i ++ drop middle (set old middle m)
+      → three ≡ take (suc middle) two ++ splitsBy (splitIn xs) (levels (last - middle)) i b ++ drop last two
+      → three ≡ take (suc first) old ++ splitsBy (splitIn xs) (levels (last - first)) a b ++ drop last old
+  unfolding splitsBy
   row-halves xs old a b {i} {m} {two} {three} l e f x y =
-      row-split old first middle last m (splitsIn xs k a i) (splitsIn xs k i b) (left-less .0) (right-less .0) l
-      (omega (arith, length-splits-in xs k a i, halves .power))
-      (x ∙ ap (λ (n : ℕ). take (suc first) (set old middle m) ++ splitsIn xs n a i ++ drop middle (set old middle m)) (ap levels left-number ∙ halves .half))
-      (y ∙ ap (λ (n : ℕ). take (suc middle) two ++ splitsIn xs n i b ++ drop last two) (ap levels right-number ∙ halves .half))
-      ∙ ap (λ (n : ℕ). take (suc first) old ++ (splitsIn xs k a i ++ n ∷ splitsIn xs k i b) ++ drop last old) f
-      ∙ ap (λ (j : ℕ). take (suc first) old ++ (splitsIn xs k a j ++ j ∷ splitsIn xs k j b) ++ drop last old) e
-      ∙ ap (λ (n : ℕ). take (suc first) old ++ splitsIn xs n a b ++ drop last old) (sym (halves .whole))
+      row-split old first middle last m (splitsBy (splitIn xs) k a i) (splitsBy (splitIn xs) k i b) (left-less .0) (right-less .0) l
+      (omega (arith, length-splits (splitIn xs) k a i, halves .power))
+      (x ∙ ap (λ (n : ℕ). take (suc first) (set old middle m) ++ splitsBy (splitIn xs) n a i ++ drop middle (set old middle m)) (ap levels left-number ∙ halves .half))
+      (y ∙ ap (λ (n : ℕ). take (suc middle) two ++ splitsBy (splitIn xs) n i b ++ drop last two) (ap levels right-number ∙ halves .half))
+      ∙ ap (λ (n : ℕ). take (suc first) old ++ (splitsBy (splitIn xs) k a i ++ n ∷ splitsBy (splitIn xs) k i b) ++ drop last old) f
+      ∙ ap (λ (j : ℕ). take (suc first) old ++ (splitsBy (splitIn xs) k a j ++ j ∷ splitsBy (splitIn xs) k j b) ++ drop last old) e
+      ∙ ap (λ (n : ℕ). take (suc first) old ++ splitsBy (splitIn xs) n a b ++ drop last old) (sym (halves .whole))
     where
       k : ℕ
       k = halves .doublings
 
 -- A row of one processor: nothing is written.
-pub row-alone : (xs old : List ℕ) (first last a b : ℕ) → last ≡ suc first → old ≡ take (suc first) old ++ splitsIn xs (levels (last - first)) a b ++ drop last old
-unfolding levels digits digitsWithin splitsIn
+pub row-alone : (xs old : List ℕ) (first last a b : ℕ) → last ≡ suc first → old ≡ take (suc first) old ++ splitsBy (splitIn xs) (levels (last - first)) a b ++ drop last old
+unfolding levels digits digitsWithin splitsBy
 row-alone xs old first last a b e =
     sym (take-append-drop (suc first) old)
     ∙ ap₂ (λ (t d : List ℕ). t ++ d)
-    (sym (append-nil (take (suc first) old)) ∙ ap (λ (n : ℕ). take (suc first) old ++ splitsIn xs (levels n) a b) (let z : 1 ≡ last - first = omega arith in z))
+    (sym (append-nil (take (suc first) old)) ∙ ap (λ (n : ℕ). take (suc first) old ++ splitsBy (splitIn xs) (levels n) a b) (let z : 1 ≡ last - first = omega arith in z))
     (ap (λ (n : ℕ). drop n old) (sym e))
 
 -- The whole row, its two ends written before.
 pub row-done : {job : Job} {xs : List ℕ} (s : List ℕ) {n : ℕ} {now : List ℕ} → Ready job xs → processors job < length s → n ≡ tasks job
-    → now ≡ take 1 (set (set s 0 0) (processors job) n) ++ splitsIn xs (levels (processors job - 0)) 0 (tasks job) ++ drop (processors job) (set (set s 0 0) (processors job) n)
+    → now ≡ take 1 (set (set s 0 0) (processors job) n) ++ splitsBy (splitIn xs) (levels (processors job - 0)) 0 (tasks job) ++ drop (processors job) (set (set s 0 0) (processors job) n)
     → now ≡ halving job ++ drop (suc (processors job)) s
 unfolding halving
 row-done {job} {xs} s {n} ready h e f =
-    f ∙ ap₂ (λ (t d : List ℕ). t ++ splitsIn xs (levels (processors job - 0)) 0 (tasks job) ++ d) ends-first ends-last
-    ∙ ap (λ (ys : List ℕ). 0 ∷ (ys ++ tasks job ∷ drop (suc p) s)) are ∙ ap (λ (ys : List ℕ). 0 ∷ ys) (sym (append-snoc (splits job (levels p) 0 (tasks job)) (tasks job) (drop (suc p) s)))
+    f ∙ ap₂ (λ (t d : List ℕ). t ++ splitsBy (splitIn xs) (levels (processors job - 0)) 0 (tasks job) ++ d) ends-first ends-last
+    ∙ ap (λ (ys : List ℕ). 0 ∷ (ys ++ tasks job ∷ drop (suc p) s)) are ∙ ap (λ (ys : List ℕ). 0 ∷ ys) (sym (append-snoc (splitsBy (split job) (levels p) 0 (tasks job)) (tasks job) (drop (suc p) s)))
   where
     p : ℕ
     p = processors job
@@ -213,7 +205,7 @@ row-done {job} {xs} s {n} ready h e f =
         (length-take-le (processors job) (set s 0 0) (omega (arith, length-set s 0 0)))
         ∙ ap₂ (λ (x : ℕ) (d : List ℕ). x ∷ d) e (drop-set-lt (suc (processors job)) s 0 0 (omega arith))
 
-    are : splitsIn xs (levels (processors job - 0)) 0 (tasks job) ≡ splits job (levels (processors job)) 0 (tasks job)
+    are : splitsBy (splitIn xs) (levels (processors job - 0)) 0 (tasks job) ≡ splitsBy (split job) (levels (processors job)) 0 (tasks job)
     are =
-        ap (λ (k : ℕ). splitsIn xs (levels k) 0 (tasks job)) (let z : processors job - 0 ≡ processors job = omega arith in z)
+        ap (λ (k : ℕ). splitsBy (splitIn xs) (levels k) 0 (tasks job)) (let z : processors job - 0 ≡ processors job = omega arith in z)
         ∙ splits-are ready (levels (processors job)) 0 (tasks job) (omega arith) (omega arith)

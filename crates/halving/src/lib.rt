@@ -6,10 +6,10 @@ ghost use mathlib.Core.List.{_++_};
 ghost use lib.ListN.{length, getD, take, drop};
 ghost use Rattle.chain.specs.Lists.{levels};
 ghost use Rattle.chain.specs.Job.{Job, jobOf, processors};
-ghost use Rattle.chain.specs.Halving.{Halvable, halving};
+ghost use Rattle.chain.specs.Halving.{Halvable, splitsBy, halving};
 ghost use Rattle.parts.specs.Prefix.{Ready};
 ghost use Rattle.parts.specs.Rising.{Rising};
-ghost use Rattle.halving.specs.Row.{splitIn, splitsIn};
+ghost use Rattle.halving.specs.Row.{splitIn};
 use heuristic::nearest_in;
 use parts::last_at_most;
 use parts::narrow;
@@ -44,7 +44,7 @@ fn split_row(sums: &[u32], separators: &mut [u32], first: usize, last: usize, a:
     requires { ⌜ 2 ^ levels (last - first) ≡ last - first ⌝ }
     ensures { λ _.
         let old = now (separators .entry) in
-        ⌜ now (separators .exit) ≡ take (suc first) old ++ splitsIn (now (sums .entry)) (levels (last - first)) a b ++ drop last old ⌝ }
+        ⌜ now (separators .exit) ≡ take (suc first) old ++ splitsBy (splitIn (now (sums .entry))) (levels (last - first)) a b ++ drop last old ⌝ }
 {
     if 1 < last - first {
         let middle = first + (last - first) / 2;

@@ -7,7 +7,6 @@ use lib.ListN.{length, set, take, drop, length-set}
 use Rattle.chain.specs.Lists.{levels}
 use Rattle.chain.proofs.Halving.{Halved, halved-power}
 use Rattle.parts.proofs.Laws.{rising-to}
-use Rattle.halving.specs.Row.{splitIn, splitsIn}
 use Rattle.halving.proofs.Laws.{split-in-from, split-in-to, left-power, right-power, left-less, right-less, row-halves, row-alone}
 use borrow.Fn.Kinds.{In}
 use borrow.Fn.PlainCycle.{Measures, is, falls, and}
