@@ -1,9 +1,9 @@
 -- Searches over indices find what their names say.
 -- Assumes nothing.
 use Prim.Native.Nat.{ℕ, zero, suc, _+_, _-_, _≤_, _<_}
-use mathlib.Core.Path.{_≡_, refl, ap, ap₂, subst, _∙_}
+use mathlib.Core.Path.{_≡_, refl, sym, ap, ap₂, subst, _∙_}
 use mathlib.Core.Bool.{Bool, true, false, not, cond, _&&_}
-use mathlib.Core.List.{List, _∷_, _++_}
+use mathlib.Core.List.{List, [], _∷_, _++_}
 use mathlib.Core.Logic.{_⊎_, inl, inr}
 use native.Mathlib.Omega.{arith}
 use native.Mathlib.Decide.{decLe}
@@ -143,6 +143,21 @@ unfolding tabulate
 at-tabulate f zero l i h = absurd (let z : ⊥ = omega arith in z)
 at-tabulate f (suc n) l zero h = refl
 at-tabulate f (suc n) l (suc i) h = at-tabulate (λ j. f (suc j)) n l i (omega arith)
+
+pub at-table : (f : ℕ → ℕ) (n i : ℕ) → i < n → getD (tabulate f n) i 0 ≡ f i
+unfolding tabulate
+at-table f zero i h = absurd (let z : ⊥ = omega arith in z)
+at-table f (suc n) zero h = refl
+at-table f (suc n) (suc i) h = at-table (λ j. f (suc j)) n i (omega arith)
+
+-- A list is the table of its entries.
+pub table-of : (l : List ℕ) {n : ℕ} → length l ≡ n → tabulate (λ i. getD l i 0) n ≡ l
+unfolding tabulate
+table-of l e = ap (tabulate (λ i. getD l i 0)) (sym e) ∙ go l
+  where
+    go : (l : List ℕ) → tabulate (λ i. getD l i 0) (length l) ≡ l
+    go [] = refl
+    go (x ∷ l) = ap (λ (m : List ℕ). x ∷ m) (go l)
 
 pub after-tabulate : (f : ℕ → ℕ) (n : ℕ) (l : List ℕ) (i : ℕ) → getD (tabulate f n ++ l) (n + i) 0 ≡ getD l i 0
 unfolding tabulate

@@ -3,23 +3,23 @@
 use Prim.Native.Nat.{ℕ, zero, suc, _+_, _*_, _≤_, _<_, _^_}
 use mathlib.Core.Path.{_≡_, refl, sym, ap, ap₂, subst, _∙_}
 use mathlib.Core.Bool.{Bool, true, false, _&&_, cond}
-use mathlib.Core.List.{List, [], _∷_, _++_, append-nil}
+use mathlib.Core.List.{List, [], _∷_, _++_}
 use native.Mathlib.Omega.{arith}
 use native.Mathlib.Numerals.{add-one}
 use lib.Dec.{T, eqb}
 use lib.ListN.{length, getD, drop, set, length-set}
-use lib.Seq.{ext-getD, getD-set-same}
+use lib.Seq.{getD-set-same}
 use borrow.Author.Tests.{ne-eqb, eq-eqb}
 use Rattle.bound.specs.declared.Bound.{Bound}
 use Rattle.bound.specs.Order.{le}
 use Rattle.chain.specs.declared.Method.the-variants.{Bisection}
-use Rattle.chain.specs.Lists.{tabulate, all}
+use Rattle.chain.specs.Lists.{all}
 use Rattle.chain.specs.Ranges.{Lendable}
 use Rattle.chain.specs.Job.{Job, Valid, processors, speedOf, partLoad, at, bottleneck}
 use Rattle.chain.specs.Plan.{BisectionEnds}
 use Rattle.chain.specs.Grade.{unbeaten}
 use Rattle.chain.specs.Refusal.{PlanRecords, separatorsOf, joined}
-use Rattle.chain.proofs.Indices.{all-at, length-tabulate, at-tabulate}
+use Rattle.chain.proofs.Indices.{all-at, table-of}
 use Rattle.chain.proofs.Tests.{same-test}
 use Rattle.chain.proofs.Parts.{valid-proper, valid-plannable}
 use Rattle.chain.proofs.Ranges.{probe-products, bottleneck-small}
@@ -47,14 +47,6 @@ agrees b x y h = go b (eq-eqb x y h)
     go : (b : Bool) {c : Bool} → c ≡ true → b ≡ (b && c)
     go true e = sym e
     go false e = refl
-
--- A list is its own table.
-tabulate-all : (xs : List ℕ) (n : ℕ) → length xs ≡ n → tabulate (at xs) n ≡ xs
-tabulate-all xs n e =
-    ext-getD 0 (tabulate (at xs) n) xs (length-tabulate (at xs) n ∙ sym e)
-    (λ i h.
-    ap (λ (l : List ℕ). getD l i 0) (sym (append-nil (tabulate (at xs) n)))
-    ∙ at-tabulate (at xs) n [] i (subst (λ (m : ℕ). i < m) (length-tabulate (at xs) n) h))
 
 -- The loop that takes the separators: the first p + 1 are taken, and b says whether the first p records begin at theirs.
 module _ (job : Job) (plan : List ℕ) where
@@ -111,7 +103,7 @@ module _ (job : Job) (plan : List ℕ) where
         front-end
         (subst (λ (k : ℕ). Front (at (separatorsOf job file)) (suc k) before now) (let e : p ≡ processors job = omega (arith, t .done) in e) (t .front))
         (t .room)
-        ∙ ap (λ (xs : List ℕ). xs ++ drop (suc (processors job)) before) (tabulate-all (separatorsOf job file) (suc (processors job)) (read-length job file))
+        ∙ ap (λ (xs : List ℕ). xs ++ drop (suc (processors job)) before) (table-of (separatorsOf job file) (read-length job file))
 
 pub taking-length : (job : Job) (plan l : List ℕ) (v : ℕ) {p : ℕ} {now : List ℕ} {b : Bool} → Taking job plan (set l 0 v) now b p
     → length now ≡ length l

@@ -3,7 +3,7 @@
 use Prim.Native.Nat.{ℕ, suc, _+_, _-_, _*_, _/_, _≤_, _<_, _^_}
 use mathlib.Core.Path.{_≡_, refl, sym, ap, ap₂, subst, _∙_}
 use mathlib.Core.Bool.{Bool, true, false}
-use mathlib.Core.List.{List, [], _++_, append-nil}
+use mathlib.Core.List.{List, _++_}
 use mathlib.Core.Logic.{_⊎_, inl, inr}
 use native.Mathlib.Omega.{arith}
 use native.Mathlib.Decide.{decLe}
@@ -12,13 +12,13 @@ use native.Mathlib.Nat.{lt-of-le-of-lt, div-le-of-le-mul, mul-le-mul-right}
 use mir.Val.{boolByte}
 use lib.Dec.{ltb, lit<}
 use lib.ListN.{length, getD, set, drop, length-set}
-use lib.Seq.{getD-set-same, drop-set-lt, ext-getD}
+use lib.Seq.{getD-set-same, drop-set-lt}
 use borrow.Author.Tests.{le-leb, lt-leb, ltb-true, ltb-false}
 use Rattle.chain.specs.Lists.{tabulate, sumTo, distance}
-use Rattle.chain.specs.Job.{Job, Valid, tasks, processors, last, speedOf, partWeight, totalWeight, totalSpeed, at}
+use Rattle.chain.specs.Job.{Job, Valid, tasks, processors, last, speedOf, totalWeight, totalSpeed, at}
 use Rattle.chain.specs.Heuristic.{nearest, heuristic}
 use Rattle.chain.proofs.Parts.{Proper, valid-proper, weight-all}
-use Rattle.chain.proofs.Indices.{length-tabulate, at-tabulate}
+use Rattle.chain.proofs.Indices.{table-of}
 use Rattle.chain.proofs.Ideal.{total-speed-is}
 use Rattle.chain.proofs.Heuristic.{nearest-le, nearest-first, nearest-grows, heuristic-at, heuristic-end, heuristic-partition}
 use Rattle.chain.proofs.Ranges.{speeds-to-limit, index-fits, total-speed-positive, total-speed-fits, heuristic-products}
@@ -297,11 +297,5 @@ placed-end {job} xs {ys} {total} {weight} {p} {speed} {past} {s} {i} v room w h 
     length-is : length (heuristic job) ≡ suc (processors job)
     length-is = heuristic-partition ok .count
 
-    at-is : (k : ℕ) → k < suc (processors job) → at (tabulate (at (heuristic job)) (suc (processors job))) k ≡ at (heuristic job) k
-    at-is k l = sym (ap (λ (t : List ℕ). at t k) (append-nil (tabulate (at (heuristic job)) (suc (processors job))))) ∙ at-tabulate (at (heuristic job)) (suc (processors job)) [] k l
-
     table : tabulate (at (heuristic job)) (suc (processors job)) ≡ heuristic job
-    table =
-        ext-getD 0 (tabulate (at (heuristic job)) (suc (processors job))) (heuristic job)
-        (length-tabulate (at (heuristic job)) (suc (processors job)) ∙ sym length-is)
-        (λ k l. at-is k (omega (arith, length-tabulate (at (heuristic job)) (suc (processors job)))))
+    table = table-of (heuristic job) length-is

@@ -3,15 +3,14 @@
 -- Assumes nothing.
 use Prim.Native.Nat.{ℕ, zero, suc, _+_, _*_, _≤_, _<_}
 use mathlib.Core.Path.{_≡_, refl, sym, ap, ap₂, subst, _∙_}
-use mathlib.Core.List.{List, [], _++_, append-nil}
+use mathlib.Core.List.{List, _++_}
 use mathlib.Core.Logic.{_↔_}
 use native.Mathlib.Omega.{arith}
-use lib.ListN.{length, getD, take, drop}
+use lib.ListN.{length, take, drop}
 use lib.Seq.{take-all, take-add, drop-drop, ext-getD}
-use Rattle.chain.specs.Lists.{tabulate}
 use Rattle.chain.specs.Job.{Job, Valid, processors, partLoad, at, Partition}
 use Rattle.chain.specs.Refusal.{PlanRecords, separatorsOf, firstRefusal, planTests}
-use Rattle.chain.proofs.Indices.{length-tabulate, at-tabulate}
+use Rattle.chain.proofs.Indices.{length-tabulate, at-table}
 use Rattle.chain.proofs.Refusals.{Told, plan-accepted}
 use Rattle.fields.specs.Field.{Bytes, fieldBytes, fieldAt}
 use Rattle.fields.proofs.Laws.{field-taken}
@@ -31,8 +30,7 @@ module _ (job : Job) (plan : PlanRecords) where
 
   pub read-next : (p : ℕ) → p < processors job → at (separatorsOf job plan) (suc p) ≡ plan .to p
   unfolding separatorsOf
-  read-next p h =
-      ap (λ (l : List ℕ). getD l p 0) (sym (append-nil (tabulate (plan .to) (processors job)))) ∙ at-tabulate (plan .to) (processors job) [] p h
+  read-next p h = at-table (plan .to) (processors job) p h
 
 module _ {job : Job} {s : List ℕ} (v : Valid job) (w : Partition job s) where
   abbrev file : PlanRecords
