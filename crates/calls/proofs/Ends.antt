@@ -1,64 +1,32 @@
 -- What each call answers and leaves in the lent list, by the number of its refusal.
 -- Assumes nothing.
-use Prim.Native.Nat.{ℕ, suc, _+_, _≤_}
-use mathlib.Core.Path.{_≡_, refl, sym, ap, _∙_}
-use mathlib.Core.Bool.{Bool, true, false, not, cond}
+use Prim.Native.Nat.{ℕ, suc}
+use mathlib.Core.Path.{_≡_, sym, ap, _∙_}
+use mathlib.Core.Bool.{Bool, cond}
 use mathlib.Core.List.{List, _++_}
 use mathlib.Core.Logic.{_≢_}
-use native.Mathlib.Omega.{arith}
-use native.Mathlib.Numerals.{add-one}
-use lib.Dec.{T}
-use lib.ListN.{length, take, drop, length-append}
+use lib.ListN.{length, take, drop}
 use borrow.Author.Tests.{ne-eqb}
 use Rattle.bound.specs.declared.Bound.{Bound}
-use Rattle.chain.specs.Job.{Job, Valid, Partition, processors, bottleneck}
+use Rattle.chain.specs.Job.{Job, Partition, processors, bottleneck}
 use Rattle.chain.specs.declared.Outcome.{Outcome}
-use Rattle.chain.specs.declared.Outcome.the-variants.{Fits, Fails}
-use Rattle.chain.specs.Probe.{walk, fits, nextBid, probe}
+use Rattle.chain.specs.Probe.{walked, probe}
 use Rattle.chain.specs.Heuristic.{heuristic}
 use Rattle.chain.specs.Halving.{halving}
 use Rattle.chain.specs.Refusal.{Inputs, measureInputs, halvingInputs, refusal}
 use Rattle.chain.proofs.Parts.{valid-proper}
 use Rattle.chain.proofs.Heuristic.{heuristic-partition}
 use Rattle.chain.proofs.Halving.{halving-partition}
+use Rattle.chain.proofs.Walk.{walked-length}
 use Rattle.refusals.specs.Answers.{lentAfter}
 use Rattle.refusals.specs.Inputs.{probeInputs, heuristicInputs}
 use Rattle.refusals.proofs.Lent.{lent-front, lent-kept}
 use Rattle.refusals.proofs.Accepted.{passed}
-use Rattle.parts.proofs.Front.{taken}
-use Rattle.chain.proofs.Tests.{T-true, T-false}
-use Rattle.probe.proofs.Answer.{walk-count, outcome-fits, outcome-fails}
 use Rattle.calls.specs.declared.Measured.{Measured}
 use Rattle.calls.specs.declared.Measured.the-variants.{Bottleneck, Refused}
 use Rattle.calls.specs.declared.Probed.{Probed}
 use Rattle.calls.specs.declared.Probed.the-variants.{Answered, Refused as ProbeRefused}
 use Rattle.calls.specs.Answers.{measuredOf, measureAnswer, probedOf, probeAnswer, probeWrites, heuristicAnswer, heuristicWrites, halvingAnswer, halvingWrites}
-
--- A list in whose front a walk was written has P + 1 entries.
-pub walk-room : {job : Job} (B : Bound) {xs : List ℕ} (l : List ℕ) → Valid job → xs ≡ walk job B ++ l → processors job + 1 ≤ length xs
-walk-room {job} B l v e = omega (arith, ap length e, length-append (walk job B) l, walk-count v B)
-
--- What the probe of a valid job answers, and the list then: the walk is copied where it fits, and else nothing is written.
-module _ (job : Job) (B : Bound) (s : List ℕ) where
-  abbrev pub Probes : Outcome → List ℕ → Type 0
-  Probes r now = (r ≡ probe job B) × (now ≡ cond (fits job B) (walk job B ++ drop (suc (processors job)) s) s)
-
-  left : Bool → List ℕ
-  left b = cond b (walk job B ++ drop (suc (processors job)) s) s
-
-  pub probe-fits : {walked now : List ℕ} (l : List ℕ) → Valid job → T (fits job B) → walked ≡ walk job B ++ l
-      → now ≡ take (processors job + 1) walked ++ drop (processors job + 1) s → Probes Fits now
-  unfolding left
-  probe-fits {walked} {now} l v t e f = (sym (outcome-fits job B (T-true (fits job B) t)), written ∙ sym (ap left (T-true (fits job B) t)))
-    where
-      written : now ≡ walk job B ++ drop (suc (processors job)) s
-      written =
-          f ∙ ap (λ (n : ℕ). take n walked ++ drop n s) (add-one (processors job))
-          ∙ ap (λ (x : List ℕ). x ++ drop (suc (processors job)) s) (taken (walk job B) l (walk-count v B) e)
-
-  pub probe-fails : {C : Bound} → T (not (fits job B)) → C ≡ nextBid job B → Probes (Fails C) s
-  unfolding left
-  probe-fails {C} t e = (ap Fails e ∙ sym (outcome-fails job B (T-false (fits job B) t)), sym (ap left (T-false (fits job B) t)))
 
 -- An answer that is refused, and one that is not: n is what the tests gave.
 measured-refused : {n number : ℕ} (B : Bound) → n ≡ number → n ≢ 0 → Refused n ≡ measuredOf number B
@@ -130,18 +98,14 @@ module _ (job : Job) (s : List ℕ) where
 
     pub probe-refused : {n : ℕ} → n ≡ refusal job (probeInputs job B (length s)) → n ≢ 0 → Tried (ProbeRefused n) s
     unfolding probeAnswer probeWrites
-    probe-refused e h = (probed-refused (probe job B) e h, kept (fits job B) (lent-kept (walk job B) s e h))
-      where
-        kept : (t : Bool) {l : List ℕ} → s ≡ l → s ≡ cond t l s
-        kept true x = x
-        kept false x = refl
+    probe-refused e h = (probed-refused (probe job B) e h, lent-kept _ s e h)
 
     pub probe-accepted : {n : ℕ} → n ≡ refusal job (probeInputs job B (length s)) → n ≡ 0 → {r : Outcome} {now : List ℕ} → r ≡ probe job B
-        → now ≡ cond (fits job B) (walk job B ++ drop (suc (processors job)) s) s → Tried (Answered r) now
+        → now ≡ walked job B ++ drop (suc (processors job)) s → Tried (Answered r) now
     unfolding probeAnswer probeWrites probedOf
     probe-accepted e z f g = (
       ap Answered f ∙ ap (λ (k : ℕ). probedOf k (probe job B)) (sym (sym e ∙ z)),
-      g ∙ ap (λ (l : List ℕ). cond (fits job B) l s) (sym (lent-front (walk job B) s (sym e ∙ z) (walk-count ((passed e z) .valid) B))),
+      g ∙ sym (lent-front (walked job B) s (sym e ∙ z) (walked-length job B)),
     )
 
 -- For `search`: at each return the law that its tests meet.

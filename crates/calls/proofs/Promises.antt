@@ -14,12 +14,12 @@ use Rattle.bound.specs.Order.{over, plus, _≼_, _≺_}
 use Rattle.chain.specs.Job.{Job, Valid, Partition, Within, processors, last, partLoad, totalWeight, heaviest, slowest, ideal, at, bottleneck}
 use Rattle.chain.specs.declared.Outcome.{Outcome}
 use Rattle.chain.specs.declared.Outcome.the-variants.{Fits, Fails}
-use Rattle.chain.specs.Probe.{walk, fits, nextBid, probe}
+use Rattle.chain.specs.Probe.{walk, walked, fits, nextBid, probe}
 use Rattle.chain.specs.Heuristic.{heuristic}
 use Rattle.chain.specs.Halving.{Halvable, halving}
 use Rattle.chain.specs.Plan.{planOf}
 use Rattle.chain.specs.Refusal.{speedsTest, weightsTest, processorsTest, tasksTest, rowTest, lengthTest, boundTest, partitionTest, FirstFailing, jobTests, Inputs, measureInputs, halvingInputs, callTests, refusal}
-use Rattle.chain.proofs.Tests.{T-true, T-false}
+use Rattle.chain.proofs.Tests.{T-true}
 use Rattle.chain.proofs.Refusals.{gives, given-number}
 use Rattle.chain.proofs.Parts.{Proper, valid-proper, valid-plannable}
 use Rattle.chain.proofs.Walk as walks
@@ -35,7 +35,7 @@ use Rattle.refusals.proofs.Lent.{lent-refused, lent-front}
 use Rattle.calls.specs.declared.Measured.the-variants.{Bottleneck, Refused}
 use Rattle.calls.specs.declared.Probed.the-variants.{Answered, Refused as ProbeRefused}
 use Rattle.calls.specs.Answers.{measuredSaid, outcomeValues, probedSaid, measuredOf, measureAnswer, probedOf, probeAnswer, probeWrites, heuristicAnswer, heuristicWrites, halvingAnswer, halvingWrites}
-use Rattle.parts.proofs.Front.{taken, front-partition}
+use Rattle.parts.proofs.Front.{taken}
 use Rattle.probe.proofs.Answer.{outcome-fits, fits-outcome, fails-outcome}
 
 -- What an answer says, by its number.
@@ -255,11 +255,19 @@ module _ (job : Job) (B : Bound) (s : List ℕ) where
   -- A refusal leaves the list as it was.
   pub probe-keeps : refusal job (probeInputs job B (length s)) ≢ 0 → probeWrites job B s ≡ s
   unfolding probeWrites
-  probe-keeps h = go (fits job B) (lent-refused h (walk job B) s)
-    where
-      go : (b : Bool) {l : List ℕ} → l ≡ s → cond b l s ≡ s
-      go true e = e
-      go false e = refl
+  probe-keeps h = lent-refused h (walked job B) s
+
+  -- An accepted probe: the list then begins with how far each processor gets, whether it fits or not, and the entries behind stay.
+  written : refusal job (probeInputs job B (length s)) ≡ 0 → probeWrites job B s ≡ walked job B ++ drop (suc (processors job)) s
+  unfolding probeWrites
+  written e = lent-front (walked job B) s e (walks.walked-length job B)
+
+  pub probe-front : refusal job (probeInputs job B (length s)) ≡ 0 → take (suc (processors job)) (probeWrites job B s) ≡ walked job B
+  probe-front e = taken (walked job B) (drop (suc (processors job)) s) (walks.walked-length job B) (written e)
+
+  pub probe-behind : refusal job (probeInputs job B (length s)) ≡ 0 → drop (suc (processors job)) (probeWrites job B s) ≡ drop (suc (processors job)) s
+  probe-behind e =
+      ap (drop (suc (processors job))) (written e) ∙ drop-at (walked job B) (drop (suc (processors job)) s) (suc (processors job)) (walks.walked-length job B)
 
   -- Demand 2: an accepted probe fits exactly when some partition stays within the bound.
   pub probe-fits-exactly : refusal job (probeInputs job B (length s)) ≡ 0
@@ -271,19 +279,19 @@ module _ (job : Job) (B : Bound) (s : List ℕ) where
         λ x. ap (λ (n : ℕ). probedOf n (probe job B)) e ∙ ap Answered (outcome-fits job B (T-true (fits job B) (f .1 x))),
       )
 
-  -- A fit: the list then begins with a partition within the bound, and the entries behind it stay.
+  -- A fit: it is a partition within the bound.
   pub record Fitted : Type 0 where
+    pub separators : take (suc (processors job)) (probeWrites job B s) ≡ walk job B
     pub partition : Partition job (take (suc (processors job)) (probeWrites job B s))
     pub within : Within job (take (suc (processors job)) (probeWrites job B s)) B
-    pub behind : drop (suc (processors job)) (probeWrites job B s) ≡ drop (suc (processors job)) s
 
   pub probe-fitted : probeAnswer job B s ≡ Answered Fits → Fitted
-  unfolding probeAnswer probeWrites
+  unfolding probeAnswer
   probe-fitted e =
       record {
-        partition = front-partition (walk job B) rest pa written;
-        within = subst (λ (t : List ℕ). Within job t B) (sym (taken (walk job B) rest (pa .count) written)) (walks.walk-within job B (m .1));
-        behind = ap (drop (suc (processors job))) written ∙ drop-at (walk job B) rest (suc (processors job)) (pa .count);
+        separators = front;
+        partition = subst (Partition job) (sym front) (walks.walk-partition ok B (m .1));
+        within = subst (λ (t : List ℕ). Within job t B) (sym front) (walks.walk-within job B (m .1));
       }
     where
       m : (refusal job (probeInputs job B (length s)) ≡ 0) × T (fits job B)
@@ -292,32 +300,21 @@ module _ (job : Job) (B : Bound) (s : List ℕ) where
       ok : Proper job
       ok = valid-proper ((accepted (m .0)) .valid)
 
-      pa : Partition job (walk job B)
-      pa = walks.walk-partition ok B (m .1)
+      front : take (suc (processors job)) (probeWrites job B s) ≡ walk job B
+      front = probe-front (m .0) ∙ walks.walked-walk ok B (m .1)
 
-      rest : List ℕ
-      rest = drop (suc (processors job)) s
-
-      written : cond (fits job B) (lentAfter (refusal job (probeInputs job B (length s))) (walk job B) s) s ≡ walk job B ++ rest
-      written =
-          ap (λ (b : Bool). cond b (lentAfter (refusal job (probeInputs job B (length s))) (walk job B) s) s) (T-true (fits job B) (m .1))
-          ∙ lent-front (walk job B) s (m .0) (pa .count)
-
-  -- A failure: the next bid is above the bound, no partition stays within a smaller one, and the list is as it was.
+  -- A failure: the next bid is above the bound, and no partition stays within a smaller one.
   pub record Failed (C : Bound) : Type 0 where
     pub above : B ≺ C
     pub least : (D : Bound) → (t : List ℕ) → Partition job t → Within job t D → C ≼ D
-    pub kept : probeWrites job B s ≡ s
 
   pub probe-failed : {C : Bound} → probeAnswer job B s ≡ Answered (Fails C) → Failed C
-  unfolding probeAnswer probeWrites
+  unfolding probeAnswer
   probe-failed {C} e =
       record {
         above = subst (λ (D : Bound). B ≺ D) (sym (m .2)) (bids.next-above (valid-plannable v) B (m .1));
         least = λ D t pa w.
             subst (λ (E : Bound). E ≼ D) (sym (m .2)) (bids.next-least (valid-proper v) B D (m .1) (walks.partition-fits (valid-proper v) pa w));
-        kept =
-            ap (λ (b : Bool). cond b (lentAfter (refusal job (probeInputs job B (length s))) (walk job B) s) s) (T-false (fits job B) (m .1));
       }
     where
       m : (refusal job (probeInputs job B (length s)) ≡ 0) × T (not (fits job B)) × (C ≡ nextBid job B)

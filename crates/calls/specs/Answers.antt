@@ -9,7 +9,7 @@ use Rattle.bound.specs.declared.Bound.{Bound}
 use Rattle.chain.specs.declared.Outcome.{Outcome}
 use Rattle.chain.specs.declared.Outcome.the-variants.{Fits, Fails}
 use Rattle.chain.specs.Job.{Job, processors, bottleneck}
-use Rattle.chain.specs.Probe.{walk, fits, probe}
+use Rattle.chain.specs.Probe.{walked, probe}
 use Rattle.chain.specs.Heuristic.{heuristic}
 use Rattle.chain.specs.Halving.{halving}
 use Rattle.chain.specs.Refusal.{measureInputs, halvingInputs, refusal}
@@ -50,9 +50,9 @@ probedOf number outcome = cond (eqb number 0) (Answered outcome) (ProbeRefused n
 unfoldable pub probeAnswer : Job → Bound → List ℕ → Probed
 probeAnswer job B s = probedOf (refusal job (probeInputs job B (length s))) (probe job B)
 
--- Scope 3.3: "its separators are then written". Scope 3.4: "Else it fails: it .. writes nothing."
+-- Scope 3.7: "Whether it fits or fails, a trial writes s0 = 0 to s(P−1) and, as sP, the greatest index .. that the last machine reaches"
 unfoldable pub probeWrites : Job → Bound → List ℕ → List ℕ
-probeWrites job B s = cond (fits job B) (lentAfter (refusal job (probeInputs job B (length s))) (walk job B) s) s
+probeWrites job B s = lentAfter (refusal job (probeInputs job B (length s))) (walked job B) s
 
 -- Scope 4.3: "The separators are written, and their bottleneck is the answer."
 unfoldable pub heuristicAnswer : Job → List ℕ → Measured

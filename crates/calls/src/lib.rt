@@ -1,19 +1,16 @@
 // The callable functions on a job by lists: measuring, the probe ("trial"), the heuristic ("quick plan") and halving the row.
 // These four have no `requires`: their tests are inside, and nothing lent is written before the last test has passed. The inner
 // functions below them ask for what has been tested.
-ghost use Prim.Native.Nat.{suc, _+_, _≤_, _<_};
+ghost use Prim.Native.Nat.{suc, _<_};
 ghost use mathlib.Core.Path.{_≡_};
-ghost use mathlib.Core.Bool.{cond};
 ghost use mathlib.Core.List.{_++_};
 ghost use lib.ListN.{length, take, drop};
 ghost use Rattle.chain.specs.Job.{Job, jobOf, Valid, processors, Partition, bottleneck};
 ghost use Rattle.chain.specs.Probe as trial;
-ghost use Rattle.chain.specs.Probe.{walk, fits};
 ghost use Rattle.chain.specs.Heuristic as quick;
 ghost use Rattle.chain.specs.Halving as row;
 ghost use Rattle.chain.specs.Halving.{Halvable};
 ghost use Rattle.chain.specs.Ranges.{Lendable};
-ghost use Rattle.parts.specs.Prefix.{Ready};
 ghost use Rattle.calls.specs.Answers.{measureAnswer, probeAnswer, probeWrites, heuristicAnswer, heuristicWrites, halvingAnswer, halvingWrites};
 use bound::Bound;
 use chain::Outcome;
@@ -21,8 +18,7 @@ use halving::halving_in;
 use heuristic::heuristic_in;
 use parts::measure_in;
 use parts::prefix_sums;
-use probe::probe_in;
-use refusals::MAX_PROCESSORS;
+use probe::walked_in;
 use refusals::MAX_TASKS;
 use refusals::test_halving;
 use refusals::test_heuristic;
@@ -39,18 +35,6 @@ pub enum Measured {
 pub enum Probed {
     Answered(Outcome),
     Refused(u32),
-}
-
-// Inner. Copies the first n numbers of the one list to the front of the other.
-fn copy_front(from: &[u32], to: &mut [u32], n: usize)
-    requires { ⌜ (n ≤ length (now from)) × (n ≤ length (now to)) ⌝ }
-    ensures { λ r. ⌜ now (to .exit) ≡ take n (now (from .entry)) ++ drop n (now (to .entry)) ⌝ }
-{
-    let mut i = 0;
-    while i < n {
-        to[i] = from[i];
-        i += 1;
-    }
 }
 
 // Inner. The bottleneck of the partition in front of the list.
@@ -79,36 +63,7 @@ pub fn measure(speeds: &[u32], weights: &[u32], separators: &[u32]) -> Measured
     Measured::Bottleneck(measure_tested(speeds, weights, separators))
 }
 
-// Inner. The probe at the bound over prefix sums, its walk in a list beside: only a fit is copied to the separators.
-fn probe_beside(
-    speeds: &[u32],
-    weights: &[u32],
-    sums: &[u32],
-    bound: Bound,
-    walked: &mut [u32],
-    separators: &mut [u32],
-) -> Outcome
-    ghost { Job }
-    requires { λ job. ⌜ jobOf (now speeds) (now weights) ≡ job ⌝ }
-    requires { λ job. ⌜ Ready job (now sums) ⌝ }
-    requires { λ job. ⌜ Lendable bound ⌝ }
-    requires { λ job. ⌜ (processors job < length (now walked)) × (processors job < length (now separators)) ⌝ }
-    ensures { λ job r. ⌜ r ≡ trial.probe job bound ⌝ }
-    ensures { λ job r.
-        let old = now (separators .entry) in
-        ⌜ now (separators .exit) ≡ cond (fits job bound) (walk job bound ++ drop (suc (processors job)) old) old ⌝ }
-{
-    let answer = probe_in(speeds, weights, sums, bound, walked);
-    match answer {
-        Outcome::Fits => {
-            copy_front(walked, separators, speeds.len() + 1);
-            Outcome::Fits
-        }
-        Outcome::Fails(next) => Outcome::Fails(next),
-    }
-}
-
-// Inner. The probe at the bound: a fit writes the walk's P + 1 separators, a failure writes nothing.
+// Inner. The probe at the bound: writes how far each processor gets, P + 1 separators, whether it fits or not.
 fn probe_tested(speeds: &[u32], weights: &[u32], bound: Bound, separators: &mut [u32]) -> Outcome
     ghost { Job }
     requires { λ job. ⌜ jobOf (now speeds) (now weights) ≡ job ⌝ }
@@ -116,18 +71,15 @@ fn probe_tested(speeds: &[u32], weights: &[u32], bound: Bound, separators: &mut 
     requires { λ job. ⌜ Lendable bound ⌝ }
     requires { λ job. ⌜ processors job < length (now separators) ⌝ }
     ensures { λ job r. ⌜ r ≡ trial.probe job bound ⌝ }
-    ensures { λ job r.
-        let old = now (separators .entry) in
-        ⌜ now (separators .exit) ≡ cond (fits job bound) (walk job bound ++ drop (suc (processors job)) old) old ⌝ }
+    ensures { λ job r. ⌜ now (separators .exit) ≡ trial.walked job bound ++ drop (suc (processors job)) (now (separators .entry)) ⌝ }
 {
     let mut sums = [0u32; MAX_TASKS + 1];
-    let mut walked = [0u32; MAX_PROCESSORS + 1];
     prefix_sums(weights, &mut sums);
-    probe_beside(speeds, weights, &sums, bound, &mut walked, separators)
+    walked_in(speeds, weights, &sums, bound, separators)
 }
 
-// The probe at a lent bound: whether it fits, or the refusal: 5, 6, 7, 8, 9 or 10, in this order. A fit writes the P + 1
-// separators, a failure and a refusal write nothing. Later entries stay.
+// The probe at a lent bound: whether it fits, or the refusal: 5, 6, 7, 8, 9 or 10, in this order. It writes the P + 1 separators,
+// whether it fits or fails; a refusal writes nothing. Later entries stay.
 pub fn probe(speeds: &[u32], weights: &[u32], bound: Bound, separators: &mut [u32]) -> Probed
     ensures answer { λ r.
         let job = jobOf (now (speeds .entry)) (now (weights .entry)) in

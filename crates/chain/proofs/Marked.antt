@@ -6,7 +6,7 @@ use Rattle.bound.specs.Order.{le, greater, lesser, leastTo, roundedUp}
 use Rattle.chain.specs.Limits.{maxTasks, maxWeight, maxProcessors, maxSpeed, maxBoundLoad, maxBoundSpeed}
 use Rattle.chain.specs.Lists.{sum, greatestOf, leastOf, tabulate, sumTo, all, greatestFrom, smallestFrom, smallestLeast, digitsWithin, digits, levels, powerOfTwo}
 use Rattle.chain.specs.Job.{speedOf, partOf, partWeight, partLoad, slowestOf, partBound, within, offer, boundAt, bottleneckTo, bottleneck, ideal}
-use Rattle.chain.specs.Probe.{reach, separator, walk, fits, bid, nextBid, probe}
+use Rattle.chain.specs.Probe.{reach, separator, walk, walked, fits, bid, nextBid, probe}
 use Rattle.chain.specs.Heuristic.{miss, nearest, heuristic}
 use Rattle.chain.specs.Halving.{uneven, split, splitsBy, halving}
 use Rattle.chain.specs.Dynamic.{startOf, candidate, crossingOf, lesserAt, tableValue, crossing, movesTo, moves}
@@ -19,5 +19,5 @@ use Rattle.chain.specs.Grade.{every, unbeaten}
 use Rattle.chain.specs.Marked.{sameList, samePair, figuresAre, walksAre, rowAt, isFailing, isFitting, holds, everyHolds, marked, worked, halvedJobs}
 
 pub marked-jobs : T (everyHolds (marked ++ worked ++ halvedJobs))
-unfolding le greater lesser leastTo roundedUp maxTasks maxWeight maxProcessors maxSpeed maxBoundLoad maxBoundSpeed sum greatestOf leastOf tabulate sumTo all greatestFrom smallestFrom smallestLeast digitsWithin digits levels powerOfTwo speedOf partOf partWeight partLoad slowestOf partBound within offer boundAt bottleneckTo bottleneck ideal reach separator walk fits bid nextBid probe miss nearest heuristic uneven split splitsBy halving startOf candidate crossingOf lesserAt tableValue crossing movesTo moves bidding firstEnds nextEnds ends meet fitsAt firstFit startOn candidateOn leastCandidate emptyFits nextRange rangeAfter single settled spread onward partitions leastBound leastBottleneck planOf difference allowance biddingFailures bisectionRounds nicolTrials nicolStop countBy foundBy imbalance eachBetween methodTest speedsTest weightsTest processorsTest tasksTest allEqual rowTest lengthTest boundTest isPartition partitionTest separatorsOf planLengthTest joined joinedTest trueAt trueTest firstRefusal jobTests planTests callTests refusal every unbeaten sameList samePair figuresAre walksAre rowAt isFailing isFitting holds everyHolds marked worked halvedJobs
+unfolding le greater lesser leastTo roundedUp maxTasks maxWeight maxProcessors maxSpeed maxBoundLoad maxBoundSpeed sum greatestOf leastOf tabulate sumTo all greatestFrom smallestFrom smallestLeast digitsWithin digits levels powerOfTwo speedOf partOf partWeight partLoad slowestOf partBound within offer boundAt bottleneckTo bottleneck ideal reach separator walk walked fits bid nextBid probe miss nearest heuristic uneven split splitsBy halving startOf candidate crossingOf lesserAt tableValue crossing movesTo moves bidding firstEnds nextEnds ends meet fitsAt firstFit startOn candidateOn leastCandidate emptyFits nextRange rangeAfter single settled spread onward partitions leastBound leastBottleneck planOf difference allowance biddingFailures bisectionRounds nicolTrials nicolStop countBy foundBy imbalance eachBetween methodTest speedsTest weightsTest processorsTest tasksTest allEqual rowTest lengthTest boundTest isPartition partitionTest separatorsOf planLengthTest joined joinedTest trueAt trueTest firstRefusal jobTests planTests callTests refusal every unbeaten sameList samePair figuresAre walksAre rowAt isFailing isFitting holds everyHolds marked worked halvedJobs
 marked-jobs = tt

@@ -17,11 +17,11 @@ use Rattle.bound.specs.Order.{infinite, _≼_, _≈_, Real, Finite}
 use Rattle.bound.proofs.Order.{finite-or-not, le-speedless}
 use Rattle.chain.specs.Lists.{tabulate}
 use Rattle.chain.specs.Job.{Job, tasks, processors, last, partBound, within, at, Partition, bottleneck, Within}
-use Rattle.chain.specs.Probe.{reach, separator, walk, fits}
+use Rattle.chain.specs.Probe.{reach, separator, walk, walked, Begins, fits}
 use Rattle.chain.proofs.Tests.{T-of, T-not-of}
 use Rattle.chain.proofs.Parts.{Proper, Plannable}
 use Rattle.chain.proofs.Within.{within-of, within-empty, within-shrink}
-use Rattle.chain.proofs.Indices.{Greatest, greatest-is, length-tabulate, at-tabulate, after-tabulate}
+use Rattle.chain.proofs.Indices.{Greatest, greatest-is, length-tabulate, at-tabulate, at-table, after-tabulate}
 use Rattle.chain.proofs.Bottleneck.{processors-last, bottleneck-finite, within-bottleneck}
 use Rattle.chain.proofs.Cover.{Cover}
 use Rattle.chain.proofs.CoverLaws.{cover-raise}
@@ -102,6 +102,15 @@ module _ (job : Job) where
         length-append (tabulate (separator job B) (suc (last job))) (tasks job ∷ [])
         ∙ ap (λ (n : ℕ). n + 1) (length-tabulate (separator job B) (suc (last job))) ∙ add-one (suc (last job))
 
+    -- What a trial writes, entry by entry.
+    pub walked-at : (p : ℕ) → p ≤ processors job → at (walked job B) p ≡ separator job B p
+    unfolding walked
+    walked-at p h = at-table (separator job B) (suc (processors job)) p (omega arith)
+
+    pub walked-length : length (walked job B) ≡ suc (processors job)
+    unfolding walked
+    walked-length = length-tabulate (separator job B) (suc (processors job))
+
   -- Furthest: what the first processors can take within the bound is never ahead of the walk, and the walk takes it.
   pub walk-covers : (B : Bound) (p : ℕ) → Cover job B p (separator job B p)
   unfolding separator
@@ -121,6 +130,26 @@ module _ (job : Job) where
                 (T-not (within job p (separator job B p) i B) (separator-past B p i (omega arith) h)
                 (within-shrink job p j (separator job B p) i i B m (omega (arith, separator-grows B p)) (omega arith) t))
           ]
+
+  -- So no way of giving tasks to the first processors is ahead of what a trial writes, which is one.
+  begins-covers : {B : Bound} {p : ℕ} {t : List ℕ} → Begins job B p t → (k : ℕ) → k ≤ p → Cover job B k (at t k)
+  begins-covers b zero h = b .first
+  begins-covers {B} {p} {t} b (suc k) h = (at t k, b .grows k h, begins-covers b k (omega arith), b .each k h)
+
+  pub walked-furthest : (B : Bound) (p : ℕ) (t : List ℕ) → p ≤ processors job → Begins job B p t → at t p ≤ at (walked job B) p
+  walked-furthest B p t h b = omega (arith, furthest B p (at t p) (begins-covers b p (omega arith)) (b .inside), walked-at B p h)
+
+  pub walked-begins : (B : Bound) (p : ℕ) → p ≤ processors job → Begins job B p (walked job B)
+  unfolding separator
+  walked-begins B p h =
+      record {
+        first = walked-at B 0 (omega arith);
+        grows = λ k l. omega (arith, walked-at B k (omega arith), walked-at B (suc k) (omega arith), separator-grows B k);
+        inside = omega (arith, walked-at B p h, separator-to B p);
+        each = λ k l.
+            subst (λ (a : ℕ). T (within job k a (at (walked job B) (suc k)) B)) (sym (walked-at B k (omega arith)))
+            (subst (λ (b : ℕ). T (within job k (separator job B k) b B)) (sym (walked-at B (suc k) (omega arith))) (separator-within B k));
+      }
 
   -- Growing: a greater bound walks at least as far, so equal bounds walk alike.
   pub growing : {B C : Bound} → Real B → B ≼ C → (p : ℕ) → separator job B p ≤ separator job C p
@@ -167,6 +196,14 @@ module _ (job : Job) where
       (within-shrink job (last job) j (separator job B (last job)) (tasks job) (tasks job) B (furthest B (last job) j c l)
       (separator-to B (last job)) (omega arith) t)
 
+  -- That is exactly when the last processor reaches the last task.
+  pub fits-reaches : (B : Bound) → T (fits job B) → separator job B (suc (last job)) ≡ tasks job
+  fits-reaches B t =
+      omega (arith, furthest B (suc (last job)) (tasks job) (fits-cover B t) (omega arith), separator-to B (suc (last job)))
+
+  pub reaches-fits : (B : Bound) → separator job B (suc (last job)) ≡ tasks job → T (fits job B)
+  reaches-fits B e = cover-fits B (subst (Cover job B (suc (last job))) e (walk-covers B (suc (last job))))
+
   -- What fits at a bound fits at every greater one.
   pub fits-raise : {B C : Bound} → Real B → B ≼ C → T (fits job B) → T (fits job C)
   fits-raise {B} {C} r h f = cover-fits C (cover-raise job r h (suc (last job)) (tasks job) (fits-cover B f))
@@ -211,6 +248,27 @@ module _ {job : Job} (ok : Proper job) where
                   walk-end job B,
                   ap (at (walk job B)) (let e : suc p ≡ suc (last job) = omega arith in e),
                 )
+          ]
+
+  -- What a trial writes ends with the last task exactly where it fits, and is then the walk.
+  pub walked-fits : (B : Bound) → T (fits job B) ↔ (at (walked job B) (processors job) ≡ tasks job)
+  walked-fits B = (λ t. ends ∙ fits-reaches job B t, λ e. reaches-fits job B (sym ends ∙ e))
+    where
+      ends : at (walked job B) (processors job) ≡ separator job B (suc (last job))
+      ends = walked-at job B (processors job) (omega arith) ∙ ap (separator job B) (processors-last ok)
+
+  pub walked-walk : (B : Bound) → T (fits job B) → walked job B ≡ walk job B
+  walked-walk B t =
+      ext-getD 0 (walked job B) (walk job B) (walked-length job B ∙ ap suc (processors-last ok) ∙ sym (walk-length job B)) each
+    where
+      each : (i : ℕ) → i < length (walked job B) → at (walked job B) i ≡ at (walk job B) i
+      each i h =
+          elim (decLe i (last job)) [
+            | yes l ↦ walked-at job B i (omega (arith, walked-length job B)) ∙ sym (walk-at job B i l)
+            | no l ↦
+                subst (λ (k : ℕ). at (walked job B) k ≡ at (walk job B) k)
+                (let x : suc (last job) ≡ i = omega (arith, walked-length job B, processors-last ok) in x)
+                (ap (at (walked job B)) (sym (processors-last ok)) ∙ walked-fits B .0 t ∙ sym (walk-end job B))
           ]
 
   -- A partition within a bound makes the probe fit; its bottleneck is such a bound.

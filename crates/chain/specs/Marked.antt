@@ -11,7 +11,7 @@ use Rattle.chain.specs.declared.Method.the-variants.{Table, Bidding, Bis
 use Rattle.chain.specs.declared.Outcome.{Outcome}
 use Rattle.chain.specs.declared.Outcome.the-variants.{Fits, Fails}
 use Rattle.chain.specs.Job.{Job, jobOf, processors, last, totalWeight, heaviest, at, bottleneck}
-use Rattle.chain.specs.Probe.{walk, probe}
+use Rattle.chain.specs.Probe.{walk, walked, probe}
 use Rattle.chain.specs.Heuristic.{heuristic}
 use Rattle.chain.specs.Halving.{halving}
 use Rattle.chain.specs.Plan.{planOf, allowance, countBy, foundBy, imbalance}
@@ -74,9 +74,9 @@ fieldsOf a b c d = a ∷ b ∷ c ∷ d ∷ []
 pub data Row : Type 0 where
   -- a job's plan: separators, bottleneck, imbalance, counts, allowances
   planned : Job → List ℕ → Bound → ℕ → Four → Four → Row
-  -- a trial that fits, with its separators; one that fails, with its next bid
+  -- a trial that fits, with its separators; one that fails, with its next bid and how far each machine got
   fitsWith : Job → Bound → List ℕ → Row
-  failsWith : Job → Bound → Bound → Row
+  failsWith : Job → Bound → Bound → List ℕ → Row
   -- the quick plan: separators and bottleneck
   quick : Job → List ℕ → Bound → Row
   -- a division's bottleneck; a list that is refused with a number
@@ -105,8 +105,8 @@ unfoldable pub holds : Row → Bool
 holds (planned job s B i n a) =
     sameList (planOf job) s && samePair (bottleneck job s) B && eqb (imbalance job B) i && figuresAre (λ m. countBy m job) n
     && figuresAre (λ m. allowance m job) a && walksAre job s
-holds (fitsWith job B s) = isFitting (probe job B) && sameList (walk job B) s
-holds (failsWith job B C) = isFailing (probe job B) C
+holds (fitsWith job B s) = isFitting (probe job B) && sameList (walk job B) s && sameList (walked job B) s
+holds (failsWith job B C s) = isFailing (probe job B) C && sameList (walked job B) s
 holds (quick job s B) = sameList (heuristic job) s && samePair (bottleneck job s) B
 holds (measures job s B) = eqb (refusal job (measureInputs job s)) 0 && samePair (bottleneck job s) B
 holds (refused job s n) = eqb (refusal job (measureInputs job s)) n
@@ -136,13 +136,13 @@ jobD = jobOf (1 ∷ 1 ∷ []) (0 ∷ 0 ∷ [])
 abbrev pub jobE : Job
 jobE = jobOf (1 ∷ 1 ∷ []) (6 ∷ [])
 
--- The table, with the figures of the scope's section 11. Scope 11.1: "A trial of A at 3/1 fails with next bid 11/3; at 11/3 it fits; at
--- 23/6 it fits with 0 1 3." Scope 11.2: "The quick plan of A is 0 2 3 with bottleneck 4/1." Scope 11.3: "Measuring 0 3 3 of A gives 12/1;
+-- The table, with the figures of the scope's section 11. Scope 11.1: "A trial of A at 3/1 fails with next bid 11/3 and writes 0 1 2; at
+-- 11/3 it fits; at 23/6 it fits with 0 1 3." Scope 11.2: "The quick plan of A is 0 2 3 with bottleneck 4/1." Scope 11.3: "Measuring 0 3 3 of A gives 12/1;
 -- measuring 0 2 2 of A is refused with 11." Scope 11.10: "The quick plan is not the plan: of A its bottleneck is 4/1, the plan's 11/3."
 unfoldable pub marked : List Row
 marked =
     planned jobA (0 ∷ 1 ∷ 3 ∷ []) (over 11 3) 223 (four 2 2 2 2) (four 3 4 8 2)
-    ∷ failsWith jobA (over 3 1) (over 11 3)
+    ∷ failsWith jobA (over 3 1) (over 11 3) (0 ∷ 1 ∷ 2 ∷ [])
     ∷ fitsWith jobA (over 11 3) (0 ∷ 1 ∷ 3 ∷ [])
     ∷ fitsWith jobA (over 23 6) (0 ∷ 1 ∷ 3 ∷ [])
     ∷ quick jobA (0 ∷ 2 ∷ 3 ∷ []) (over 4 1)
@@ -154,7 +154,10 @@ marked =
     ∷ planned jobE (0 ∷ 1 ∷ 1 ∷ []) (over 6 1) 1000 (four 1 2 1 1) (four 1 2 4 1)
     ∷ []
 
--- Beside the marked jobs: two bids that tie, 3/1 and 6/2; two indices equally near; a midpoint that fails; a first candidate of Nicol's
+-- Beside the marked jobs: two bids that tie, 3/1 and 6/2; how far three trials got. Scope 11.17: "A trial of B at 4/1 fails with next
+-- bid 12/2 and writes 0 1 3: of the four tiles that are left the last machine reaches two." Scope 11.18: "A trial of E at 5/1 fails with next
+-- bid 6/1 and writes 0 0 0: no machine reaches the tile." Scope 11.19: "Of weights 2 0 3 on one machine of speed 1 a trial at 2/1 fails with
+-- next bid 5/1 and writes 0 2." Then two indices equally near; a midpoint that fails; a first candidate of Nicol's
 -- search, 5/1, below the last, 6/1; equal weights on three processors, of which the search starts the second behind a task; weights of
 -- 0 on three processors, where it ends at the first; a single processor. Scope 11.14: "An imbalance that is rounded down is 0 for weights
 -- 1000 1001 on speeds 1 1, though their plan, 0 1 2, is half a unit above the ideal; rounded up it is 1." Scope 11.15: "Of A the
@@ -164,7 +167,10 @@ marked =
 -- before a gap.
 unfoldable pub worked : List Row
 worked =
-    failsWith (jobOf (1 ∷ 2 ∷ []) (3 ∷ 3 ∷ [])) (over 0 1) (over 3 1)
+    failsWith (jobOf (1 ∷ 2 ∷ []) (3 ∷ 3 ∷ [])) (over 0 1) (over 3 1) (0 ∷ 0 ∷ 0 ∷ [])
+    ∷ failsWith jobB (over 4 1) (over 12 2) (0 ∷ 1 ∷ 3 ∷ [])
+    ∷ failsWith jobE (over 5 1) (over 6 1) (0 ∷ 0 ∷ 0 ∷ [])
+    ∷ failsWith (jobOf (1 ∷ []) (2 ∷ 0 ∷ 3 ∷ [])) (over 2 1) (over 5 1) (0 ∷ 2 ∷ [])
     ∷ quick (jobOf (1 ∷ 3 ∷ []) (1 ∷ 1 ∷ [])) (0 ∷ 0 ∷ 2 ∷ []) (over 2 3)
     ∷ planned (jobOf (2 ∷ 3 ∷ 3 ∷ []) (6 ∷ 3 ∷ 4 ∷ 1 ∷ [])) (0 ∷ 0 ∷ 1 ∷ 4 ∷ []) (over 8 3) 524 (four 3 3 3 5) (four 8 9 6 6)
     ∷ planned (jobOf (1 ∷ 1 ∷ []) (5 ∷ 1 ∷ [])) (0 ∷ 1 ∷ 2 ∷ []) (over 5 1) 667 (four 1 2 1 2) (four 2 3 4 2)

@@ -1,14 +1,15 @@
 -- The greedy walk, the probe ("trial") and the next bid. Scope, section 3.
-use Prim.Native.Nat.{ℕ, zero, suc, _+_, _-_}
+use Prim.Native.Nat.{ℕ, zero, suc, _+_, _-_, _≤_, _<_}
+use mathlib.Core.Path.{_≡_}
 use mathlib.Core.Bool.{Bool, true, false}
 use mathlib.Core.List.{List, [], _∷_, _++_}
-use lib.Dec.{ltb}
+use lib.Dec.{T, ltb}
 use Rattle.bound.specs.declared.Bound.{Bound}
 use Rattle.bound.specs.Order.{pick, leastTo}
 use Rattle.chain.specs.declared.Outcome.{Outcome}
 use Rattle.chain.specs.declared.Outcome.the-variants.{Fits, Fails}
 use Rattle.chain.specs.Lists.{tabulate, greatestFrom}
-use Rattle.chain.specs.Job.{Job, tasks, last, within, offer}
+use Rattle.chain.specs.Job.{Job, tasks, processors, last, within, offer, at}
 
 -- Scope 3.1: "sp is the greatest index from s(p−1) to N whose share is within the bound"
 unfoldable pub reach : Job → ℕ → ℕ → Bound → ℕ
@@ -22,6 +23,18 @@ separator job B (suc p) = reach job p (separator job B p) B
 -- Scope 3.1: "Each machine p before the last takes all it can". Scope 3.2: "The last machine takes what is left."
 unfoldable pub walk : Job → Bound → List ℕ
 walk job B = tabulate (separator job B) (suc (last job)) ++ (tasks job ∷ [])
+
+-- Scope 3.7: "Whether it fits or fails, a trial writes s0 = 0 to s(P−1) and, as sP, the greatest index from s(P−1) to N that the last
+-- machine reaches within the bound."
+unfoldable pub walked : Job → Bound → List ℕ
+walked job B = tabulate (separator job B) (suc (processors job))
+
+-- Scope 3.9: "However tiles are given from the first on, in order and within the bound": t says how, to the first p machines.
+pub record Begins (job : Job) (B : Bound) (p : ℕ) (t : List ℕ) : Type 0 where
+  pub first : at t 0 ≡ 0
+  pub grows : (k : ℕ) → k < p → at t k ≤ at t (suc k)
+  pub inside : at t p ≤ tasks job
+  pub each : (k : ℕ) → k < p → T (within job k (at t k) (at t (suc k)) B)
 
 -- Scope 3.3: "The trial fits where the last share is within the bound"
 unfoldable pub fits : Job → Bound → Bool

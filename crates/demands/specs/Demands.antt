@@ -70,7 +70,7 @@ pub record Trial (job : Job) (B : Bound) (s : List ℕ) : Type 0 where
   pub answer : probeAnswer job B s ≡ Answered outcome
   -- Scope 10.2: "A trial fits exactly where some division stays within its bound."
   pub exactly : (outcome ≡ Fits) ↔ SomeWithin job B
-  -- Scope 3.3: "its separators are then written"
+  -- Scope 3.8: "what it writes is then a division"; and that stays within the bound.
   pub written : outcome ≡ Fits → Partition job (front job (probeWrites job B s)) × Within job (front job (probeWrites job B s)) B
 
 -- An accepted quick plan of the job, with the list s lent.

@@ -61,8 +61,7 @@ LeavesBy number (TestJob es ws) left = left ≡ []
 LeavesBy number (ReadJob file es ws) left = left ≡ lentAfter number (speedsOf file) es ∷ lentAfter number (weightsOf file) ws ∷ []
 LeavesBy number (WriteJob es ws file) left = left ≡ lentAfter number (jobBytes (jobOf es ws)) file ∷ []
 LeavesBy number (Measure es ws s) left = left ≡ []
-LeavesBy number (Probe es ws B s) left =
-    left ≡ cond (probing.fits (jobOf es ws) B) (lentAfter number (probing.walk (jobOf es ws) B) s) s ∷ []
+LeavesBy number (Probe es ws B s) left = left ≡ lentAfter number (probing.walked (jobOf es ws) B) s ∷ []
 LeavesBy number (Heuristic es ws s) left = left ≡ lentAfter number (guessing.heuristic (jobOf es ws)) s ∷ []
 LeavesBy number (Halving es ws s) left = left ≡ lentAfter number (splitting.halving (jobOf es ws)) s ∷ []
 LeavesBy number (Plan m es ws s t) left =

@@ -3,38 +3,38 @@
 use Prim.Native.Nat.{ℕ, suc, _+_, _*_, _^_, _≤_, _<_}
 use mathlib.Core.Path.{_≡_, refl, sym, ap, subst, _∙_}
 use mathlib.Core.Bool.{true, false}
-use mathlib.Core.List.{List, [], _∷_, _++_}
+use mathlib.Core.List.{List, _++_}
 use native.Mathlib.Omega.{arith}
 use native.Mathlib.Numerals.{add-one}
-use lib.ListN.{length, set, drop}
+use lib.Dec.{T}
+use lib.ListN.{length, getD, set, drop}
 use Rattle.bound.specs.declared.Bound.{Bound}
 use Rattle.bound.specs.Order.{infinite, le, lesser, leastBelow}
 use Rattle.chain.specs.Lists.{tabulate}
 use Rattle.chain.specs.Job.{Job, Valid, tasks, processors, last, offer, at}
-use Rattle.chain.specs.Probe.{reach, separator, walk, fits, probe}
+use Rattle.chain.specs.Probe.{reach, separator, walk, walked, fits, probe}
 use Rattle.chain.proofs.Parts.{valid-proper}
 use Rattle.chain.proofs.Bottleneck.{processors-last}
 use Rattle.chain.proofs.Within.{within-is, offer-part}
-use Rattle.chain.proofs.Walk.{reach-from, reach-to, separator-to, walk-at, walk-end}
+use Rattle.chain.proofs.Walk.{reach-from, reach-to, separator-to, walk-at, walk-end, walked-walk}
 use Rattle.chain.specs.Ranges.{Small, Lendable, Narrow}
 use Rattle.chain.proofs.Ranges.{offer-small, probe-products, small-narrow, lesser-narrow, infinite-narrow}
+use Rattle.chain.proofs.Indices.{table-of}
 use Rattle.parts.proofs.Front.{Front, front-store, front-end}
 use Rattle.probe.specs.declared.Point.{Point}
 use Rattle.chain.specs.declared.Outcome.the-variants.{Fits, Fails}
 use Rattle.probe.specs.Walk.{leastBefore, Reached}
 use Rattle.probe.proofs.Bids.{least-turn, least-end}
-use Rattle.probe.proofs.Answer.{outcome-fits, outcome-fails, walk-count}
+use Rattle.probe.proofs.Answer.{outcome-fits, outcome-fails, walk-count, written-at, written-drop, written-length}
 
 -- The products of the test of the last part fit.
 pub rest-products : {job : Job} {B C : Bound} (p a b : ℕ) → Valid job → Lendable B → C ≡ offer job p a b
     → (C .load * B .speed < 2 ^ 64) × (B .load * C .speed < 2 ^ 64)
 rest-products p a b v l e = probe-products (subst Small (sym e) (offer-small v p a b)) l
 
--- A list is the table of its entries.
-tabulate-at : (l : List ℕ) → tabulate (at l) (length l) ≡ l
-unfolding tabulate
-tabulate-at [] = refl
-tabulate-at (x ∷ l) = ap (λ (m : List ℕ). x ∷ m) (tabulate-at l)
+-- No part ends past the last task.
+pub end-to : (job : Job) {b : ℕ} (p a : ℕ) (B : Bound) → b ≡ reach job p a B → a ≤ tasks job → b ≤ tasks job
+end-to job p a B e h = omega (arith, reach-to job p a B h)
 
 -- What the loop keeps: it stands at the separator of p, has the least bid of the processors below p, and has written the
 -- separators before p.
@@ -86,7 +86,7 @@ module _ {job : Job} (v : Valid job) {B : Bound} {xs ys : List ℕ} {p a : ℕ} 
   end-after e = omega (arith, reach-from job p a B)
 
   pub end-inside : {b : ℕ} → b ≡ reach job p a B → b ≤ tasks job
-  end-inside e = omega (arith, reach-to job p a B (w .inside))
+  end-inside e = end-to job p a B e (w .inside)
 
   pub walked-turn : {s b : ℕ} {D C : Bound} → p < last job → s ≡ a → b ≡ reach job p a B → D ≡ offer job p a (suc b) → C ≡ lesser best D
       → Walked job B xs (set ys p s) (p + 1) b C
@@ -124,7 +124,7 @@ module _ {job : Job} (v : Valid job) {B : Bound} {xs ys : List ℕ} {p a : ℕ} 
         (omega (arith, processors-last (valid-proper v)))
         ∙ ap (λ (i : ℕ). tabulate (at (walk job B)) i ++ drop i xs) (let x : suc (suc p) ≡ suc (processors job) = omega (arith, processors-last (valid-proper v), at-last) in x)
         ∙ ap (λ (m : List ℕ). m ++ drop (suc (processors job)) xs)
-        (ap (tabulate (at (walk job B))) (sym (walk-count v B)) ∙ tabulate-at (walk job B))
+        (table-of (walk job B) (walk-count v B))
 
     -- The last part, from where the walk stands, decides,
     module _ {start : ℕ} (x : start ≡ a) {C : Bound} (e : C ≡ offer job p start (tasks job)) where
@@ -149,3 +149,39 @@ module _ {job : Job} (v : Valid job) {B : Bound} {xs ys : List ℕ} {p a : ℕ} 
           (f ∙ ap (λ (E : Bound). lesser E C) (w .least ∙ ap (leastBefore job B) at-last) ∙ ap (lesser (leastBefore job B (last job))) rest-is
           ∙ least-end v B)
           ∙ sym (outcome-fails job B (sym fits-is ∙ t))
+
+-- The walk of a probe that fits is what it writes.
+pub fit-written : {job : Job} {ys : List ℕ} → Valid job → (B : Bound) (l : List ℕ) → T (fits job B) → ys ≡ walk job B ++ l → ys ≡ walked job B ++ l
+fit-written v B l t e = e ∙ ap (λ (zs : List ℕ). zs ++ l) (sym (walked-walk (valid-proper v) B t))
+
+-- Behind a walk that was written to ys, p being the last processor.
+module _ {job : Job} (v : Valid job) (B : Bound) (xs : List ℕ) {ys : List ℕ} (l : processors job < length xs)
+    (w : ys ≡ walk job B ++ drop (suc (processors job)) xs) {p : ℕ} (h : suc p ≡ processors job) where
+  pub walk-room : length ys ≡ length xs
+  walk-room = ap length w ∙ written-length v B xs l
+
+  entry : (k : ℕ) → k ≤ p → getD ys k 0 ≡ separator job B k
+  entry k m =
+      ap (λ (zs : List ℕ). getD zs k 0) w ∙ written-at v B (drop (suc (processors job)) xs) k (omega arith)
+      ∙ walk-at job B k (omega (arith, processors-last (valid-proper v)))
+
+  -- the last part starts where the walk has left it,
+  module _ {a : ℕ} (e : a ≡ getD ys p 0) where
+    starts : a ≡ separator job B p
+    starts = e ∙ entry p (omega arith)
+
+    pub start-inside : a ≤ tasks job
+    start-inside = omega (arith, starts, separator-to job B p)
+
+    -- and its end, stored behind it, makes what a trial writes.
+    pub reach-stored : {n : ℕ} → n ≡ reach job p a B → set ys (p + 1) n ≡ walked job B ++ drop (suc (processors job)) xs
+    unfolding separator walked
+    reach-stored {n} f =
+        ap (λ (i : ℕ). set ys i n) (add-one p)
+        ∙ front-end (front-store n front (omega (arith, walk-room)) (f ∙ ap (λ (i : ℕ). reach job p i B) starts)) (omega (arith, walk-room))
+        ∙ ap (λ (i : ℕ). tabulate (separator job B) (suc i) ++ drop (suc i) ys) h
+        ∙ ap (λ (zs : List ℕ). tabulate (separator job B) (suc (processors job)) ++ zs)
+        (ap (drop (suc (processors job))) w ∙ written-drop v B (drop (suc (processors job)) xs))
+      where
+        front : Front (separator job B) (suc p) ys ys
+        front = record { same = refl; done = λ k m. entry k (omega arith); rest = λ k m. refl }

@@ -6,7 +6,7 @@ ghost use mathlib.Core.List.{_++_};
 ghost use lib.ListN.{length, getD, drop};
 ghost use Rattle.chain.specs.Ranges.{Lendable, Narrow};
 ghost use Rattle.chain.specs.Job.{Job, jobOf, tasks, processors, offer};
-ghost use Rattle.chain.specs.Probe.{reach, walk, probe};
+ghost use Rattle.chain.specs.Probe.{reach, walk, walked, probe};
 ghost use Rattle.parts.specs.Prefix.{Ready};
 ghost use Rattle.parts.specs.Rising.{Rising, LastAtMost};
 ghost use Rattle.probe.specs.Walk.{OneMore, Reached};
@@ -189,4 +189,34 @@ pub fn probe_in(
         least: Bound::INFINITE,
     };
     walk_from(speeds, weights, sums, bound, first, separators)
+}
+
+// Inner. The same probe, which writes how far each processor gets: where it fits that is the walk, where it fails the last entry is
+// how far the last processor reaches.
+pub fn walked_in(
+    speeds: &[u32],
+    weights: &[u32],
+    sums: &[u32],
+    bound: Bound,
+    separators: &mut [u32],
+) -> Outcome
+    ghost { Job }
+    requires { λ job. ⌜ jobOf (now speeds) (now weights) ≡ job ⌝ }
+    requires { λ job. ⌜ Ready job (now sums) ⌝ }
+    requires { λ job. ⌜ Lendable bound ⌝ }
+    requires { λ job. ⌜ processors job < length (now separators) ⌝ }
+    ensures { λ job r. ⌜ r ≡ probe job bound ⌝ }
+    ensures { λ job r. ⌜ now (separators .exit) ≡ walked job bound ++ drop (suc (processors job)) (now (separators .entry)) ⌝ }
+{
+    let answer = probe_in(speeds, weights, sums, bound, separators);
+    match answer {
+        Outcome::Fits => Outcome::Fits,
+        Outcome::Fails(next) => {
+            let last = speeds.len() - 1;
+            let a = index(separators[last]);
+            let end = part_end(speeds, weights, sums, last, a, bound, a);
+            separators[last + 1] = narrow(end);
+            Outcome::Fails(next)
+        }
+    }
 }

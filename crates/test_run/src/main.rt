@@ -132,7 +132,7 @@ fn counts() {
 }
 
 fn calls_on_a() {
-    probe(15, 3, 1); // fails, next 11/3
+    probe(15, 3, 1); // fails, next 11/3, with 0 1 2
     probe(16, 11, 3); // fits
     probe(17, 23, 6); // fits
     probe(18, 3, 0); // a bound of speed 0: 10

@@ -2,7 +2,7 @@
 -- Assumes nothing.
 use native.Mathlib.Omega.{arith}
 use borrow.Author.Needs.{needs}
-use Rattle.chain.specs.Limits.{maxProcessors, maxTasks}
+use Rattle.chain.specs.Limits.{maxTasks}
 use Rattle.parts.proofs.Laws.{sums-ready, weights-fit}
 use Rattle.calls.proofs.probe_tested.Statement.{statement}
 use Rattle.calls.proofs.probe_tested.Tie as tie
@@ -14,17 +14,13 @@ prefix-sums-requires : tie.Need-prefix-sums-requires
 unfolding maxTasks
 prefix-sums-requires c κs = let s = c .before .before .before .before in (weights-fit (s .pre .0), omega (arith, s .pre .0 .tasks-limit))
 
-slice-aggregate-probe-beside : tie.Need-slice-aggregate-probe-beside
-slice-aggregate-probe-beside c = search needs
+slice-aggregate-walked-in : tie.Need-slice-aggregate-walked-in
+slice-aggregate-walked-in c = search needs
 
-slice-aggregate-probe-beside-2 : tie.Need-slice-aggregate-probe-beside-2
-slice-aggregate-probe-beside-2 c = search needs
-
-probe-beside-requires : tie.Need-probe-beside-requires
-unfolding maxProcessors
-probe-beside-requires c κs =
-    let s = c .before .before .before .before .before .before .before .before .before in
-    (sums-ready _ (s .pre .0) (c .before .before .before .before .prefix-sums .ensures), (s .pre .1 .0, (omega (arith, s .pre .0 .processors-limit), s .pre .1 .1)))
+walked-in-requires : tie.Need-walked-in-requires
+walked-in-requires c κs =
+    let s = c .before .before .before .before .before .before .before .before in
+    (sums-ready _ (s .pre .0) (c .before .before .before .prefix-sums .ensures), (s .pre .1 .0, s .pre .1 .1))
 
 same-length : tie.Need-same-length
 same-length c = search needs
@@ -35,11 +31,4 @@ returns c = search needs
 pub probe-tested-spec : {M : Type 1} → statement M
 probe-tested-spec =
     tie.close
-    (tie.spec
-    slice-aggregate-prefix-sums
-    prefix-sums-requires
-    slice-aggregate-probe-beside
-    slice-aggregate-probe-beside-2
-    probe-beside-requires
-    same-length
-    returns)
+    (tie.spec slice-aggregate-prefix-sums prefix-sums-requires slice-aggregate-walked-in walked-in-requires same-length returns)
