@@ -2,3 +2,4 @@ pub mod Demands
 pub mod Grades
 pub mod Limit
 pub mod Halvings
+pub mod Trials

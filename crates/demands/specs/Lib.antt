@@ -3,3 +3,4 @@ pub mod Demands
 pub mod Grades
 pub mod Limit
 pub mod Halvings
+pub mod Trials

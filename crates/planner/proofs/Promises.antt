@@ -185,17 +185,17 @@ module _ (job : Job) (m : ℕ) (s t : List ℕ) where
           subst (λ (g : Figures). (g .imbalance ≡ 0) ↔ ((p : ℕ) → p < processors job → boundAt job (planOf job) p ≈ ideal job))
           (sym (given e .figures)) (division-even (valid-plannable valid .proper) weighs (accepted-best .partition))
 
-    written : planWrites job m s t ≡ planOf job ++ drop (suc (processors job)) s
+    pub accepted-written : planWrites job m s t ≡ planOf job ++ drop (suc (processors job)) s
     unfolding planWrites
-    written = lent-front (planOf job) s (given e .none) (plan-length valid)
+    accepted-written = lent-front (planOf job) s (given e .none) (plan-length valid)
 
     -- The first P + 1 separators are the plan's, and those behind stay.
     pub accepted-separators : take (suc (processors job)) (planWrites job m s t) ≡ planOf job
-    accepted-separators = taken (planOf job) (drop (suc (processors job)) s) (plan-length valid) written
+    accepted-separators = taken (planOf job) (drop (suc (processors job)) s) (plan-length valid) accepted-written
 
     pub accepted-behind : drop (suc (processors job)) (planWrites job m s t) ≡ drop (suc (processors job)) s
     accepted-behind =
-        ap (drop (suc (processors job))) written
+        ap (drop (suc (processors job))) accepted-written
         ∙ drop-at (planOf job) (drop (suc (processors job)) s) (suc (processors job)) (plan-length valid)
 
 -- Any two accepted calls for a job, by whichever methods and with whichever lists, write the same separators.

@@ -1,0 +1,64 @@
+-- How far a trial gets: `trials`.
+-- Assumes nothing.
+use Prim.Native.Nat.{ℕ, suc, _≤_}
+use mathlib.Core.Path.{_≡_, sym, ap, subst, _∙_}
+use mathlib.Core.List.{List, _++_}
+use lib.ListN.{length, drop}
+use Rattle.bound.specs.declared.Bound.{Bound}
+use Rattle.chain.specs.Job.{Job, jobOf, processors, at}
+use Rattle.chain.specs.Probe.{walked, Begins, fits, probe}
+use Rattle.chain.specs.Plan.{planOf}
+use Rattle.chain.specs.Refusal.{refusal}
+use Rattle.chain.proofs.Parts.{Proper, valid-proper}
+use Rattle.chain.proofs.Tests.{T-true}
+use Rattle.chain.proofs.Walk.{walked-fits, walked-walk, walked-begins, walked-furthest}
+use Rattle.refusals.specs.Inputs.{probeInputs}
+use Rattle.refusals.proofs.Accepted.{accepted}
+use Rattle.probe.proofs.Answer.{outcome-fits, fits-outcome, fails-outcome}
+use Rattle.calls.specs.Answers.{probedOf, probeAnswer, probeWrites}
+use Rattle.calls.proofs.Promises.{probe-number, probe-front, probe-behind}
+use Rattle.planner.specs.Answers.{planWrites}
+use Rattle.planner.proofs.Promises.{plan-number, plan-accepted, accepted-written}
+use Rattle.demands.specs.Call.{Probe, Plan}
+use Rattle.demands.specs.Demands.{Accepts, front}
+use Rattle.demands.specs.Trials.{TrialLeft, Trials}
+
+-- An accepted trial,
+trial : (es ws : List ℕ) (B : Bound) (s : List ℕ) → Accepts (Probe es ws B s) → TrialLeft (jobOf es ws) B s
+unfolding probeAnswer probedOf
+trial es ws B s e =
+    record {
+      outcome = probe job B;
+      answer = ap (λ (n : ℕ). probedOf n (probe job B)) none;
+      bids = λ C f. fails-outcome job B f .1;
+      separators = left;
+      behind = probe-behind job B s none;
+      fits = (
+        λ f. ap (λ (l : List ℕ). at l (processors job)) left ∙ walked-fits ok B .0 (fits-outcome job B f),
+        λ f. outcome-fits job B (T-true (fits job B) (walked-fits ok B .1 (sym (ap (λ (l : List ℕ). at l (processors job)) left) ∙ f))),
+      );
+      division = λ f. left ∙ walked-walk ok B (fits-outcome job B f);
+      begins = λ p h. subst (Begins job B p) (sym left) (walked-begins job B p h);
+      furthest = λ p t h b. subst (λ (l : List ℕ). at t p ≤ at l p) (sym left) (walked-furthest job B p t h b);
+    }
+  where
+    job : Job
+    job = jobOf es ws
+
+    none : refusal job (probeInputs job B (length s)) ≡ 0
+    none = sym (probe-number job B s) ∙ e
+
+    ok : Proper job
+    ok = valid-proper ((accepted none) .valid)
+
+    left : front job (probeWrites job B s) ≡ walked job B
+    left = probe-front job B s none
+
+-- and an accepted plan.
+plan : (m : ℕ) (es ws s t : List ℕ) → Accepts (Plan m es ws s t)
+    → planWrites (jobOf es ws) m s t ≡ planOf (jobOf es ws) ++ drop (suc (processors (jobOf es ws))) s
+plan m es ws s t e =
+    accepted-written (jobOf es ws) m s t (plan-accepted (jobOf es ws) m s t (sym (plan-number (jobOf es ws) m s t) ∙ e) .1)
+
+pub trials : Trials
+trials = record { trial = trial; plan = plan }

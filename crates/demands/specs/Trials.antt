@@ -1,0 +1,41 @@
+-- How far a trial gets, over the answer of the call and over what it leaves; and that a plan shows nothing of its trials. Scope, section 3.
+use Prim.Native.Nat.{ℕ, suc, _≤_}
+use mathlib.Core.Path.{_≡_}
+use mathlib.Core.List.{List, _++_}
+use mathlib.Core.Logic.{_↔_}
+use lib.ListN.{drop}
+use Rattle.bound.specs.declared.Bound.{Bound}
+use Rattle.chain.specs.declared.Outcome.{Outcome}
+use Rattle.chain.specs.declared.Outcome.the-variants.{Fits, Fails}
+use Rattle.chain.specs.Job.{Job, jobOf, tasks, processors, at}
+use Rattle.chain.specs.Probe.{walk, walked, Begins, nextBid}
+use Rattle.chain.specs.Plan.{planOf}
+use Rattle.calls.specs.declared.Probed.the-variants.{Answered}
+use Rattle.calls.specs.Answers.{probeAnswer, probeWrites}
+use Rattle.planner.specs.Answers.{planWrites}
+use Rattle.demands.specs.Call.{Probe, Plan}
+use Rattle.demands.specs.Demands.{Accepts, front}
+
+-- An accepted trial of the job at the bound B, with the list s lent.
+pub record TrialLeft (job : Job) (B : Bound) (s : List ℕ) : Type 0 where
+  pub outcome : Outcome
+  pub answer : probeAnswer job B s ≡ Answered outcome
+  -- Scope 3.4: "it answers with the least next bid"
+  pub bids : (C : Bound) → outcome ≡ Fails C → C ≡ nextBid job B
+  -- Scope 3.7: "Whether it fits or fails, a trial writes s0 = 0 to s(P−1) and, as sP, the greatest index .. that the last machine reaches"
+  pub separators : front job (probeWrites job B s) ≡ walked job B
+  -- Scope 8.5: "Entries behind those that a call needs stay."
+  pub behind : drop (suc (processors job)) (probeWrites job B s) ≡ drop (suc (processors job)) s
+  -- Scope 3.8: "It fits exactly where sP is N; what it writes is then a division, the one of 3.1 and 3.2."
+  pub fits : (outcome ≡ Fits) ↔ (at (front job (probeWrites job B s)) (processors job) ≡ tasks job)
+  pub division : outcome ≡ Fits → front job (probeWrites job B s) ≡ walk job B
+  -- Scope 3.9: "However tiles are given from the first on, in order and within the bound, the first p machines get no further than sp."
+  -- What is written is one such way.
+  pub begins : (p : ℕ) → p ≤ processors job → Begins job B p (front job (probeWrites job B s))
+  pub furthest : (p : ℕ) (t : List ℕ) → p ≤ processors job → Begins job B p t → at t p ≤ at (front job (probeWrites job B s)) p
+
+pub record Trials : Type 0 where
+  pub trial : (es ws : List ℕ) (B : Bound) (s : List ℕ) → Accepts (Probe es ws B s) → TrialLeft (jobOf es ws) B s
+  -- Scope 3.10: "a plan leaves its own P + 1 separators, and behind them the entries that were there"
+  pub plan : (m : ℕ) (es ws s t : List ℕ) → Accepts (Plan m es ws s t)
+      → planWrites (jobOf es ws) m s t ≡ planOf (jobOf es ws) ++ drop (suc (processors (jobOf es ws))) s
