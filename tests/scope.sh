@@ -2,8 +2,9 @@
 # Every quote in a comment of crates/ stands in docs/SCOPE.md: behind 'Scope 3.4:' in that sentence, behind 'Refusal 7:' in that row of
 # the table, else anywhere on the page. ' .. ' in a quote leaves words out. The page's worked jobs have the figures of their listings in
 # examples/, which are those that the program writes (tests/strips.sh) and that the prover computes (crates/listing/proofs/Examples.antt);
-# so have README.md, docs/strips.1, docs/WHY.md (the imbalance of A, the plan of D) and examples/README.md (bottlenecks and imbalances). The bytes
-# that docs/FORMATS.md shows are those of the example files.
+# so have README.md, docs/strips.1, docs/WHY.md (the imbalance of A, the plan of D) and examples/README.md (bottlenecks and imbalances).
+# Its trials that fail are rows of crates/chain/specs/Marked.antt; docs/WHY.md has that of B. The bytes that docs/FORMATS.md shows are those
+# of the example files.
 set -eu
 cd "$(dirname "$0")/.."
 find crates -name '*.antt' -o -name '*.rt' | grep -v /declared/ | LC_ALL=C sort | xargs awk '
@@ -71,6 +72,8 @@ row() {
         END { print n, p, total " | " s " | " bottleneck " | " imbalance " | " counts " | " allowances " |" }' "$1"
 }
 failed=0
+work=$(mktemp)
+trap 'rm -f "$work"' EXIT
 for job in A B C D E; do
     said=$(awk -v job="$job" -F ' *[|] *' '/^## / { inside = /^## 11 / } inside && $2 == job {
         n = $3 == "none" ? 0 : split($3, w, " "); for (i = 1; i <= n; i++) total += w[i]
@@ -96,6 +99,29 @@ for text in examples/*.txt; do
 done
 same docs/WHY.md "$(tr '\n' ' ' <docs/WHY.md | sed -n 's/.*our plan is \([0-9 ]*\), and [0-9 ]* and [0-9 ]* are best as well.*/\1/p')" \
     "$(awk 'NR == 2 { print $7, $8, $9 }' examples/D.txt)"
+# The trials of section 11 that fail are rows of the table that the prover computes; so is the one that WHY.md tells of job B.
+trials=$(awk '/^## / { inside = /^## 11 / }
+    inside && /^[0-9]+\. (A trial of [A-E]|Of weights [0-9 ]+ on one machine of speed [0-9]+ a trial) at [0-9]+\/[0-9]+ fails with next bid / {
+        job = "job" $5; list = $0
+        sub(/.* and writes /, "", list); sub(/[^0-9 ].*/, "", list)
+        if ($2 == "Of") {
+            speed = $0; sub(/.*of speed /, "", speed); sub(/ .*/, "", speed)
+            weights = $0; sub(/.*Of weights /, "", weights); sub(/ on .*/, "", weights)
+            gsub(/ /, " ∷ ", weights)
+            job = "(jobOf (" speed " ∷ []) (" weights " ∷ []))"
+        }
+        at = $0; sub(/ fails .*/, "", at); sub(/.* at /, "", at); sub(/\//, " ", at)
+        next_bid = $0; sub(/.*next bid /, "", next_bid); sub(/ .*/, "", next_bid); sub(/\//, " ", next_bid)
+        gsub(/ /, " ∷ ", list)
+        print "failsWith " job " (over " at ") (over " next_bid ") (" list " ∷ [])"
+    }' docs/SCOPE.md)
+[ "$(printf '%s\n' "$trials" | grep -c failsWith)" = 4 ] || { echo "docs/SCOPE.md, section 11: four trials that fail are looked for"; failed=1; }
+printf '%s\n' "$trials" >"$work"
+while read -r trial; do
+    grep -qF "$trial" crates/chain/specs/Marked.antt || { echo "crates/chain/specs/Marked.antt: no row '$trial'"; failed=1; }
+done <"$work"
+told=$(tr '\n' ' ' <docs/WHY.md | sed -n 's/.*Job B has tiles of \([0-9 ]*\) on machines of speed 1 and 2\. At the bound \([0-9]*\)\/\([0-9]*\), .* The trial fails and writes \([0-9 ]*\)\. .*The next bid, here \([0-9]*\)\/\([0-9]*\), .*At \([0-9]*\/[0-9]*\) this one does, with \([0-9 ]*\)\..*/\1|failsWith jobB (over \2 \3) (over \5 \6) (\4)|\7 \8/p')
+same docs/WHY.md "$told" "$(awk -F ' *[|] *' '$2 == "B" { print $3; exit }' docs/SCOPE.md)|$(grep 'failsWith jobB' "$work" | sed 's/ ∷ \[\]//; s/ ∷ / /g')|$(awk 'NR == 2 { print $4 "/" $5, $7, $8, $9 }' examples/B.txt)"
 # The bytes that FORMATS.md shows of job A and of its plan, one dump behind the other.
 shown() { awk -v which="$1" '/^    [0-9a-f]+  [0-9a-f][0-9a-f] / { if ($1 == "00000000") dump++
     if (dump == which) for (i = 2; i <= NF && $i ~ /^[0-9a-f][0-9a-f]$/; i++) printf "%s ", $i }' docs/FORMATS.md; }
@@ -111,4 +137,4 @@ for job in A B C D E; do
     fi
 done
 [ "$failed" = 0 ] || { echo "tests/scope.sh: FAILED"; exit 1; }
-echo "tests/scope.sh: the worked jobs have the figures of their listings, in docs/SCOPE.md, README.md, docs/strips.1, examples/README.md and the computed examples"
+echo "tests/scope.sh: the worked jobs have the figures of their listings, in docs/SCOPE.md, README.md, docs/strips.1, examples/README.md and the computed examples; the trials those of the computed rows"

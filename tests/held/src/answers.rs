@@ -2,7 +2,7 @@
 
 use crate::job::{self, Job};
 use crate::limits::{self, BOUND_LOAD, BOUND_SPEED, MACHINES, SPEED, TILES, WEIGHT};
-use crate::methods::{self, Search, Tried};
+use crate::methods::{self, Search};
 use crate::planner::Call;
 use crate::slow::{self, Bound};
 use crate::{damage, fast, grading, halving, listing};
@@ -26,11 +26,20 @@ pub struct Solved {
     pub search: Search,
 }
 
+/// The plan's division and its bottleneck: of tiny jobs by every division, of others by the fast reference.
+pub fn best(job: &Job) -> (Vec<usize>, Bound) {
+    if damage::is_tiny(job) {
+        slow::solve(job)
+    } else {
+        fast::solve(job)
+    }
+}
+
 impl Solved {
     /// Tiny jobs by every division, by the table itself and by each j in turn, others by the fast reference.
     pub fn of(job: &Job) -> Solved {
         let tiny = damage::is_tiny(job);
-        let (best, bottleneck) = if tiny { slow::solve(job) } else { fast::solve(job) };
+        let (best, bottleneck) = best(job);
         let moves = if tiny { methods::moves_by_table(job) } else { methods::moves_by_walks(job) };
         let search = if tiny { methods::search_in_turn(job) } else { methods::search_by_sums(job) };
         let counts = [moves, methods::bids(job), methods::halvings(job), search.trials];
@@ -108,7 +117,7 @@ fn host(method: u32, given: &[&[u8]], solved: Option<&Solved>) -> Result<Vec<Aft
     let best = match solved {
         Some(s) if s.job == job => &s.best,
         _ => {
-            own = if damage::is_tiny(&job) { slow::solve(&job).0 } else { fast::solve(&job).0 };
+            own = best(&job).0;
             &own
         }
     };
@@ -176,11 +185,9 @@ fn tried(job: &Job, load: u64, speed: u64, given: &[&[u8]]) -> Result<Vec<After>
     if load > BOUND_LOAD || speed == 0 || speed > BOUND_SPEED {
         return Err(10);
     }
-    let stays = After::default;
-    Ok(match methods::trial(job, (load as u128, speed as u128)) {
-        Tried::Fits(division) => vec![stays(), stays(), front(&division), answer(given[3], &[1])],
-        Tried::Next(next) => vec![stays(), stays(), stays(), answer(given[3], &[0, next.0, next.1])],
-    })
+    let found = methods::trial(job, (load as u128, speed as u128));
+    let said = found.next.map_or(vec![1], |next| vec![0, next.0, next.1]);
+    Ok(vec![After::default(), After::default(), front(&found.separators), answer(given[3], &said)])
 }
 
 fn divided(call: Call, job: &Job, separators: &[u32], given: &[&[u8]]) -> Result<Vec<After>, u32> {

@@ -26,6 +26,9 @@ pub struct Check {
     /// How often each call gave each number.
     seen: [[u64; OTHER + 1]; KINDS.len()],
     pub fits: u64,
+    /// Of trials that failed: how often the last of several machines reached none of what was left, and some; the only machine some; and how
+    /// often the last share ended with a tile of weight 0, was just the bound, and left one tile.
+    pub failed: [u64; 6],
     /// How often a search ended early, and had its least candidate on the first machine, on one between, on the last.
     pub searches: [u64; 4],
     /// How many plans had nothing to weigh, met the ideal, were above it by less than a thousandth of it, and by as much or more.
@@ -125,6 +128,7 @@ impl Check {
             part: "",
             seen: [[0; OTHER + 1]; KINDS.len()],
             fits: 0,
+            failed: [0; 6],
             searches: [0; 4],
             noughts: [0; 4],
             grades: [[0; 2]; 2],

@@ -4,12 +4,12 @@ use crate::answers::{bytes_of, Solved};
 use crate::check::Check;
 use crate::damage::is_tiny;
 use crate::job::Job;
-use crate::limits::{job_bytes, plan_bytes, work_numbers, BOUND_LOAD, BOUND_SPEED};
-use crate::methods::{self, Tried};
+use crate::limits::{job_bytes, plan_bytes, work_numbers};
 use crate::planner::Call;
 use crate::rng::Rng;
 use crate::slow::{self, less, Bound};
-use crate::{grades, halving};
+use crate::trials::{self, Case};
+use crate::{grades, halving, methods};
 
 fn around(r: &mut Rng, exact: usize) -> Vec<usize> {
     let mut list = vec![0, exact.saturating_sub(1), exact, exact + 1, exact + 2 + r.below(9)];
@@ -50,7 +50,7 @@ pub fn read_into(c: &mut Check, file: &[u8], speeds: usize, weights: usize) {
 }
 
 /// A list of separators: the first entries given, cut or followed by anything.
-fn with_length(r: &mut Rng, list: &[u32], len: usize) -> Vec<u8> {
+pub fn with_length(r: &mut Rng, list: &[u32], len: usize) -> Vec<u8> {
     let mut bytes = bytes_of(list);
     bytes.truncate(4 * len);
     let more = 4 * len - bytes.len();
@@ -111,76 +111,19 @@ fn measures(c: &mut Check, s: &Solved, e: &[u8], w: &[u8], thorough: bool) {
     }
 }
 
-/// The next bid of the trial at the ideal, which is bidding's second bound, or the ideal where it fits.
-fn second_bound(job: &Job) -> Bound {
-    let ideal = methods::ideal(job);
-    match methods::trial(job, ideal) {
-        Tried::Fits(_) => ideal,
-        Tried::Next(next) => next,
-    }
-}
-
-/// A bound to try: nought, the ideal, its next bid, the quick plan's, the best, of a share, next to one of them, or anything, now
-/// and then out of range.
-fn bound(r: &mut Rng, s: &Solved) -> (u64, u64) {
-    let (p, n) = (s.job.speeds.len(), s.job.weights.len());
-    let (a, b) = (r.below(n + 1), r.below(n + 1));
-    let share: Bound = (s.job.weight(a.min(b), a.max(b)), s.job.speeds[r.below(p)] as u128);
-    let near = match r.below(9) {
-        0 => (0, 1),
-        1 => methods::ideal(&s.job),
-        2 => second_bound(&s.job),
-        3 => slow::bottleneck(&s.job, &s.quick),
-        4 | 5 => s.bottleneck,
-        _ => share,
-    };
-    // The same bound in other numbers, or as little off as they allow.
-    let times = 1 + r.below(100_000) as u128;
-    let off = r.range(0, 2) as u128;
-    let near = match r.below(3) {
-        0 => near,
-        1 => (near.0 * times, near.1 * times),
-        _ => ((near.0 * times + off).saturating_sub(1), near.1 * times),
-    };
-    let near = (near.0.min(BOUND_LOAD as u128) as u64, near.1.min(BOUND_SPEED as u128) as u64);
-    match r.below(24) {
-        0 => (r.pick(&[0, 1, BOUND_LOAD]), r.pick(&[1, BOUND_SPEED])),
-        1 => (r.pick(&[BOUND_LOAD + 1, u64::MAX, 1 << 63]), near.1),
-        2 => (near.0, r.pick(&[0, BOUND_SPEED + 1, 1 << 32, u64::MAX])),
-        3 => (r.next() % (BOUND_LOAD + 1), 1 + r.next() % BOUND_SPEED),
-        _ => near,
-    }
-}
-
-/// The trial that the test expects must itself fit exactly when the best division stays within the bound, and its next bid must
-/// lie above the bound and not above the best.
-fn sound(c: &mut Check, s: &Solved, bound: Bound) {
-    let good = match methods::trial(&s.job, bound) {
-        Tried::Fits(_) => {
-            c.fits += 1;
-            !less(bound, s.bottleneck)
-        }
-        Tried::Next(next) => less(bound, s.bottleneck) && less(bound, next) && !less(s.bottleneck, next),
-    };
-    if !good {
-        c.fail(&format!("the solver's own trial at {:?} is wrong", bound), format!("  {:?}", s.job));
-    }
-}
-
-fn trials(c: &mut Check, s: &Solved, e: &[u8], w: &[u8], thorough: bool) {
-    let p = s.job.speeds.len();
-    for l in lengths(&mut c.rng, &[p + 1, 3], thorough) {
+fn trials(c: &mut Check, s: &Solved, t: &Case, thorough: bool) {
+    for l in lengths(&mut c.rng, &[s.job.speeds.len() + 1, 3], thorough) {
         for _ in 0..2 {
-            let (load, speed) = bound(&mut c.rng, s);
-            if speed != 0 && load <= BOUND_LOAD {
-                sound(c, s, (load as u128, speed as u128));
-            }
-            let (lent, answer) = (c.rng.pattern(4 * l[0]), c.rng.pattern(8 * l[1]));
-            c.judge(Call::Trial { load, speed }, &[e, w, &lent, &answer], Some(s));
+            let bound = trials::bound(&mut c.rng, s);
+            let lent = trials::some_list(&mut c.rng, t, bound, l[0]);
+            trials::one(c, t, bound, &lent, l[1]);
         }
     }
-    for l in lengths(&mut c.rng, &[p + 1, 2], thorough) {
-        let (lent, answer) = (c.rng.pattern(4 * l[0]), c.rng.pattern(8 * l[1]));
+}
+
+fn quick(c: &mut Check, s: &Solved, t: &Case, e: &[u8], w: &[u8], thorough: bool) {
+    for l in lengths(&mut c.rng, &[s.job.speeds.len() + 1, 2], thorough) {
+        let (lent, answer) = (trials::list_for_plan(&mut c.rng, t, l[0]), c.rng.pattern(8 * l[1]));
         c.judge(Call::Quick, &[e, w, &lent, &answer], Some(s));
     }
 }
@@ -254,14 +197,15 @@ fn searched(c: &mut Check, s: &Solved) {
     c.searches[which] += 1;
 }
 
-fn plans(c: &mut Check, s: &Solved, e: &[u8], w: &[u8], thorough: bool) {
+fn plans(c: &mut Check, s: &Solved, t: &Case, e: &[u8], w: &[u8], thorough: bool) {
     let (p, n) = (s.job.speeds.len(), s.job.weights.len());
     for method in 1..=4 {
         if s.counts[method as usize - 1] > methods::allowance(&s.job, method) {
             c.fail("the solver's own count is above the allowance", format!("  {:?}", s));
         }
         for l in lengths(&mut c.rng, &[p + 1, work_numbers(n), 5], thorough) {
-            let (lent, work, answer) = (c.rng.pattern(4 * l[0]), c.rng.pattern(4 * l[1]), c.rng.pattern(8 * l[2]));
+            let lent = trials::list_for_plan(&mut c.rng, t, l[0]);
+            let (work, answer) = (c.rng.pattern(4 * l[1]), c.rng.pattern(8 * l[2]));
             c.judge(Call::Plan { method }, &[e, w, &lent, &work, &answer], Some(s));
         }
     }
@@ -283,9 +227,11 @@ pub fn job(c: &mut Check, s: &Solved, thorough: bool) {
     c.accepted(&s.job, &s.best);
     files(c, s, &e, &w, thorough);
     measures(c, s, &e, &w, thorough);
-    trials(c, s, &e, &w, thorough);
+    let t = Case::with(&s.job, (s.best.clone(), s.bottleneck));
+    trials(c, s, &t, thorough);
+    quick(c, s, &t, &e, &w, thorough);
     halve(c, &s.job, &s.quick, s.bottleneck, thorough);
-    plans(c, s, &e, &w, thorough);
+    plans(c, s, &t, &e, &w, thorough);
     grading(c, s, &e, &w);
 }
 

@@ -10,7 +10,7 @@ use crate::job::{self, Job};
 use crate::limits::{job_bytes, plan_bytes, work_numbers, BOUND_LOAD, BOUND_SPEED, JOB_INTAKE, LISTING, LONGEST_JOB};
 use crate::limits::{LONGEST_HALVED, MACHINES, SPEED, TILES, WEIGHT};
 use crate::listing;
-use crate::methods::{self, Tried};
+use crate::methods;
 use crate::planner::{self, At, Call, Slot};
 use crate::slow::{self, less, Bound};
 
@@ -106,6 +106,65 @@ impl Lists<'_> {
 
     fn is_trial(&self) -> bool {
         matches!(self.call, Call::Trial { .. })
+    }
+
+    /// The bound of a trial, brought into the range of a lent one.
+    fn bound(&self) -> Option<Bound> {
+        let Call::Trial { load, speed } = self.call else { return None };
+        Some((load.min(BOUND_LOAD) as u128, speed.clamp(1, BOUND_SPEED) as u128))
+    }
+
+    /// Spoils what a trial that fits, or one that fails, wrote into its P + 1 entries, by what the list held before.
+    fn tried(&self, fits: bool, spoil: impl FnOnce(&Job, Bound, &[u32], &mut [u32])) -> u32 {
+        let Some(bound) = self.bound() else { return self.real() };
+        let before = self.words(Slot::Separators).to_vec();
+        self.then(true, |job| {
+            if methods::trial(job, bound).fits() == fits {
+                spoil(job, bound, &before, &mut self.words(Slot::Separators)[..job.speeds.len() + 1]);
+            }
+        })
+    }
+
+    fn failed(&self, spoil: impl FnOnce(&Job, Bound, &[u32], &mut [u32])) -> u32 {
+        self.tried(false, spoil)
+    }
+
+    /// Of a trial that fails another end of the last share, by where that begins and ends.
+    fn reach(&self, other: impl FnOnce(&Job, Bound, usize, usize) -> usize) -> u32 {
+        self.failed(|job, bound, _, s| {
+            let k = s.len() - 1;
+            s[k] = other(job, bound, s[k - 1] as usize, s[k] as usize) as u32;
+        })
+    }
+
+    /// Of a trial that fails the last share one tile shorter, of these jobs.
+    fn reach_less(&self, like: impl FnOnce(&Job) -> bool) -> u32 {
+        self.reach(|job, _, start, end| if like(job) && end > start { end - 1 } else { end })
+    }
+
+    /// A trial whose separators, whether it fits or fails, are made of its own and of what the list held, where that looks like a trial's.
+    fn trusting(&self, made: fn(u32, u32) -> u32) -> u32 {
+        let spoil = |job: &Job, _: Bound, before: &[u32], s: &mut [u32]| {
+            let old = &before[..s.len()];
+            if old[0] == 0 && old.windows(2).all(|v| v[0] <= v[1]) && (1..=job.weights.len() as u32).contains(&old[s.len() - 1]) {
+                s.iter_mut().zip(old).for_each(|(s, &old)| *s = made(*s, old));
+            }
+        };
+        match self.bound() {
+            Some(bound) if self.numbers().is_empty() => self.tried(methods::trial(&self.job(), bound).fits(), spoil),
+            _ => self.real(),
+        }
+    }
+
+    /// A trial that is refused with this number and writes the walk all the same, as far as there is room.
+    fn refused_walk(&self, number: u32) -> u32 {
+        let code = self.real();
+        if let Some(bound) = self.bound().filter(|_| code == number) {
+            let job = Job::new(self.words(Slot::Speeds), self.words(Slot::Weights));
+            let walk = if job.speeds.is_empty() { vec![0] } else { methods::trial(&job, bound).separators };
+            put(self.words(Slot::Separators), &walk);
+        }
+        code
     }
 
     /// Spoils a listing, which has so many bytes.
@@ -452,11 +511,62 @@ fn all_bids(job: &Job, bound: Bound) -> Vec<Bound> {
 
 /// Puts another bid of the failed trial into the answer.
 fn rebid(l: Lists, choose: fn(&[Bound], Bound) -> Bound) -> u32 {
-    let Call::Trial { load, speed } = l.call else { return l.real() };
-    l.pair(true, 1, |job, found| match methods::trial(job, (load as u128, speed as u128)) {
-        Tried::Next(_) => choose(&all_bids(job, (load as u128, speed as u128)), found),
-        Tried::Fits(_) => found,
+    let Some(bound) = l.bound() else { return l.real() };
+    l.pair(true, 1, |job, found| if methods::trial(job, bound).fits() { found } else { choose(&all_bids(job, bound), found) })
+}
+
+/// The same where the last machine bids its share with the next tile added, as the others do.
+fn rebid_next_tile(l: Lists) -> u32 {
+    let Some(bound) = l.bound() else { return l.real() };
+    l.pair(true, 1, |job, found| {
+        let (start, end) = methods::trial(job, bound).last();
+        if end == job.weights.len() {
+            return found;
+        }
+        let mut bids = all_bids(job, bound);
+        bids.pop();
+        bids.push((job.weight(start, end + 1), job.speeds[job.speeds.len() - 1] as u128));
+        least_of(&bids).unwrap()
     })
+}
+
+/// The greatest index, from a start on, up to which the tiles from another place on are within a bound at a speed.
+fn reached(job: &Job, start: usize, from: usize, speed: u32, bound: Bound) -> usize {
+    (start..=job.weights.len()).rev().find(|&to| from >= to || !less(bound, (job.weight(from, to), speed as u128))).unwrap_or(start)
+}
+
+/// The separators of the trial as little below the bottleneck as makes it fail; None where nothing weighs.
+fn failing(job: &Job) -> Option<Vec<usize>> {
+    let (load, speed) = best_bound(job);
+    (load > 0).then(|| methods::trial(job, ((load << 40) - 1, speed << 40)).separators)
+}
+
+/// A plan that leaves the separators of a trial that fails.
+fn left_failing(job: &Job, s: &mut [u32]) {
+    if let Some(walk) = failing(job) {
+        put(s, &walk);
+    }
+}
+
+/// The same in a listing of so many bytes, in the line of the table.
+fn relist_failing(l: &Lists, bytes: usize) {
+    let Some(walk) = job::read(l.bytes(Slot::File), 1, usize::MAX).ok().and_then(|job| failing(&job)) else { return };
+    let text = &mut l.bytes(Slot::Text)[..bytes];
+    let ends: Vec<usize> = text.iter().enumerate().filter(|(_, b)| **b == b'\n').map(|(k, _)| k).collect();
+    let words: Vec<String> = walk.iter().map(|s| format!(" {}", s)).collect();
+    let line = &mut text[ends[0] + 1..ends[1]];
+    let spaces: Vec<usize> = line.iter().enumerate().filter(|(_, b)| **b == b' ').map(|(k, _)| k).collect();
+    let old = &mut line[spaces[5]..];
+    if old.len() == words.concat().len() {
+        old.copy_from_slice(words.concat().as_bytes());
+    }
+}
+
+/// Puts separators into a list, as far as it goes.
+fn put(to: &mut [u32], from: &[usize]) {
+    for (to, from) in to.iter_mut().zip(from) {
+        *to = *from as u32;
+    }
 }
 
 /// Another quick plan: its separators, with their bottleneck.
@@ -474,9 +584,7 @@ fn requick(l: Lists, nearer: fn(i128, i128) -> bool) -> u32 {
         }
         s.push(job.weights.len());
         let found = slow::bottleneck(job, &s);
-        for (to, from) in l.words(Slot::Separators).iter_mut().zip(&s) {
-            *to = *from as u32;
-        }
+        put(l.words(Slot::Separators), &s);
         for (to, from) in l.answer().iter_mut().zip([found.0, found.1]) {
             *to = from as u64;
         }
@@ -488,9 +596,7 @@ fn rehalve(l: Lists, other: impl FnOnce(&Job) -> Vec<usize>) -> u32 {
     l.then(l.call == Call::Halving, |job| {
         let s = other(job);
         let found = slow::bottleneck(job, &s);
-        for (to, from) in l.words(Slot::Separators).iter_mut().zip(&s) {
-            *to = *from as u32;
-        }
+        put(l.words(Slot::Separators), &s);
         for (to, from) in l.answer().iter_mut().zip([found.0, found.1]) {
             *to = from as u64;
         }
@@ -555,11 +661,8 @@ fn crossing_only(job: &Job) -> Bound {
 
 /// The separators of the walk at a bound.
 fn rewalk(job: &Job, s: &mut [u32], bound: Option<Bound>) {
-    let Some(bound) = bound else { return };
-    if let Tried::Fits(d) = methods::trial(job, bound) {
-        for (to, from) in s.iter_mut().zip(d) {
-            *to = from as u32;
-        }
+    if let Some(found) = bound.map(|b| methods::trial(job, b)).filter(|found| found.fits()) {
+        put(s, &found.separators);
     }
 }
 
@@ -570,7 +673,7 @@ fn least_of(bounds: &[Bound]) -> Option<Bound> {
 /// The least candidate of a search in which each machine keeps tile j too.
 fn keeping_j(job: &Job) -> Option<Bound> {
     let tiles = job.weights.len();
-    let fits = |b: &Bound| matches!(methods::trial(job, *b), Tried::Fits(_));
+    let fits = |b: &Bound| methods::trial(job, *b).fits();
     let (mut start, mut list) = (0, Vec::new());
     for &e in &job.speeds {
         let share = |j: usize| (job.weight(start, j), e as u128);
@@ -635,14 +738,22 @@ const FAULTS: &[(&str, &str, Run)] = &[
     ("plan-tie", "a share stopped before tiles of weight 0", |l| l.inner(l.is_plans(), |j, s| for k in 1..s.len() - 1 { if s[k] > s[k - 1] && j.weights[s[k] as usize - 1] == 0 { s[k] -= 1 } })),
     ("plan-many", "one separator wrong, by bisection, with more than three quarters of the most machines", |l| l.inner(l.is_plan(3), |_, s| { let k = s.len() - 2; if k > MANY && s[k] > s[k - 1] { s[k] -= 1 } })),
     ("plan-seldom", "one separator wrong once in 50,000 plans", |l| l.inner(l.is_plans(), |_, s| if s.len() > 2 && s[1] > 0 && seldom(50_000) { s[1] -= 1 })),
-    ("plan-quick", "the quick plan for bidding", |l| l.inner(l.is_plan(2), |j, s| for (to, from) in s.iter_mut().zip(methods::quick(j)) { *to = from as u32 })),
-    ("plan-whole", "a bound rounded up to a whole number", |l| l.inner(l.is_plans(), |j, s| { let b = slow::bottleneck(j, &s.iter().map(|&x| x as usize).collect::<Vec<_>>()); if let Tried::Fits(d) = methods::trial(j, (b.0.div_ceil(b.1), 1)) { for (to, from) in s.iter_mut().zip(d) { *to = from as u32 } } })),
-    ("plan-crossing", "the table looking only at the crossing", |l| l.inner(l.is_plan(1) && l.at[1].1 < 200, |j, s| if let Tried::Fits(d) = methods::trial(j, crossing_only(j)) { for (to, from) in s.iter_mut().zip(d) { *to = from as u32 } })),
+    ("plan-quick", "the quick plan for bidding", |l| l.inner(l.is_plan(2), |j, s| put(s, &methods::quick(j)))),
+    ("plan-whole", "a bound rounded up to a whole number", |l| l.inner(l.is_plans(), |j, s| { let b = slow::bottleneck(j, &s.iter().map(|&x| x as usize).collect::<Vec<_>>()); rewalk(j, s, Some((b.0.div_ceil(b.1), 1))) })),
+    ("plan-crossing", "the table looking only at the crossing", |l| l.inner(l.is_plan(1) && l.at[1].1 < 200, |j, s| rewalk(j, s, Some(crossing_only(j))))),
     ("plan-nicol-first", "Nicol's search: the walk at the first candidate", |l| l.inner(l.is_plan(4), |j, s| rewalk(j, s, methods::search_by_sums(j).candidates.first().copied()))),
     ("plan-nicol-last", "Nicol's search: the last candidate left out", |l| l.inner(l.is_plan(4), |j, s| rewalk(j, s, methods::search_by_sums(j).candidates.split_last().and_then(|(_, list)| least_of(list))))),
     ("plan-nicol-keeps", "Nicol's search: each machine keeps tile j too", |l| l.inner(l.is_plan(4) && l.at[1].1 < 200, |j, s| rewalk(j, s, keeping_j(j)))),
     ("plan-endless", "bisection without end for three machines of speed 3", |l| { while l.is_plan(3) && l.words(Slot::Speeds) == [3, 3, 3] {} l.real() }),
     ("plan-nothing", "no separators written", |l| { let before = l.words(Slot::Separators).to_vec(); l.then(l.is_plans(), |_| l.words(Slot::Separators).copy_from_slice(&before)) }),
+    ("plan-failed-table", "table: the separators of a trial that fails left", |l| l.inner(l.is_plan(1), left_failing)),
+    ("plan-failed-bidding", "bidding: the separators of a trial that fails left", |l| l.inner(l.is_plan(2), left_failing)),
+    ("plan-failed-bisection", "bisection: the separators of a trial that fails left", |l| l.inner(l.is_plan(3), left_failing)),
+    ("plan-failed-nicol", "Nicol's search: the separators of a trial that fails left", |l| l.inner(l.is_plan(4), left_failing)),
+    ("plan-failed-later", "plan: a trial written behind the plan's separators", |l| l.then(l.is_plans(), |j| if let Some(walk) = failing(j) { put(&mut l.words(Slot::Separators)[walk.len()..], &walk) })),
+    ("plan-failed-refused", "plan: a trial written where the work numbers are too few", |l| { let code = l.real(); if l.is_plans() && code == 9 && l.at[2].1 > l.at[0].1 { left_failing(&l.job(), l.words(Slot::Separators)) } code }),
+    ("plan-trusts", "bidding: one trial counted where the list held the plan", |l| { let before = l.words(Slot::Separators).to_vec(); l.figure(l.is_plan(2), 0, |j, v| if before[..j.speeds.len() + 1] == l.words(Slot::Separators)[..j.speeds.len() + 1] { 1 } else { v }) }),
+    ("host-failed", "C call: the separators of a trial that fails left", |l| l.inner(l.is_host(), left_failing)),
     ("host-separator", "C call: a separator one too small", |l| l.inner(l.is_host(), |_, s| if s.len() > 2 && s[1] > 0 { s[1] -= 1 })),
     ("host-tie", "C call: a share stopped before tiles of weight 0", |l| l.inner(l.is_host(), |j, s| for k in 1..s.len() - 1 { if s[k] > s[k - 1] && j.weights[s[k] as usize - 1] == 0 { s[k] -= 1 } })),
     ("host-many", "C call: a separator wrong with the most machines only", |l| l.inner(l.is_host(), |_, s| { let k = s.len() - 2; if k + 1 == MACHINES && s[k] > s[k - 1] { s[k] -= 1 } })),
@@ -776,6 +887,7 @@ const FAULTS: &[(&str, &str, Run)] = &[
     ("list-space", "listing: two spaces in the place of the first digit and its space", |l| l.listed(|l, _| if let Some(k) = l.bytes(Slot::Text).iter().position(|&b| b == b' ') { l.bytes(Slot::Text)[k + 1] = b' ' })),
     ("list-count", "listing: a byte too many counted", |l| l.listed(|l, _| if let Some(v) = l.answer().first_mut() { *v += 1 })),
     ("list-fourth", "listing: the fourth line numbered 3", |l| l.listed(|l, n| { let text = l.bytes(Slot::Text); if let Some(k) = text[..n - 1].iter().rposition(|&b| b == b'\n') { text[k + 1] = b'3' } })),
+    ("list-failed", "listing: the separators of a trial that fails in the first line of a plan, where they are as long", |l| l.listed(relist_failing)),
     ("list-intake-less", "listing: a record too little taken in", |l| if l.call == Call::List && l.at[0].1 > LONGEST_JOB { let mut f = l.bytes(Slot::File).to_vec(); f.truncate(LONGEST_JOB); l.with(Slot::File, &mut f) } else { l.real() }),
     ("list-intake-more", "listing: a record too many taken in", |l| l.judged_by(JOB_INTAKE + 8)),
     ("list-intake-byte", "listing: a byte too many taken in", |l| l.judged_by(JOB_INTAKE + 1)),
@@ -788,13 +900,61 @@ const FAULTS: &[(&str, &str, Run)] = &[
     ("measure-reduced", "measuring: the pair reduced", |l| l.pair(l.call == Call::Measure, 0, |_, b| reduced(b))),
     ("trial-lax", "trial: fits at a bound that is one below", |l| match l.call { Call::Trial { load, speed } if load < BOUND_LOAD => l.other(Call::Trial { load: load + 1, speed }), _ => l.real() }),
     ("trial-strict", "trial: a share equal to the bound is too much", |l| match l.call { Call::Trial { load, speed } if (1..=BOUND_LOAD).contains(&load) && (1..=BOUND_SPEED).contains(&speed) => l.other(Call::Trial { load: load - 1, speed }), _ => l.real() }),
-    ("trial-writes", "trial: separators written by a trial that fails", |l| l.then(l.is_trial(), |_| if l.answer().first() == Some(&0) { l.words(Slot::Separators)[0] ^= 1 })),
-    ("trial-silent", "trial: no separators written by a fit", |l| { let before = l.words(Slot::Separators).to_vec(); l.then(l.is_trial(), |_| l.words(Slot::Separators).copy_from_slice(&before)) }),
+    ("trial-silent", "trial: no separators written by a fit", |l| l.tried(true, |_, _, before, s| s.copy_from_slice(&before[..s.len()]))),
+    ("trial-fit-short", "trial: the last share of a fit stopped before tiles of weight 0", |l| l.tried(true, |j, _, _, s| while let [.., start, end] = s { if *end == *start || j.weights[*end as usize - 1] > 0 { break } *end -= 1 })),
+    ("trial-fit-zeros", "trial: a fit whose last share ends with a tile of weight 0 said to fail", |l| { let Some(b) = l.bound() else { return l.real() }; l.figure(true, 0, |j, v| { let (start, end) = methods::trial(j, b).last(); if end > start && j.weights[end - 1] == 0 { 0 } else { v } }) }),
     ("trial-fails", "trial: fails always", |l| l.figure(l.is_trial(), 0, |_, _| 0)),
     ("trial-next-last", "trial: a tie of next bids to the highest machine", |l| rebid(l, |bids, b| bids.iter().copied().filter(|&x| !less(b, x)).last().unwrap_or(b))),
     ("trial-next-greatest", "trial: the greatest next bid", |l| rebid(l, |bids, b| bids.iter().copied().fold(b, |a, x| if less(a, x) { x } else { a }))),
     ("trial-next-rest", "trial: the last machine does not bid", |l| rebid(l, |bids, b| bids[..bids.len() - 1].iter().copied().reduce(|a, x| if less(x, a) { x } else { a }).unwrap_or(b))),
     ("trial-next-reduced", "trial: the next bid reduced", |l| rebid(l, |_, b| reduced(b))),
+    ("trial-next-tile", "trial: the last machine bids its share with the next tile added", rebid_next_tile),
+    // What a trial that fails writes.
+    ("trial-failed-silent", "trial: nothing written by a failure", |l| l.failed(|_, _, before, s| s.copy_from_slice(&before[..s.len()]))),
+    ("trial-failed-nought", "trial: 0 throughout written by a failure", |l| l.failed(|_, _, _, s| s.fill(0))),
+    ("trial-failed-end", "trial: N written last by a failure", |l| l.reach(|j, _, _, _| j.weights.len())),
+    ("trial-failed-last", "trial: only the last entry written by a failure", |l| l.failed(|_, _, before, s| { let k = s.len() - 1; s[..k].copy_from_slice(&before[..k]) })),
+    ("trial-failed-but-last", "trial: the last entry not written by a failure", |l| l.failed(|_, _, before, s| { let k = s.len() - 1; s[k] = before[k] })),
+    ("trial-failed-first", "trial: s0 not written by a failure", |l| l.failed(|_, _, before, s| s[0] = before[0])),
+    ("trial-failed-inner", "trial: only s0 and sP written by a failure", |l| l.failed(|_, _, before, s| { let k = s.len() - 1; s[1..k].copy_from_slice(&before[1..k]) })),
+    ("trial-failed-next", "trial: the walk at the next bid written by a failure", |l| l.failed(|j, b, _, s| put(s, &methods::trial(j, methods::trial(j, b).next.unwrap()).separators))),
+    ("trial-failed-plan", "trial: the plan written by a failure", |l| l.failed(|j, _, _, s| put(s, &answers::best(j).0))),
+    ("trial-failed-far", "trial: sP written into the last entry of a longer list by a failure", |l| l.failed(|_, _, before, s| { let k = s.len() - 1; let end = std::mem::replace(&mut s[k], before[k]); *l.words(Slot::Separators).last_mut().unwrap() = end })),
+    ("trial-failed-later", "trial: the entry after the separators changed by a failure", |l| l.failed(|j, _, _, s| if let Some(v) = l.words(Slot::Separators).get_mut(s.len()) { *v = j.weights.len() as u32 })),
+    ("trial-failed-past", "trial: written past the list by a failure", |l| l.failed(|_, _, _, _| if let Some((at, n)) = l.place(Slot::Separators) { unsafe { *at.wrapping_add(4 * n) ^= 1 } })),
+    ("trial-failed-input", "trial: a weight changed by a failure", |l| l.failed(|_, _, _, _| if let Some(v) = l.words(Slot::Weights).last_mut() { *v ^= 1 })),
+    // How far the last machine of a trial that fails reaches.
+    ("trial-reach-nothing", "trial: of what is left the last machine reaches nothing or all", |l| l.reach(|_, _, start, _| start)),
+    ("trial-reach-less", "trial: the last machine reaches one tile less", |l| l.reach_less(|_| true)),
+    ("trial-reach-more", "trial: the last machine reaches one tile more", |l| l.reach(|_, _, _, end| end + 1)),
+    ("trial-reach-before", "trial: the last share counted from s(P-2)", |l| l.failed(|j, b, _, s| if let [.., from, start, end] = s { *end = reached(j, *start as usize, *from as usize, *j.speeds.last().unwrap(), b) as u32 })),
+    ("trial-reach-whole", "trial: the last share counted from the first tile", |l| l.reach(|j, b, start, _| reached(j, start, 0, *j.speeds.last().unwrap(), b))),
+    ("trial-reach-next", "trial: the last share counted from s(P-1) + 1", |l| l.reach(|j, b, start, _| reached(j, start, start + 1, *j.speeds.last().unwrap(), b))),
+    ("trial-reach-speed-before", "trial: the last machine reaches by the speed of the one before", |l| l.reach(|j, b, start, _| reached(j, start, start, j.speeds[j.speeds.len().saturating_sub(2)], b))),
+    ("trial-reach-speed-first", "trial: the last machine reaches by the speed of the first", |l| l.reach(|j, b, start, _| reached(j, start, start, j.speeds[0], b))),
+    ("trial-reach-zeros", "trial: the last share stopped before tiles of weight 0", |l| l.reach(|j, _, start, end| (start..end).rev().find(|&i| j.weights[i] > 0).map_or(start, |i| i + 1))),
+    ("trial-reach-strict", "trial: a last share equal to the bound is too much", |l| l.reach(|j, b, start, _| (start..=j.weights.len()).rev().find(|&to| less((j.weight(start, to), *j.speeds.last().unwrap() as u128), b)).unwrap_or(start))),
+    ("trial-reach-whole-numbers", "trial: the last machine reaches by the bound rounded down", |l| l.reach(|j, b, start, _| reached(j, start, start, *j.speeds.last().unwrap(), (b.0 / b.1, 1)))),
+    ("trial-reach-30-bits", "trial: what the last machine can carry in 30 bits", |l| l.reach(|j, b, start, _| reached(j, start, start, 1, (b.0 * *j.speeds.last().unwrap() as u128 / b.1 % (1 << 30), 1)))),
+    ("trial-reach-64", "trial: the last machine reaches one tile less, where it reaches just 64", |l| l.reach(|_, _, start, end| if end - start == 64 { end - 1 } else { end })),
+    ("trial-reach-left", "trial: the last machine reaches one tile less, where just 33 are left", |l| l.reach(|j, _, start, end| if j.weights.len() - start == 33 && end > start { end - 1 } else { end })),
+    ("trial-reach-alone", "trial: N written last by a failure of one machine", |l| l.reach(|j, _, _, end| if j.speeds.len() == 1 { j.weights.len() } else { end })),
+    ("trial-reach-machines", "trial: the last machine reaches one tile less, with the most machines only", |l| l.reach_less(|j| j.speeds.len() == MACHINES)),
+    ("trial-reach-tiles", "trial: the last machine reaches one tile less, with more than 2,000 tiles only", |l| l.reach_less(|j| j.weights.len() > 2_000)),
+    ("trial-reach-seldom", "trial: the last machine reaches one tile less, once in 5,000 failures", |l| l.reach_less(|_| seldom(5_000))),
+    // A trial by what its list held.
+    ("trial-trusts-lower", "trial: no share ends before where the list had its end", |l| l.trusting(|s, old| s.max(old))),
+    ("trial-trusts-upper", "trial: no share ends behind where the list had its end", |l| l.trusting(|s, old| s.min(old))),
+    ("trial-trusts-last", "trial: a last entry kept that is no lesser than sP and below N", |l| l.failed(|j, _, before, s| { let k = s.len() - 1; if (s[k]..j.weights.len() as u32).contains(&before[k]) { s[k] = before[k] } })),
+    ("trial-trusts-same", "trial: the last entry kept where the others are as they were", |l| l.failed(|_, _, before, s| { let k = s.len() - 1; if s[..k] == before[..k] { s[k] = before[k] } })),
+    ("trial-trusts-answer", "trial: a fit said where the list ended with N", |l| { let last = l.words(Slot::Separators).get(l.at[0].1).copied(); l.figure(l.is_trial(), 0, |j, v| if last == Some(j.weights.len() as u32) { 1 } else { v }) }),
+    // A trial that is refused.
+    ("trial-refused-5", "trial: the walk written with 5", |l| l.refused_walk(5)),
+    ("trial-refused-6", "trial: the walk written with 6", |l| l.refused_walk(6)),
+    ("trial-refused-7", "trial: the walk written with 7", |l| l.refused_walk(7)),
+    ("trial-refused-8", "trial: the walk written with 8", |l| l.refused_walk(8)),
+    ("trial-refused-9", "trial: as much of the walk as there is room written with 9", |l| l.refused_walk(9)),
+    ("trial-refused-10", "trial: the walk at the nearest bound in range written with 10", |l| l.refused_walk(10)),
     ("quick-tie", "quick plan: the greatest of the nearest indices", |l| requick(l, |new, old| new.abs() <= old.abs())),
     ("quick-below", "quick plan: the last index below the target, not the nearest", |l| requick(l, |new, _| new <= 0)),
     ("quick-best", "quick plan: the bottleneck of the best plan", |l| l.pair(l.call == Call::Quick, 0, |j, _| best_bound(j))),

@@ -6,9 +6,11 @@ use crate::check::Check;
 use crate::damage::is_tiny;
 use crate::job::{self, machine, tile, Job, Record};
 use crate::limits::{BOUND_LOAD, BOUND_SPEED, LISTING, LONGEST_HALVED, LONGEST_PLAN, MACHINES, PLAN_INTAKE, SPEED, TILES, TOO_MANY, WEIGHT};
+use crate::methods::{self, Trial};
 use crate::planner::Call;
 use crate::slow::{self, Bound};
-use crate::{every, fast, halving, methods};
+use crate::trials::{self, Case};
+use crate::{every, fast, halving};
 
 /// A job with all that is known of it, of each method count and allowance.
 struct Known {
@@ -122,12 +124,19 @@ fn halved(c: &mut Check, row: &Row) {
 
 /// The planner must give these separators and this bottleneck, in lists that are longer.
 fn halved_as(c: &mut Check, job: &Job, separators: &[u32], (load, speed): (u64, u64)) {
-    let (e, w) = (bytes_of(&job.speeds), bytes_of(&job.weights));
-    let list = |front: Vec<u8>| After { front, free: 0 };
-    let answer = [load.to_le_bytes(), speed.to_le_bytes()].concat();
-    let wanted = Ok(vec![After::default(), After::default(), list(bytes_of(separators)), list(answer)]);
-    let (lent, said) = (c.rng.pattern(4 * separators.len() + 12), c.rng.pattern(8 * 3));
-    c.ask(Call::Halving, &[&e, &w, &lent, &said], &wanted);
+    let lent = c.rng.pattern(4 * separators.len() + 12);
+    on_lists(c, job, Call::Halving, &lent, Ok((separators, &[load, speed])));
+}
+
+/// A call on lists must leave these separators and say these numbers, or be refused.
+fn on_lists(c: &mut Check, job: &Job, call: Call, lent: &[u8], wanted: Result<(&[u32], &[u64]), u32>) {
+    let (e, w, answer) = (bytes_of(&job.speeds), bytes_of(&job.weights), c.rng.pattern(8 * 4));
+    let wanted = wanted.map(|(separators, numbers)| {
+        let said = numbers.iter().flat_map(|n| n.to_le_bytes()).collect();
+        let list = |front: Vec<u8>| After { front, free: 0 };
+        vec![After::default(), After::default(), list(bytes_of(separators)), list(said)]
+    });
+    c.ask(call, &[&e, &w, lent, &answer], &wanted);
 }
 
 /// The rows as the scope writes them, and what it says of I and J beside them; then 16.10, and the longest row at the limits.
@@ -197,26 +206,92 @@ fn marked(c: &mut Check, k: &Known) {
     }
 }
 
-/// Number, separators and answer of a call on job A, as the document writes them.
-fn on_a(c: &mut Check, call: Call, separators: [u32; 3], wanted: Result<([u32; 3], &[u64]), u32>) {
-    let (e, w, s) = (bytes_of(&[1, 3]), bytes_of(&[1, 3, 8]), bytes_of(&separators));
-    let answer = [0xEE; 24];
-    let wanted = wanted.map(|(after, numbers)| {
-        let said: Vec<u8> = numbers.iter().flat_map(|n| n.to_le_bytes()).collect();
-        let list = |front: Vec<u8>| After { front, free: 0 };
-        vec![After::default(), After::default(), list(bytes_of(&after)), list(said)]
-    });
-    c.ask(call, &[&e, &w, &s, &answer], &wanted);
+/// The quick plan of A, and two measurings.
+fn lines_of_a(c: &mut Check) {
+    let a = Job::new(JOBS[0].speeds, JOBS[0].weights);
+    on_lists(c, &a, Call::Quick, &bytes_of(&[9, 8, 7]), Ok((&[0, 2, 3], &[4, 1])));
+    on_lists(c, &a, Call::Measure, &bytes_of(&[0, 3, 3]), Ok((&[0, 3, 3], &[12, 1])));
+    on_lists(c, &a, Call::Measure, &bytes_of(&[0, 2, 2]), Err(11));
 }
 
-fn lines_of_a(c: &mut Check) {
-    let lent = [9, 8, 7];
-    on_a(c, Call::Trial { load: 3, speed: 1 }, lent, Ok((lent, &[0, 11, 3])));
-    on_a(c, Call::Trial { load: 11, speed: 3 }, lent, Ok(([0, 1, 3], &[1])));
-    on_a(c, Call::Trial { load: 23, speed: 6 }, lent, Ok(([0, 1, 3], &[1])));
-    on_a(c, Call::Quick, lent, Ok(([0, 2, 3], &[4, 1])));
-    on_a(c, Call::Measure, [0, 3, 3], Ok(([0, 3, 3], &[12, 1])));
-    on_a(c, Call::Measure, [0, 2, 2], Err(11));
+/// A trial: where it fails, its next bid.
+struct Tried {
+    name: &'static str,
+    weights: &'static [u32],
+    speeds: &'static [u32],
+    bound: (u64, u64),
+    next: Option<(u64, u64)>,
+    separators: &'static [u32],
+}
+
+/// The trials of the scope, those that fail with the words that it begins with.
+#[rustfmt::skip]
+const TRIALS: [Tried; 6] = [
+    Tried { name: "A trial of A", weights: JOBS[0].weights, speeds: JOBS[0].speeds, bound: (3, 1), next: Some((11, 3)), separators: &[0, 1, 2] },
+    Tried { name: "A", weights: JOBS[0].weights, speeds: JOBS[0].speeds, bound: (11, 3), next: None, separators: &[0, 1, 3] },
+    Tried { name: "A", weights: JOBS[0].weights, speeds: JOBS[0].speeds, bound: (23, 6), next: None, separators: &[0, 1, 3] },
+    Tried { name: "A trial of B", weights: JOBS[1].weights, speeds: JOBS[1].speeds, bound: (4, 1), next: Some((12, 2)), separators: &[0, 1, 3] },
+    Tried { name: "A trial of E", weights: JOBS[4].weights, speeds: JOBS[4].speeds, bound: (5, 1), next: Some((6, 1)), separators: &[0, 0, 0] },
+    Tried { name: "Of weights 2 0 3 on one machine of speed 1 a trial", weights: &[2, 0, 3], speeds: &[1], bound: (2, 1), next: Some((5, 1)), separators: &[0, 2] },
+];
+
+/// Worked by hand.
+#[rustfmt::skip]
+const MORE_TRIALS: [Tried; 14] = [
+    Tried { name: "nought", weights: JOBS[1].weights, speeds: JOBS[1].speeds, bound: (0, 1), next: Some((4, 1)), separators: &[0, 0, 0] },
+    Tried { name: "no tiles", weights: &[], speeds: &[7, 2], bound: (0, 1), next: None, separators: &[0, 0, 0] },
+    Tried { name: "none reached, 0 in front of it and behind", weights: &[0, 5, 0, 0, 7, 0], speeds: &[1, 1], bound: (5, 1), next: Some((7, 1)), separators: &[0, 4, 4] },
+    Tried { name: "some reached, a machine without a tile", weights: &[3, 0, 2, 4, 0], speeds: &[1, 2, 1], bound: (2, 1), next: Some((5, 2)), separators: &[0, 0, 2, 3] },
+    Tried { name: "0 taken along by the last", weights: &[2, 2, 0, 0, 9], speeds: &[1, 1], bound: (2, 1), next: Some((4, 1)), separators: &[0, 1, 4] },
+    Tried { name: "0 at the end not reached", weights: &[1, 1, 1, 0], speeds: &[1, 1], bound: (1, 1), next: Some((2, 1)), separators: &[0, 1, 2] },
+    Tried { name: "the last alone reaches any", weights: &[5, 1, 1, 9, 1], speeds: &[1, 1, 10], bound: (1, 1), next: Some((17, 10)), separators: &[0, 0, 0, 3] },
+    Tried { name: "between two bids of the last", weights: &[1, 2, 2, 2], speeds: &[2, 3], bound: (4, 3), next: Some((3, 2)), separators: &[0, 1, 3] },
+    Tried { name: "one machine, none reached", weights: &[3], speeds: &[2], bound: (1, 1), next: Some((3, 2)), separators: &[0, 0] },
+    Tried { name: "one machine, 0 reached", weights: &[0, 0, 4, 1], speeds: &[1], bound: (0, 1), next: Some((5, 1)), separators: &[0, 2] },
+    Tried { name: "the most and heaviest tiles, shares of just the bound", weights: &[WEIGHT; TILES], speeds: &[SPEED; 2], bound: (BOUND_LOAD, BOUND_SPEED), next: Some((1_001_000_000, 10_000)), separators: &[0, 1000, 2000] },
+    Tried { name: "the same, as little below it as can be", weights: &[WEIGHT; TILES], speeds: &[SPEED; 2], bound: (BOUND_LOAD - 1, BOUND_SPEED), next: Some((1_000_000_000, 10_000)), separators: &[0, 999, 1998] },
+    Tried { name: "a last share of more than 30 bits", weights: &[WEIGHT; TILES], speeds: &[1, SPEED], bound: (150_000, 1), next: Some((2_048_000_000, 10_000)), separators: &[0, 0, 1500] },
+    Tried { name: "the greatest bound", weights: &[WEIGHT; TILES], speeds: &[1, 1], bound: (BOUND_LOAD, 1), next: None, separators: &[0, 2048, 2048] },
+];
+
+/// The solver must give what is known of a trial, then the planner, whatever the list held.
+fn tried(c: &mut Check, k: &Tried) {
+    let job = Job::new(k.speeds, k.weights);
+    let bound = (k.bound.0 as u128, k.bound.1 as u128);
+    let separators: Vec<usize> = k.separators.iter().map(|&s| s as usize).collect();
+    let found = methods::trial(&job, bound);
+    let mut good = found == Trial { separators, next: k.next.map(|(load, speed)| (load as u128, speed as u128)) };
+    good &= !is_tiny(&job) || slow::furthest(&job, bound) == found.separators;
+    if !good {
+        c.fail(&format!("the solver gives {:?} for trial {}", found, k.name), String::new());
+    }
+    let said = k.next.map_or(vec![1], |(load, speed)| vec![0, load, speed]);
+    let lent = c.rng.pattern(4 * k.separators.len() + 12);
+    for len in [k.separators.len(), k.separators.len() + 3] {
+        on_lists(c, &job, Call::Trial { load: k.bound.0, speed: k.bound.1 }, &lent[..4 * len], Ok((k.separators, &said)));
+    }
+    trials::refilled(c, &Case::of(&job), bound);
+}
+
+/// The trials as the scope writes them, those worked by hand, and the longest row with the most and heaviest tiles, each machine with none
+/// and with one.
+fn all_tried(c: &mut Check) {
+    for k in TRIALS.iter().chain(&MORE_TRIALS) {
+        tried(c, k);
+    }
+    for k in &TRIALS {
+        if let Some((load, speed)) = k.next {
+            let (at, over) = k.bound;
+            in_scope(c, &format!("{} at {}/{} fails with next bid {}/{} and writes {}", k.name, at, over, load, speed, text(k.separators)));
+        }
+    }
+    let [(a, b), (d, e)] = [TRIALS[1].bound, TRIALS[2].bound];
+    in_scope(c, &format!("; at {}/{} it fits; at {}/{} it fits with {}.", a, b, d, e, text(TRIALS[2].separators)));
+    let job = Job::new(&[1; MACHINES], &[WEIGHT; TILES]);
+    let (weight, lent) = (WEIGHT as u64, c.rng.pattern(4 * (MACHINES + 1)));
+    let ones: Vec<u32> = (0..=MACHINES as u32).collect();
+    on_lists(c, &job, Call::Trial { load: weight - 1, speed: 1 }, &lent, Ok((&[0; MACHINES + 1], &[0, weight, 1])));
+    on_lists(c, &job, Call::Trial { load: weight, speed: 1 }, &lent, Ok((&ones, &[0, 2 * weight, 1])));
 }
 
 pub fn run(c: &mut Check) {
@@ -224,6 +299,7 @@ pub fn run(c: &mut Check) {
         marked(c, k);
     }
     lines_of_a(c);
+    all_tried(c);
     rows(c);
     files_of_a_and_d(c);
     sentences(c);

@@ -12,16 +12,25 @@ fn one(c: &mut Check, job: &Job) {
     every::job(c, &Solved::of(job), false);
 }
 
-/// A middle-sized job of any style.
-pub fn middle(c: &mut Check) {
-    let (machines, tiles) = (1 + c.rng.below(24), c.rng.below(120));
-    sized(c, machines, tiles);
+/// A middle size, of machines and of tiles.
+pub fn middle_size(r: &mut Rng) -> (usize, usize) {
+    (1 + r.below(24), r.below(120))
 }
 
 /// Any size up to the limits, often the limits themselves.
+pub fn some_size(r: &mut Rng) -> (usize, usize) {
+    let machines = if r.once_in(3) { MACHINES } else { 1 + r.below(MACHINES) };
+    let tiles = if r.once_in(3) { TILES } else { r.below(TILES + 1) };
+    (machines, tiles)
+}
+
+pub fn middle(c: &mut Check) {
+    let (machines, tiles) = middle_size(&mut c.rng);
+    sized(c, machines, tiles);
+}
+
 pub fn any_size(c: &mut Check) {
-    let machines = if c.rng.once_in(3) { MACHINES } else { 1 + c.rng.below(MACHINES) };
-    let tiles = if c.rng.once_in(3) { TILES } else { c.rng.below(TILES + 1) };
+    let (machines, tiles) = some_size(&mut c.rng);
     sized(c, machines, tiles);
 }
 

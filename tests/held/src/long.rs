@@ -3,7 +3,7 @@
 use std::time::{Duration, Instant};
 
 use crate::check::Check;
-use crate::{damage, large, small};
+use crate::{damage, large, small, trials};
 
 /// Seconds as h:mm:ss.
 fn clock(t: Duration) -> String {
@@ -22,6 +22,8 @@ pub fn run(c: &mut Check, count: u64) {
             30..=199 => damage::one(c),
             200..=204 => large::row(c),
             205..=299 => small::random_row(c),
+            300..=302 => trials::middle(c),
+            303..=349 => trials::random(c),
             _ => small::random(c),
         }
         if shown.elapsed() >= Duration::from_secs(1) || k + 1 == count {

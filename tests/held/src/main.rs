@@ -27,6 +27,7 @@ mod refusals;
 mod rng;
 mod slow;
 mod small;
+mod trials;
 
 use std::time::Instant;
 
@@ -46,7 +47,7 @@ fn number(name: &str, otherwise: u64) -> u64 {
 fn whole(c: &mut Check) {
     let times = number("HELD_TIMES", 1) as usize;
     let talk = number("HELD_TALK", 0) != 0;
-    let parts: [(&'static str, &dyn Fn(&mut Check)); 9] = [
+    let parts: [(&'static str, &dyn Fn(&mut Check)); 10] = [
         ("known jobs", &known::run),
         ("refusals", &refusals::run),
         ("counts", &counts::run),
@@ -54,6 +55,7 @@ fn whole(c: &mut Check) {
         ("damaged files", &|c| damage::run(c, times)),
         ("listings", &|c| listing::run(c, times)),
         ("plan files", &|c| grades::run(c, times)),
+        ("trials", &|c| trials::run(c, times)),
         ("small jobs", &|c| small::run(c, times)),
         ("large jobs", &|c| large::run(c, times)),
     ];
@@ -69,13 +71,14 @@ fn whole(c: &mut Check) {
     // A run in which some answer never came up would be no test of it.
     let unseen = c.unseen();
     let mut never = c.searches.contains(&0) || c.noughts.contains(&0) || c.others.contains(&0);
-    never |= c.splits.contains(&0) || c.halved.contains(&0);
-    let mut seen = format!("{} fits, searches {:?}, plans at and off the ideal {:?}", c.fits, c.searches, c.noughts);
+    never |= c.splits.contains(&0) || c.halved.contains(&0) || c.fits == 0 || c.failed.contains(&0);
+    let mut seen = format!("{} fits, failed trials {:?}, searches {:?}", c.fits, c.failed, c.searches);
+    seen += &format!(", plans at and off the ideal {:?}", c.noughts);
     seen += &format!(", best plans of other separators {:?}, splits {:?}, halved rows {:?}", c.others, c.splits, c.halved);
     if talk {
         eprintln!("{}", seen);
     }
-    if !unseen.is_empty() || c.fits == 0 || never {
+    if !unseen.is_empty() || never {
         c.fail(&format!("answers never seen: {:?}; {}", unseen, seen), String::new());
     }
 }

@@ -3,47 +3,60 @@
 use crate::job::Job;
 use crate::slow::{self, less, Bound};
 
-/// What a trial says: the division that it wrote, or the least next bid.
+/// What a trial comes to: the P + 1 separators that it writes, whether it fits or fails, and where it fails the least next bid.
 #[derive(Clone, Debug, PartialEq)]
-pub enum Tried {
-    Fits(Vec<usize>),
-    Next(Bound),
+pub struct Trial {
+    pub separators: Vec<usize>,
+    pub next: Option<Bound>,
 }
 
-/// A trial: each machine but the last takes tiles up to the greatest index whose share is within the bound.
-pub fn trial(job: &Job, bound: Bound) -> Tried {
+impl Trial {
+    pub fn fits(&self) -> bool {
+        self.next.is_none()
+    }
+
+    /// Where the last share begins, and how far the last machine reaches.
+    pub fn last(&self) -> (usize, usize) {
+        let machines = self.separators.len() - 1;
+        (self.separators[machines - 1], self.separators[machines])
+    }
+}
+
+/// A trial: each machine takes tiles up to the greatest index whose share is within the bound. Each before the last bids its share with
+/// the next tile added; the last bids all that is left, and where that is within the bound the trial fits.
+pub fn trial(job: &Job, bound: Bound) -> Trial {
     let tiles = job.weights.len();
     let mut separators = vec![0];
     let mut least: Option<Bound> = None;
     let mut at = 0;
     for (p, &speed) in job.speeds.iter().enumerate() {
-        let speed = speed as u128;
-        let mut share = (0, speed);
-        let mut more = at;
-        let is_last = p + 1 == job.speeds.len();
+        let (start, mut share) = (at, (0, speed as u128));
         // A share only grows, so the first index that is too much ends the search.
-        while more < tiles {
-            let longer = (share.0 + job.weights[more] as u128, speed);
-            if !is_last && less(bound, longer) {
+        while at < tiles {
+            let longer = (share.0 + job.weights[at] as u128, share.1);
+            if less(bound, longer) {
                 break;
             }
             share = longer;
-            more += 1;
+            at += 1;
         }
-        if is_last && !less(bound, share) {
-            separators.push(tiles);
-            return Tried::Fits(separators);
-        }
-        if more < tiles || is_last {
-            let bid = if is_last { share } else { (share.0 + job.weights[more] as u128, speed) };
-            if least.map_or(true, |l| less(bid, l)) {
-                least = Some(bid);
+        separators.push(at);
+        let bid = if p + 1 == job.speeds.len() {
+            let left = (job.weight(start, tiles), share.1);
+            if !less(bound, left) {
+                return Trial { separators, next: None };
             }
+            left
+        } else if at < tiles {
+            (share.0 + job.weights[at] as u128, share.1)
+        } else {
+            continue;
+        };
+        if least.map_or(true, |l| less(bid, l)) {
+            least = Some(bid);
         }
-        separators.push(more);
-        at = more;
     }
-    Tried::Next(least.unwrap())
+    Trial { separators, next: least }
 }
 
 /// The quick plan: the smallest index whose W(1,s) is nearest to the machine's target, among all indices.
@@ -76,27 +89,26 @@ pub fn ideal(job: &Job) -> Bound {
 /// Bidding's trials.
 pub fn bids(job: &Job) -> u64 {
     let mut bound = ideal(job);
-    let mut trials = 0;
-    loop {
+    let mut trials = 1;
+    while let Some(next) = trial(job, bound).next {
         trials += 1;
-        match trial(job, bound) {
-            Tried::Fits(_) => return trials,
-            Tried::Next(next) => bound = next,
-        }
+        bound = next;
     }
+    trials
 }
 
 /// Bisection's trials.
 pub fn halvings(job: &Job) -> u64 {
-    let Tried::Next(mut low) = trial(job, ideal(job)) else { return 1 };
+    let Some(mut low) = trial(job, ideal(job)).next else { return 1 };
     let mut high = slow::bottleneck(job, &quick(job));
     let mut trials = 1;
     while less(low, high) || less(high, low) {
         trials += 1;
         let half = (low.0 * high.1 + high.0 * low.1, 2 * low.1 * high.1);
-        match trial(job, half) {
-            Tried::Fits(division) => high = slow::bottleneck(job, &division),
-            Tried::Next(next) => low = next,
+        let tried = trial(job, half);
+        match tried.next {
+            None => high = slow::bottleneck(job, &tried.separators),
+            Some(next) => low = next,
         }
     }
     trials
@@ -200,7 +212,7 @@ pub fn search_in_turn(job: &Job) -> Search {
     let mut start = 0;
     for &e in others {
         let share = |j: usize| (job.weight(start, j), e as u128);
-        let fits = |j: usize| matches!(trial(job, share(j)), Tried::Fits(_));
+        let fits = |j: usize| trial(job, share(j)).fits();
         let Some(j) = (start..=tiles).find(|&j| fits(j)) else { panic!("all that remains does not fit for {:?}", job) };
         let (met, trials) = halve(start, tiles, fits);
         assert_eq!(met, j, "the halving finds another j for {:?}", job);

@@ -37,6 +37,21 @@ pub fn every_division(separators: &mut Vec<usize>, machines: usize, tiles: usize
     }
 }
 
+/// How far the first machines get within a bound, for none of them, for one, and so on, however tiles are given from the first on and in
+/// order: each machine is tried with every share, from wherever those before it can stop.
+pub fn furthest(job: &Job, bound: Bound) -> Vec<usize> {
+    let tiles = job.weights.len();
+    // Of each index whether the machines so far can stop there.
+    let mut stops: Vec<bool> = (0..=tiles).map(|i| i == 0).collect();
+    let mut list = vec![0];
+    for &e in &job.speeds {
+        let within = |j: usize, i: usize| !less(bound, (job.weight(j, i), e as u128));
+        stops = (0..=tiles).map(|i| (0..=i).any(|j| stops[j] && within(j, i))).collect();
+        list.push(stops.iter().rposition(|&is| is).unwrap());
+    }
+    list
+}
+
 /// The best division whose every separator is furthest, and its bottleneck.
 pub fn solve(job: &Job) -> (Vec<usize>, Bound) {
     let mut best: Vec<Vec<usize>> = Vec::new();

@@ -60,13 +60,13 @@ pub fn weights(r: &mut Rng, tiles: usize, speeds: &[u32]) -> Vec<u32> {
 }
 
 /// Every job with up to 5 tiles and up to 3 machines of small numbers.
-fn every(c: &mut Check) {
+pub fn every_job(visit: &mut dyn FnMut(&Job)) {
     for (tiles, machines, heaviest, fastest) in
         [(0, 3, 0, 3), (1, 3, 5, 4), (2, 3, 5, 3), (3, 3, 4, 3), (4, 3, 2, 3), (5, 2, 3, 2), (5, 3, 2, 2), (6, 2, 2, 2), (3, 4, 2, 2)]
     {
         for m in 1..=machines {
             every_list(m, 1, fastest, &mut |s| {
-                every_list(tiles, 0, heaviest, &mut |w| both(c, &Job::new(s, w)));
+                every_list(tiles, 0, heaviest, &mut |w| visit(&Job::new(s, w)));
             });
         }
     }
@@ -155,7 +155,7 @@ pub fn neighbours(r: &mut Rng, tiles: usize) -> Job {
 }
 
 /// So many weights with a given sum.
-fn pieces(r: &mut Rng, sum: u32, tiles: usize) -> Vec<u32> {
+pub fn pieces(r: &mut Rng, sum: u32, tiles: usize) -> Vec<u32> {
     let mut left = sum;
     let mut list = Vec::new();
     for k in (0..tiles as u32).rev() {
@@ -168,29 +168,38 @@ fn pieces(r: &mut Rng, sum: u32, tiles: usize) -> Vec<u32> {
 }
 
 /// Bounds as near as they can be, perhaps with a third machine before or after that has a tile of its own.
-pub fn near(c: &mut Check) {
-    let sides = 1 + c.rng.below(3);
-    let mut job = neighbours(&mut c.rng, sides);
-    if c.rng.once_in(2) {
-        let (e, w) = (c.rng.range(1, SPEED), c.rng.range(0, WEIGHT));
-        let (p, i) = c.rng.pick(&[(0, 0), (2, job.weights.len())]);
+pub fn near_job(r: &mut Rng) -> Job {
+    let sides = 1 + r.below(3);
+    let mut job = neighbours(r, sides);
+    if r.once_in(2) {
+        let (e, w) = (r.range(1, SPEED), r.range(0, WEIGHT));
+        let (p, i) = r.pick(&[(0, 0), (2, job.weights.len())]);
         job.speeds.insert(p, e);
         job.weights.insert(i, w);
     }
+    job
+}
+
+pub fn near(c: &mut Check) {
+    let job = near_job(&mut c.rng);
     both(c, &job);
 }
 
 /// Any small job.
+pub fn random_job(r: &mut Rng) -> Job {
+    let (machines, tiles) = (1 + r.below(4), r.below(9));
+    let speeds = speeds(r, machines);
+    let weights = weights(r, tiles, &speeds);
+    Job { speeds, weights }
+}
+
 pub fn random(c: &mut Check) {
-    let machines = 1 + c.rng.below(4);
-    let tiles = c.rng.below(9);
-    let speeds = speeds(&mut c.rng, machines);
-    let weights = weights(&mut c.rng, tiles, &speeds);
-    both(c, &Job { speeds, weights });
+    let job = random_job(&mut c.rng);
+    both(c, &job);
 }
 
 pub fn run(c: &mut Check, times: usize) {
-    every(c);
+    every_job(&mut |job| both(c, job));
     every_row(c);
     for _ in 0..10_000 * times {
         random_row(c);

@@ -1,0 +1,400 @@
+//! Trials, section 3 of the scope: at any bound, next to every bid, in turn from bid to bid, with a last machine that reaches none, some or
+//! all of what is left, and in lists that held anything before.
+
+use crate::answers::{self, bytes_of, Solved};
+use crate::check::Check;
+use crate::damage::is_tiny;
+use crate::job::Job;
+use crate::limits::{BOUND_LOAD, BOUND_SPEED, MACHINES, SPEED, TILES, WEIGHT};
+use crate::methods::{self, Trial};
+use crate::planner::Call;
+use crate::rng::Rng;
+use crate::slow::{self, less, Bound};
+use crate::{every, large, small};
+
+/// A job to be tried, its lists as a call takes them, its best division and the bottleneck of that.
+pub struct Case {
+    job: Job,
+    speeds: Vec<u8>,
+    weights: Vec<u8>,
+    best: Vec<usize>,
+    bottleneck: Bound,
+}
+
+impl Case {
+    pub fn of(job: &Job) -> Case {
+        Case::with(job, answers::best(job))
+    }
+
+    pub fn with(job: &Job, (best, bottleneck): (Vec<usize>, Bound)) -> Case {
+        Case { job: job.clone(), speeds: bytes_of(&job.speeds), weights: bytes_of(&job.weights), best, bottleneck }
+    }
+
+    /// The separators that are needed.
+    fn entries(&self) -> usize {
+        self.job.speeds.len() + 1
+    }
+}
+
+fn can_lend((load, speed): Bound) -> bool {
+    load <= BOUND_LOAD as u128 && (1..=BOUND_SPEED as u128).contains(&speed)
+}
+
+/// As little below a bound as a lent one can be, and as little above it. There is none below nought.
+fn below(bound: Bound) -> Option<Bound> {
+    let (load, speed) = in_great_numbers(bound);
+    (load > 0).then(|| (load - 1, speed))
+}
+
+fn above(bound: Bound) -> Bound {
+    let (load, speed) = in_great_numbers(bound);
+    (load + 1, speed)
+}
+
+/// The same bound in numbers as great as can be lent, and a load one greater too.
+fn in_great_numbers((load, speed): Bound) -> Bound {
+    let times = ((BOUND_LOAD as u128 - 1) / load.max(1)).min(BOUND_SPEED as u128 / speed);
+    assert!(times > 0);
+    (load * times, speed * times)
+}
+
+/// A trial in a list that holds this, with so many entries for its answer.
+pub fn one(c: &mut Check, t: &Case, bound: Bound, lent: &[u8], entries: usize) {
+    if can_lend(bound) && lent.len() >= 4 * t.entries() {
+        let found = methods::trial(&t.job, bound);
+        sound(c, t, bound, &found);
+        count(c, &t.job, bound, &found);
+    }
+    let answer = c.rng.pattern(8 * entries);
+    let call = Call::Trial { load: bound.0 as u64, speed: bound.1 as u64 };
+    c.judge(call, &[&t.speeds, &t.weights, lent, &answer], None);
+}
+
+/// The trial that the test expects must itself be as it has to. It fits exactly where the best division stays within the bound, and
+/// where it writes N last; its next bid lies above the bound and not above the best. Of a tiny job its separators are as far as the first
+/// machines get, however tiles are given to them; of any other each is the greatest index whose share is within the bound.
+fn sound(c: &mut Check, t: &Case, bound: Bound, found: &Trial) {
+    let (job, best) = (&t.job, t.bottleneck);
+    let mut good = match found.next {
+        None => !less(bound, best),
+        Some(next) => less(bound, best) && less(bound, next) && !less(best, next),
+    };
+    good &= found.fits() == (found.last().1 == job.weights.len());
+    good &= if is_tiny(job) { found.separators == slow::furthest(job, bound) } else { is_greatest(job, bound, &found.separators) };
+    if !good {
+        c.fail(&format!("the solver's own trial at {:?} is wrong: {:?}", bound, found), format!("  {:?}", job));
+    }
+}
+
+/// Whether each share is within the bound, and is not with a tile more.
+fn is_greatest(job: &Job, bound: Bound, separators: &[usize]) -> bool {
+    let tiles = job.weights.len();
+    let each = |p: usize| {
+        let (a, b) = (separators[p], separators[p + 1]);
+        let within = |to: usize| !less(bound, (job.weight(a, to), job.speeds[p] as u128));
+        a <= b && b <= tiles && within(b) && (b == tiles || !within(b + 1))
+    };
+    separators.len() == job.speeds.len() + 1 && separators[0] == 0 && (0..job.speeds.len()).all(each)
+}
+
+/// How a trial ended, for what must have come up at the end of the run.
+fn count(c: &mut Check, job: &Job, bound: Bound, found: &Trial) {
+    if found.fits() {
+        c.fits += 1;
+        return;
+    }
+    let (tiles, machines, (start, end)) = (job.weights.len(), job.speeds.len(), found.last());
+    let share = (job.weight(start, end), job.speeds[machines - 1] as u128);
+    let ends = [
+        machines > 1 && end == start,
+        machines > 1 && end > start,
+        machines == 1 && end > start,
+        end > start && job.weights[end - 1] == 0,
+        share.0 > 0 && !less(share, bound),
+        end + 1 == tiles,
+    ];
+    for (count, is) in c.failed.iter_mut().zip(ends) {
+        *count += is as u64;
+    }
+}
+
+/// The next bid of the trial at the ideal, which is bidding's second bound, or the ideal where it fits.
+fn second_bound(job: &Job) -> Bound {
+    let ideal = methods::ideal(job);
+    methods::trial(job, ideal).next.unwrap_or(ideal)
+}
+
+/// The bound of any share on any machine.
+fn some_share(r: &mut Rng, job: &Job) -> Bound {
+    let (a, b) = (r.below(job.weights.len() + 1), r.below(job.weights.len() + 1));
+    (job.weight(a.min(b), a.max(b)), job.speeds[r.below(job.speeds.len())] as u128)
+}
+
+/// A bound to try: nought, the ideal, its next bid, the quick plan's, the best, part of it, of a share, next to one of them, or
+/// anything, now and then out of range.
+pub fn bound(r: &mut Rng, s: &Solved) -> Bound {
+    let share = some_share(r, &s.job);
+    let near = match r.below(10) {
+        0 => (0, 1),
+        1 => methods::ideal(&s.job),
+        2 => second_bound(&s.job),
+        3 => slow::bottleneck(&s.job, &s.quick),
+        4 | 5 => s.bottleneck,
+        6 => (s.bottleneck.0 * r.range(1, 63) as u128, s.bottleneck.1 * 64),
+        _ => share,
+    };
+    // The same bound in other numbers, or as little off as they allow.
+    let times = 1 + r.below(100_000) as u128;
+    let off = r.range(0, 2) as u128;
+    let near = match r.below(3) {
+        0 => near,
+        1 => (near.0 * times, near.1 * times),
+        _ => ((near.0 * times + off).saturating_sub(1), near.1 * times),
+    };
+    let (load, speed) = (BOUND_LOAD as u128, BOUND_SPEED as u128);
+    let near = (near.0.min(load), near.1.min(speed));
+    match r.below(24) {
+        0 => (r.pick(&[0, 1, load]), r.pick(&[1, speed])),
+        1 => (r.pick(&[load + 1, u64::MAX as u128, 1 << 63]), near.1),
+        2 => (near.0, r.pick(&[0, speed + 1, 1 << 32, u64::MAX as u128])),
+        3 => (r.next() as u128 % (load + 1), 1 + r.next() as u128 % speed),
+        _ => near,
+    }
+}
+
+/// How many things a list can have held before it is lent.
+const HELD: usize = 9;
+
+/// One of them, for a trial at a bound: anything, any indices, one number throughout, what a trial at half the bound leaves, or at twice
+/// the bound, or a plan.
+fn held(r: &mut Rng, t: &Case, bound: Bound, which: usize) -> Vec<u32> {
+    let tiles = t.job.weights.len() as u32;
+    let words = |list: &[usize]| list.iter().map(|&s| s as u32).collect();
+    match which {
+        0 => (0..t.entries()).map(|_| r.next() as u32).collect(),
+        1 => (0..t.entries()).map(|_| r.range(0, tiles)).collect(),
+        2..=5 => vec![[0, tiles, tiles + 1, u32::MAX][which - 2]; t.entries()],
+        6 => words(&methods::trial(&t.job, (bound.0, 2 * bound.1)).separators),
+        7 => words(&methods::trial(&t.job, (2 * bound.0 + 1, bound.1)).separators),
+        _ => words(&t.best),
+    }
+}
+
+/// A list of so many entries that held one of these things; what stands behind them is anything.
+pub fn some_list(r: &mut Rng, t: &Case, bound: Bound, len: usize) -> Vec<u8> {
+    let which = r.below(HELD);
+    let list = held(r, t, bound, which);
+    every::with_length(r, &list, len)
+}
+
+/// The same for a plan, which has no bound.
+pub fn list_for_plan(r: &mut Rng, t: &Case, len: usize) -> Vec<u8> {
+    some_list(r, t, t.bottleneck, len)
+}
+
+/// A list that has room, often just enough.
+fn list_with_room(r: &mut Rng, t: &Case, bound: Bound) -> Vec<u8> {
+    let more = r.below(4).saturating_sub(1);
+    some_list(r, t, bound, t.entries() + more)
+}
+
+/// The same trial whatever the list held, with just enough room and with more.
+pub fn refilled(c: &mut Check, t: &Case, bound: Bound) {
+    for which in 0..HELD {
+        for more in [0, 1 + c.rng.below(4)] {
+            let list = held(&mut c.rng, t, bound, which);
+            let lent = every::with_length(&mut c.rng, &list, t.entries() + more);
+            one(c, t, bound, &lent, 3);
+        }
+    }
+}
+
+/// Trials at the bound of every share on every machine, where each bid is among, and as little below and above it as can be. A list is
+/// lent again as the trial before left it, at a lesser bound or a greater one.
+fn at_every_bid(c: &mut Check, t: &Case) {
+    let tiles = t.job.weights.len();
+    let mut bounds: Vec<Bound> = Vec::new();
+    for &e in &t.job.speeds {
+        bounds.extend((0..=tiles).flat_map(|a| (a..=tiles).map(move |b| (a, b))).map(|(a, b)| (t.job.weight(a, b), e as u128)));
+    }
+    bounds.sort_by(|x, y| (x.0 * y.1).cmp(&(y.0 * x.1)));
+    bounds.dedup_by(|x, y| !less(*x, *y) && !less(*y, *x));
+    if c.rng.once_in(2) {
+        bounds.reverse();
+    }
+    let mut lent = list_with_room(&mut c.rng, t, t.bottleneck);
+    for bound in bounds {
+        for near in [below(bound), Some(bound), Some(above(bound))].into_iter().flatten() {
+            one(c, t, near, &lent, 3);
+            lent = c.after(2);
+        }
+    }
+}
+
+/// From a bound on each next bid in turn, as little below it and at it, until a trial fits or so many have failed, in one list. Short of the
+/// next bid nothing changes but how far the last machine reaches.
+fn in_turn(c: &mut Check, t: &Case, from: Bound, most: usize) {
+    let mut lent = list_with_room(&mut c.rng, t, from);
+    let mut bound = from;
+    one(c, t, bound, &lent, 3);
+    for _ in 0..most {
+        let found = methods::trial(&t.job, bound);
+        let Some(next) = found.next else { return };
+        let short = below(next).unwrap();
+        if less(bound, short) {
+            let other = methods::trial(&t.job, short);
+            let (same, (_, end)) = (t.entries() - 1, found.last());
+            if other.next != found.next || other.separators[..same] != found.separators[..same] || other.last().1 < end {
+                let what = format!("the solver's own trials at {:?} and {:?} are wrong: {:?}, {:?}", bound, short, found, other);
+                c.fail(&what, format!("  {:?}", t.job));
+            }
+        }
+        for near in [short, next] {
+            lent = c.after(2);
+            one(c, t, near, &lent, 3);
+        }
+        bound = next;
+    }
+}
+
+/// The same job with tiles of weight 0 put in, most of them where shares end: each machine takes along those behind its last tile, and
+/// nothing else changes.
+fn padded(c: &mut Check, t: &Case, bound: Bound) {
+    let found = methods::trial(&t.job, bound);
+    let tiles = t.job.weights.len();
+    let mut room = TILES - tiles;
+    // How many are put in behind so many tiles.
+    let mut more = vec![0; tiles + 1];
+    for &s in found.separators.iter().chain([&c.rng.below(tiles + 1), &tiles]) {
+        let some = c.rng.below(4).min(room);
+        more[s] += some;
+        room -= some;
+    }
+    let mut weights = vec![0; more[0]];
+    for (i, &w) in t.job.weights.iter().enumerate() {
+        weights.push(w);
+        weights.resize(weights.len() + more[i + 1], 0);
+    }
+    let other = Case::of(&Job { speeds: t.job.speeds.clone(), weights });
+    let mut separators: Vec<usize> = found.separators.iter().map(|&s| s + more[..=s].iter().sum::<usize>()).collect();
+    separators[0] = 0;
+    let wanted = Trial { separators, next: found.next };
+    let got = methods::trial(&other.job, bound);
+    if got != wanted {
+        c.fail(&format!("the solver's own trial at {:?} is {:?}, not {:?}", bound, got, wanted), format!("  {:?}", other.job));
+    }
+    let lent = list_with_room(&mut c.rng, &other, bound);
+    one(c, &other, bound, &lent, 3);
+}
+
+/// One machine, and two of which the first takes some tiles of weight 0: of the equal tiles that are left the last one reaches each of these
+/// numbers in turn, and in the end all.
+fn every_reach(c: &mut Check, tiles: usize, reached: &[usize]) {
+    for machines in 1..=2 {
+        c.jobs_seen += 1;
+        let taken = if machines == 1 { 0 } else { c.rng.below(tiles + 1) };
+        let weight = c.rng.range(1, 9);
+        let weights = [vec![0; taken], vec![weight; tiles - taken]].concat();
+        let t = Case::of(&Job { speeds: [vec![1; machines - 1], vec![SPEED]].concat(), weights });
+        for &many in reached.iter().filter(|&&many| many <= tiles - taken) {
+            let bound = (many as u128 * weight as u128, SPEED as u128);
+            let lent = list_with_room(&mut c.rng, &t, bound);
+            one(c, &t, bound, &lent, 3);
+        }
+    }
+}
+
+/// What is left for the last machine, made anew: the first of these tiles stays, or is heavier than it can carry; some others are just what
+/// it can carry beside it; then there are tiles of weight 0, with one among them that weighs or without.
+fn left_over(r: &mut Rng, job: &Job, bound: Bound) -> Job {
+    let (start, _) = methods::trial(job, bound).last();
+    let mut weights = job.weights[..start].to_vec();
+    let Some(&first) = job.weights.get(start) else { return job.clone() };
+    let carries = (bound.0 * job.speeds[job.speeds.len() - 1] as u128 / bound.1).min(u32::MAX as u128) as u32;
+    let others = job.weights.len() - start - 1;
+    let many = r.below(others + 1);
+    weights.push(if r.once_in(3) { first.max(carries.saturating_add(1).min(WEIGHT)) } else { first });
+    let carried = carries.saturating_sub(weights[start]).min((many as u64 * WEIGHT as u64).min(u32::MAX as u64) as u32);
+    weights.extend(small::pieces(r, carried, many));
+    let rest = weights.len();
+    weights.resize(job.weights.len(), 0);
+    if rest < weights.len() && r.once_in(2) {
+        let at = rest + r.below(weights.len() - rest);
+        weights[at] = r.pick(&[1, 2, WEIGHT]);
+    }
+    Job { speeds: job.speeds.clone(), weights }
+}
+
+/// A job of this size at bounds about its ideal: as it comes, and with what is left for the last machine made anew. The last machine is
+/// often the slowest or the fastest that there can be.
+fn sized(c: &mut Check, machines: usize, tiles: usize) {
+    let mut speeds = small::speeds(&mut c.rng, machines);
+    speeds[machines - 1] = c.rng.pick(&[1, SPEED, speeds[machines - 1]]);
+    let weights = small::weights(&mut c.rng, tiles, &speeds);
+    let job = Job { speeds, weights };
+    let (load, speed) = methods::ideal(&job);
+    let bound = match c.rng.below(3) {
+        0 => (load, speed),
+        1 => second_bound(&job),
+        _ => (load * c.rng.range(500, 1_100) as u128, speed * 1_000),
+    };
+    let edge = (BOUND_LOAD as u128 - c.rng.below(2) as u128, c.rng.pick(&[1, BOUND_SPEED as u128]));
+    for made in [job.clone(), left_over(&mut c.rng, &job, bound), left_over(&mut c.rng, &job, bound)] {
+        c.jobs_seen += 1;
+        let t = Case::of(&made);
+        for near in [below(bound), Some(bound), Some(above(bound)), Some(edge)].into_iter().flatten() {
+            let lent = list_with_room(&mut c.rng, &t, near);
+            one(c, &t, near, &lent, 3);
+        }
+        padded(c, &t, bound);
+        in_turn(c, &t, bound, 2);
+        if c.rng.once_in(6) {
+            refilled(c, &t, bound);
+        }
+    }
+}
+
+pub fn middle(c: &mut Check) {
+    let (machines, tiles) = large::middle_size(&mut c.rng);
+    sized(c, machines, tiles);
+}
+
+/// A small job from bid to bid, from nought on, with tiles of weight 0, and in lists of every kind.
+pub fn random(c: &mut Check) {
+    c.jobs_seen += 1;
+    let t = Case::of(&small::random_job(&mut c.rng));
+    in_turn(c, &t, (0, 1), 1_000);
+    let share = some_share(&mut c.rng, &t.job);
+    padded(c, &t, share);
+    refilled(c, &t, share);
+}
+
+pub fn run(c: &mut Check, times: usize) {
+    small::every_job(&mut |job| {
+        c.jobs_seen += 1;
+        at_every_bid(c, &Case::of(job));
+    });
+    for _ in 0..2_000 * times {
+        c.jobs_seen += 1;
+        let t = Case::of(&small::near_job(&mut c.rng));
+        at_every_bid(c, &t);
+    }
+    for _ in 0..15_000 * times {
+        random(c);
+    }
+    for tiles in 0..=100 {
+        every_reach(c, tiles, &(0..=tiles).collect::<Vec<_>>());
+    }
+    let about: Vec<usize> = (0..=TILES.ilog2()).flat_map(|k| [(1 << k) - 1, 1 << k, (1 << k) + 1]).collect();
+    every_reach(c, TILES, &about);
+    for _ in 0..1_500 * times {
+        middle(c);
+    }
+    for _ in 0..250 * times {
+        let (machines, tiles) = large::some_size(&mut c.rng);
+        sized(c, machines, tiles);
+    }
+    for _ in 0..50 * times {
+        sized(c, MACHINES, TILES);
+    }
+}
