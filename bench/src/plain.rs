@@ -565,7 +565,8 @@ pub fn halving_by_sides(speeds: &[u32], weights: &[u32], separators: &mut [u32])
     })
 }
 
-/// The trial at a lent bound: None where it fits, else the least next bid. Only a fit writes the separators.
+/// The trial at a lent bound: None where it fits, else the least next bid. It writes the separators in both cases, as the last one how
+/// far the last machine reaches.
 pub fn probe(
     speeds: &[u32],
     weights: &[u32],
@@ -580,11 +581,12 @@ pub fn probe(
         return Err(10);
     }
     let mut room = [0; MAX_TASKS + 1];
-    let mut walked = [0; MAX_PROCESSORS + 1];
     let sums = prefix_sums(weights, &mut room);
-    let next = trial(speeds, sums, bound, &mut walked);
-    if next.is_none() {
-        separators[..=speeds.len()].copy_from_slice(&walked[..=speeds.len()]);
+    let next = trial(speeds, sums, bound, separators);
+    if next.is_some() {
+        let last = speeds.len() - 1;
+        let a = separators[last] as usize;
+        separators[last + 1] = part_end(sums, a, speeds[last], bound, a) as u32;
     }
     Ok(next)
 }
