@@ -3,15 +3,18 @@
 use Prim.Native.Nat.{ℕ, suc, _≤_}
 use mathlib.Core.Path.{_≡_, sym, ap, subst, _∙_}
 use mathlib.Core.List.{List, _++_}
+use native.Mathlib.Omega.{arith}
 use lib.ListN.{length, drop}
 use Rattle.bound.specs.declared.Bound.{Bound}
+use Rattle.bound.specs.Order.{_≼_}
+use Rattle.bound.proofs.Order.{speed-real}
 use Rattle.chain.specs.Job.{Job, jobOf, processors, at}
-use Rattle.chain.specs.Probe.{walked, Begins, fits, probe}
+use Rattle.chain.specs.Probe.{separator, walked, Begins, fits, probe}
 use Rattle.chain.specs.Plan.{planOf}
 use Rattle.chain.specs.Refusal.{refusal}
 use Rattle.chain.proofs.Parts.{Proper, valid-proper}
 use Rattle.chain.proofs.Tests.{T-true}
-use Rattle.chain.proofs.Walk.{walked-fits, walked-walk, walked-begins, walked-furthest}
+use Rattle.chain.proofs.Walk.{walked-at, walked-fits, walked-walk, walked-begins, walked-furthest, growing}
 use Rattle.refusals.specs.Inputs.{probeInputs}
 use Rattle.refusals.proofs.Accepted.{accepted}
 use Rattle.probe.proofs.Answer.{outcome-fits, fits-outcome, fails-outcome}
@@ -22,6 +25,10 @@ use Rattle.planner.proofs.Promises.{plan-number, plan-accepted, accepted-writte
 use Rattle.demands.specs.Call.{Probe, Plan}
 use Rattle.demands.specs.Demands.{Accepts, front}
 use Rattle.demands.specs.Trials.{TrialLeft, Trials}
+
+-- No test refuses an accepted trial.
+unrefused : (es ws : List ℕ) (B : Bound) (s : List ℕ) → Accepts (Probe es ws B s) → refusal (jobOf es ws) (probeInputs (jobOf es ws) B (length s)) ≡ 0
+unrefused es ws B s e = sym (probe-number (jobOf es ws) B s) ∙ e
 
 -- An accepted trial,
 trial : (es ws : List ℕ) (B : Bound) (s : List ℕ) → Accepts (Probe es ws B s) → TrialLeft (jobOf es ws) B s
@@ -46,13 +53,26 @@ trial es ws B s e =
     job = jobOf es ws
 
     none : refusal job (probeInputs job B (length s)) ≡ 0
-    none = sym (probe-number job B s) ∙ e
+    none = unrefused es ws B s e
 
     ok : Proper job
     ok = valid-proper ((accepted none) .valid)
 
     left : front job (probeWrites job B s) ≡ walked job B
     left = probe-front job B s none
+
+-- two of them, at a bound and at a greater one,
+grows : (es ws : List ℕ) (B C : Bound) (s t : List ℕ) → Accepts (Probe es ws B s) → Accepts (Probe es ws C t) → B ≼ C
+    → (p : ℕ) → p ≤ processors (jobOf es ws)
+    → at (front (jobOf es ws) (probeWrites (jobOf es ws) B s)) p ≤ at (front (jobOf es ws) (probeWrites (jobOf es ws) C t)) p
+grows es ws B C s t e f h p l =
+    omega (arith, left B s e, left C t f, growing job (speed-real (omega (arith, (accepted (unrefused es ws B s e)) .bounds .0 .speed-positive))) h p)
+  where
+    job : Job
+    job = jobOf es ws
+
+    left : (D : Bound) (u : List ℕ) → Accepts (Probe es ws D u) → at (front job (probeWrites job D u)) p ≡ separator job D p
+    left D u g = ap (λ (xs : List ℕ). at xs p) (probe-front job D u (unrefused es ws D u g)) ∙ walked-at job D p l
 
 -- and an accepted plan.
 plan : (m : ℕ) (es ws s t : List ℕ) → Accepts (Plan m es ws s t)
@@ -61,4 +81,4 @@ plan m es ws s t e =
     accepted-written (jobOf es ws) m s t (plan-accepted (jobOf es ws) m s t (sym (plan-number (jobOf es ws) m s t) ∙ e) .1)
 
 pub trials : Trials
-trials = record { trial = trial; plan = plan }
+trials = record { trial = trial; grows = grows; plan = plan }

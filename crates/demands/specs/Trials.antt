@@ -5,6 +5,7 @@ use mathlib.Core.List.{List, _++_}
 use mathlib.Core.Logic.{_↔_}
 use lib.ListN.{drop}
 use Rattle.bound.specs.declared.Bound.{Bound}
+use Rattle.bound.specs.Order.{_≼_}
 use Rattle.chain.specs.declared.Outcome.{Outcome}
 use Rattle.chain.specs.declared.Outcome.the-variants.{Fits, Fails}
 use Rattle.chain.specs.Job.{Job, jobOf, tasks, processors, at}
@@ -39,3 +40,7 @@ pub record Trials : Type 0 where
   -- Scope 3.10: "a plan leaves its own P + 1 separators, and behind them the entries that were there"
   pub plan : (m : ℕ) (es ws s t : List ℕ) → Accepts (Plan m es ws s t)
       → planWrites (jobOf es ws) m s t ≡ planOf (jobOf es ws) ++ drop (suc (processors (jobOf es ws))) s
+  -- Scope 3.11: "With a bound at least as great, no separator that a trial writes is smaller."
+  pub grows : (es ws : List ℕ) (B C : Bound) (s t : List ℕ) → Accepts (Probe es ws B s) → Accepts (Probe es ws C t) → B ≼ C
+      → (p : ℕ) → p ≤ processors (jobOf es ws)
+      → at (front (jobOf es ws) (probeWrites (jobOf es ws) B s)) p ≤ at (front (jobOf es ws) (probeWrites (jobOf es ws) C t)) p
