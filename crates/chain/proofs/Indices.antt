@@ -3,7 +3,7 @@
 use Prim.Native.Nat.{ℕ, zero, suc, _+_, _-_, _≤_, _<_}
 use mathlib.Core.Path.{_≡_, refl, sym, ap, ap₂, subst, _∙_}
 use mathlib.Core.Bool.{Bool, true, false, not, cond, _&&_}
-use mathlib.Core.List.{List, [], _∷_, _++_}
+use mathlib.Core.List.{List, [], _∷_, _++_, append-nil}
 use mathlib.Core.Logic.{_⊎_, inl, inr}
 use native.Mathlib.Omega.{arith}
 use native.Mathlib.Decide.{decLe}
@@ -145,10 +145,7 @@ at-tabulate f (suc n) l zero h = refl
 at-tabulate f (suc n) l (suc i) h = at-tabulate (λ j. f (suc j)) n l i (omega arith)
 
 pub at-table : (f : ℕ → ℕ) (n i : ℕ) → i < n → getD (tabulate f n) i 0 ≡ f i
-unfolding tabulate
-at-table f zero i h = absurd (let z : ⊥ = omega arith in z)
-at-table f (suc n) zero h = refl
-at-table f (suc n) (suc i) h = at-table (λ j. f (suc j)) n i (omega arith)
+at-table f n i h = ap (λ (l : List ℕ). getD l i 0) (sym (append-nil (tabulate f n))) ∙ at-tabulate f n [] i h
 
 -- A list is the table of its entries.
 pub table-of : (l : List ℕ) {n : ℕ} → length l ≡ n → tabulate (λ i. getD l i 0) n ≡ l
