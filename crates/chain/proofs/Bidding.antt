@@ -2,18 +2,19 @@
 -- Assumes nothing.
 use Prim.Native.Nat.{ℕ, zero, suc, _+_, _-_, _*_, _≤_, _<_}
 use mathlib.Core.Path.{_≡_, refl, sym, ap, subst, _∙_}
-use mathlib.Core.Bool.{not}
+use mathlib.Core.Bool.{Bool, true, false, not, cond}
 use native.Mathlib.Omega.{arith}
 use native.Mathlib.Decide.{decLe}
-use lib.Dec.{T, T-not}
+use lib.Dec.{T, T-not, eqb}
+use borrow.Author.Tests.{eq-eqb, ne-eqb}
 use Rattle.bound.specs.declared.Bound.{Bound}
 use Rattle.bound.specs.Order.{_≼_, _≺_, Finite}
 use Rattle.bound.proofs.Order.{finite-real, le-refl, lt-le}
 use Rattle.chain.specs.Lists.{sumTo, isFirst}
-use Rattle.chain.specs.Job.{Job, tasks, last, within, offer, ideal}
+use Rattle.chain.specs.Job.{Edition, First, Second, startupOf, OfEdition, Job, tasks, last, within, offer, ideal}
 use Rattle.chain.specs.Probe.{separator, fits, bid, nextBid}
 use Rattle.chain.specs.Bidding.{bidding}
-use Rattle.chain.specs.Plan.{allowance}
+use Rattle.chain.specs.Plan.{biddingAllowance, allowance}
 use Rattle.chain.specs.declared.Method.the-variants.{Bidding}
 use Rattle.chain.proofs.Sums.{sum-mono-at, sum-below}
 use Rattle.chain.proofs.Parts.{Proper, Plannable}
@@ -27,6 +28,16 @@ use Rattle.chain.proofs.Ideal.{ideal-finite, ideal-single, ideal-within
 -- The ideal is at most every bound that fits.
 pub ideal-below : {job : Job} → Proper job → (C : Bound) → T (fits job C) → ideal job ≼ C
 ideal-below {job} ok C t = ideal-within ok (walk-partition ok C t) (walk-within job C t)
+
+-- A first trial is within the allowance.
+first-allowed : (edition : Edition) (job : Job) → 1 ≤ allowance edition Bidding job
+unfolding allowance biddingAllowance
+first-allowed First job = omega arith
+first-allowed (Second c) job = go (eqb (last job) 0)
+  where
+    go : (t : Bool) → 1 ≤ cond t 2 (last job * tasks job + 1)
+    go true = omega arith
+    go false = omega arith
 
 -- The sum of the separators of the walk, s1 to s(P − 1).
 unfoldable pub advance : Job → Bound → ℕ
@@ -99,13 +110,13 @@ module _ {job : Job} (can : Plannable job) where
                         (taken-within p (separator job B p) (suc (separator job B (suc p))) (e ∙ bid-before job B p l))))
                   ]
 
-  -- On a single processor the trial at the ideal fits.
-  pub single-fits : last job ≡ 0 → T (fits job (ideal job))
+  -- On a single processor without start-up work the trial at the ideal fits.
+  pub single-fits : job .startup ≡ 0 → last job ≡ 0 → T (fits job (ideal job))
   unfolding separator
-  single-fits e =
+  single-fits c e =
       last-fits job (ideal job)
       (subst (λ (q : ℕ). T (within job q (separator job (ideal job) q) (tasks job) (ideal job))) (sym e)
-      (within-of job 0 0 (tasks job) (ideal-single (can .proper) e)))
+      (within-of job 0 0 (tasks job) (ideal-single (can .proper) c e)))
 
   pub advance-counts : (k : ℕ) → Failing (suc k) → k ≤ advance job (bidding job k)
   unfolding bidding
@@ -117,36 +128,49 @@ module _ {job : Job} (can : Plannable job) where
         next-advances (bidding job k) (h k (omega arith)) (h (suc k) (omega arith)),
       )
 
-  -- As long as all trials up to k failed, k is below (P − 1) · N.
-  pub failures-below : (k : ℕ) → Failing (suc k) → k < last job * tasks job
-  unfolding advance bidding
-  failures-below k h = go (last job) refl
+  -- As long as all trials up to k failed, k is below (P − 1) · N on more than one processor;
+  failures-below : (k : ℕ) → Failing (suc k) → 0 < last job → k < last job * tasks job
+  unfolding advance
+  failures-below k h l = omega (arith, advance-counts k h, room)
     where
       room : advance job (bidding job k) + last job ≤ last job * tasks job
       room =
           sum-below (λ p. separator job (bidding job k) (suc p)) (tasks job) (last job)
           (λ p l. fails-before-end job (bidding job k) (h k (omega arith)) (suc p) l)
 
-      go : (q : ℕ) → last job ≡ q → k < last job * tasks job
-      go zero e = absurd (T-not (fits job (ideal job)) (h 0 (omega arith)) (single-fits e))
-      go (suc q) e = omega (arith, advance-counts k h, room)
+  -- on a single one the second trial, at the bid of all tasks, fits: k is 0.
+  failures-single : (k : ℕ) → Failing (suc k) → last job ≡ 0 → k ≡ 0
+  unfolding advance sumTo
+  failures-single k h e =
+      let z : advance job (bidding job k) ≡ 0 = ap (sumTo (λ p. separator job (bidding job k) (suc p))) e in
+      omega (arith, advance-counts k h)
 
   -- So the allowance has room for one trial more.
-  pub failures-allowed : (k : ℕ) → Failing (suc k) → suc k < allowance Bidding job
-  unfolding allowance
-  failures-allowed k h = omega (arith, failures-below k h)
+  pub failures-allowed : {edition : Edition} → OfEdition edition job → (k : ℕ) → Failing (suc k) → suc k < allowance edition Bidding job
+  unfolding allowance biddingAllowance startupOf bidding
+  failures-allowed {edition} of k h =
+      elim (decLe 1 (last job)) [ yes l ↦ some edition of l | no l ↦ single edition of (omega arith) ]
+    where
+      some : (edition : Edition) → OfEdition edition job → 0 < last job → suc k < biddingAllowance edition job
+      some First of l = omega (arith, failures-below k h l)
+      some (Second c) of l = rw (ne-eqb (last job) 0 (λ z. omega arith)) (omega (arith, failures-below k h l))
+
+      single : (edition : Edition) → OfEdition edition job → last job ≡ 0 → suc k < biddingAllowance edition job
+      single First of e = absurd (T-not (fits job (ideal job)) (h 0 (omega arith)) (single-fits (of .counts) e))
+      single (Second c) of e = rw (eq-eqb (last job) 0 e) (omega (arith, failures-single k h e))
 
   -- The trials, the one that fits included, are within the allowance.
-  pub bidding-allowed : (k : ℕ) → T (isFirst (λ j. fits job (bidding job j)) k) → suc k ≤ allowance Bidding job
-  unfolding allowance
-  bidding-allowed zero t = omega arith
-  bidding-allowed (suc k) t = failures-allowed k (first-fails (λ j. fits job (bidding job j)) (suc k) t)
+  pub bidding-allowed : {edition : Edition} → OfEdition edition job → (k : ℕ) → T (isFirst (λ j. fits job (bidding job j)) k)
+      → suc k ≤ allowance edition Bidding job
+  bidding-allowed {edition} of zero t = first-allowed edition job
+  bidding-allowed of (suc k) t = failures-allowed of k (first-fails (λ j. fits job (bidding job j)) (suc k) t)
 
   -- Bidding ends, within its allowance.
-  pub bidding-ends : (k : ℕ) × (suc k ≤ allowance Bidding job) × T (isFirst (λ j. fits job (bidding job j)) k)
-  bidding-ends =
-      let most : ℕ = allowance Bidding job in
+  pub bidding-ends : {edition : Edition} → OfEdition edition job
+      → (k : ℕ) × (suc k ≤ allowance edition Bidding job) × T (isFirst (λ j. fits job (bidding job j)) k)
+  bidding-ends {edition} of =
+      let most : ℕ = allowance edition Bidding job in
       let e =
       first-exists (λ j. fits job (bidding job j)) most
-      (λ h. let x : suc most < most = failures-allowed most (λ j l. h j (omega arith)) in omega arith) in
-      (e .0, bidding-allowed (e .0) (e .2), e .2)
+      (λ h. let x : suc most < most = failures-allowed of most (λ j l. h j (omega arith)) in omega arith) in
+      (e .0, bidding-allowed of (e .0) (e .2), e .2)

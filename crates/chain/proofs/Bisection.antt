@@ -13,7 +13,7 @@ use Rattle.bound.specs.Order.{over, le, _≼_, _≺_, plus, times, middle, Fini
 use Rattle.bound.proofs.Order.{open-le, make-le, open-lt, lt-le, le-trans, speed-real, finite-real}
 use Rattle.bound.proofs.Algebra.{plus-mono}
 use Rattle.chain.specs.Lists.{isFirst, digits}
-use Rattle.chain.specs.Job.{Job, fastest, slowest, partBound, boundAt, bottleneck, ideal}
+use Rattle.chain.specs.Job.{Edition, Job, fastest, slowest, partBound, boundAt, bottleneck, ideal}
 use Rattle.chain.specs.Probe.{walk, fits, nextBid}
 use Rattle.chain.specs.Heuristic.{heuristic}
 use Rattle.chain.specs.declared.Ends.{Ends}
@@ -102,9 +102,9 @@ bottleneck-speed {job} ok s =
     }
 
 -- A first trial is within the allowance.
-pub first-allowed : (job : Job) → 1 ≤ allowance Bisection job
+pub first-allowed : (edition : Edition) (job : Job) → 1 ≤ allowance edition Bisection job
 unfolding allowance
-first-allowed job = omega arith
+first-allowed edition job = omega arith
 
 -- The ends never cross.
 pub low-high : {job : Job} {n : ℕ} {E : Ends} → Bracket job n E → E .low ≼ E .high
@@ -207,10 +207,11 @@ module _ {job : Job} (can : Plannable job) where
       omega arith)
 
   -- So the trials, the first included, are within the allowance.
-  pub bisection-allowed : T (not (fits job (ideal job))) → (k : ℕ) → T (isFirst (λ j. meet (ends job j)) k) → suc k ≤ allowance Bisection job
+  pub bisection-allowed : (edition : Edition) → T (not (fits job (ideal job))) → (k : ℕ) → T (isFirst (λ j. meet (ends job j)) k)
+      → suc k ≤ allowance edition Bisection job
   unfolding allowance
-  bisection-allowed t zero f = omega arith
-  bisection-allowed t (suc k) f =
+  bisection-allowed edition t zero f = omega arith
+  bisection-allowed edition t (suc k) f =
       omega (arith, rounds-below t k (first-fails (λ j. meet (ends job j)) (suc k) f k (omega arith)))
 
   -- Where the ends meet, they are at the least bound that fits.

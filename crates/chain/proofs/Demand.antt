@@ -9,7 +9,7 @@ use lib.Dec.{T, T-not}
 use Rattle.bound.specs.declared.Bound.{Bound}
 use Rattle.bound.specs.Order.{_≼_, _≈_, Finite}
 use Rattle.bound.proofs.Order.{finite-below, le-refl, le-trans}
-use Rattle.chain.specs.Job.{Job, tasks, last, bottleneck, ideal}
+use Rattle.chain.specs.Job.{Edition, Second, startupOf, OfEdition, Job, tasks, last, bottleneck, ideal}
 use Rattle.chain.specs.Probe.{walk, fits}
 use Rattle.chain.specs.Dynamic.{tableValue}
 use Rattle.chain.specs.Bidding.{bidding}
@@ -46,6 +46,11 @@ method-counts job Bisection n k B C x y = same x y
     same (after k t g c e) (at-once u d f) = absurd (T-not (fits job (ideal job)) t u)
     same (after k t g c e) (after l u h d f) = c ∙ ap suc (first-unique (λ j. meet (ends job j)) k l g h) ∙ sym d
 method-counts job Nicol n k B C x y = nicol-counts x y
+
+-- Every job can be taken for one of the second edition.
+pub of-second : (job : Job) → OfEdition (Second (job .startup)) job
+unfolding startupOf
+of-second job = record { counts = refl }
 
 module _ {job : Job} (can : Plannable job) where
   -- The least bottleneck of all partitions is the least bound that fits.
@@ -113,30 +118,30 @@ module _ {job : Job} (can : Plannable job) where
       least-equal b l
 
   -- Every method's count is within its allowance.
-  pub method-allowed : (m : Method) (n : ℕ) (B : Bound) → MethodEnds m job n B → n ≤ allowance m job
-  method-allowed Table n B x = subst (λ (n : ℕ). n ≤ allowance Table job) (sym (x .counted)) (moves-allowed (can .proper))
-  method-allowed Bidding n B x = omega (arith, x .counted, bidding-allowed can (x .failures) (x .first-fit))
-  method-allowed Bisection n B x = bisection-count x
+  pub method-allowed : {edition : Edition} → OfEdition edition job → (m : Method) (n : ℕ) (B : Bound) → MethodEnds m job n B → n ≤ allowance edition m job
+  method-allowed {edition} of Table n B x = subst (λ (n : ℕ). n ≤ allowance edition Table job) (sym (x .counted)) (moves-allowed (can .proper) edition)
+  method-allowed of Bidding n B x = omega (arith, x .counted, bidding-allowed can of (x .failures) (x .first-fit))
+  method-allowed {edition} of Bisection n B x = bisection-count x
     where
-      bisection-count : {n : ℕ} {B : Bound} → BisectionEnds job n B → n ≤ allowance Bisection job
-      bisection-count (at-once t c e) = omega (arith, first-allowed job)
-      bisection-count (after k t f c e) = omega (arith, bisection-allowed can t k f)
-  method-allowed Nicol n B x = nicol-allowed can x
+      bisection-count : {n : ℕ} {B : Bound} → BisectionEnds job n B → n ≤ allowance edition Bisection job
+      bisection-count (at-once t c e) = omega (arith, first-allowed edition job)
+      bisection-count (after k t f c e) = omega (arith, bisection-allowed can edition t k f)
+  method-allowed {edition} of Nicol n B x = nicol-allowed can edition x
 
   -- The first trial that fits and the first round after which the ends meet are found.
   pub failures-first : T (isFirst (λ k. fits job (bidding job k)) (biddingFailures job))
   unfolding biddingFailures
   failures-first =
-      let e = bidding-ends can in
+      let e = bidding-ends can (of-second job) in
       subst (λ (k : ℕ). T (isFirst (λ j. fits job (bidding job j)) k))
-      (sym (smallest-first (λ j. fits job (bidding job j)) (allowance Bidding job) (e .0) (omega (arith, e .1)) (e .2))) (e .2)
+      (sym (smallest-first (λ j. fits job (bidding job j)) (allowance (Second (job .startup)) Bidding job) (e .0) (omega (arith, e .1)) (e .2))) (e .2)
 
   pub rounds-first : T (not (fits job (ideal job))) → T (isFirst (λ k. meet (ends job k)) (bisectionRounds job))
   unfolding bisectionRounds
   rounds-first t =
       let e = bisection-ends can t in
       subst (λ (k : ℕ). T (isFirst (λ j. meet (ends job j)) k))
-      (sym (smallest-first (λ j. meet (ends job j)) (allowance Bisection job) (e .0) (omega (arith, bisection-allowed can t (e .0) (e .2))) (e .2)))
+      (sym (smallest-first (λ j. meet (ends job j)) (allowance (Second (job .startup)) Bisection job) (e .0) (omega (arith, bisection-allowed can (Second (job .startup)) t (e .0) (e .2))) (e .2)))
       (e .2)
 
   -- Every method ends, with the count and the bottleneck of the definitions.
@@ -160,7 +165,7 @@ module _ {job : Job} (can : Plannable job) where
   method-unique m n B x = method-counts job m n (countBy m job) B (foundBy m job) x (method-is m)
 
   -- Every plan has the separators of the definition, which is the best partition.
-  pub plan-separators : (m : Method) {plan : Plan} → PlanBy m job plan → plan .separators ≡ planOf job
+  pub plan-separators : {edition : Edition} (m : Method) {plan : Plan} → PlanBy edition m job plan → plan .separators ≡ planOf job
   unfolding planOf
   plan-separators m {plan} x = x .walked ∙ least-alike (method-least m (plan .count) (x .found) (x .ended)) least-bottleneck
 
@@ -169,27 +174,27 @@ module _ {job : Job} (can : Plannable job) where
   plan-of-best = least-best (can .proper) least-bottleneck
 
   -- No partition has a smaller bottleneck; of an equal one each separator is at or before the plan's.
-  pub plan-best : (m : Method) {plan : Plan} → PlanBy m job plan → Best job (plan .separators)
+  pub plan-best : {edition : Edition} (m : Method) {plan : Plan} → PlanBy edition m job plan → Best job (plan .separators)
   plan-best m x = subst (Best job) (sym (plan-separators m x)) plan-of-best
 
   -- Every plan, by whichever methods, has the same separators.
-  pub plans-agree : (m k : Method) {plan other : Plan} → PlanBy m job plan → PlanBy k job other → plan .separators ≡ other .separators
+  pub plans-agree : {edition : Edition} (m k : Method) {plan other : Plan} → PlanBy edition m job plan → PlanBy edition k job other → plan .separators ≡ other .separators
   plans-agree m k x y = best-unique (plan-best m x) (plan-best k y)
 
   -- The count that a plan carries is within the allowance that it carries.
-  pub plan-allowed : (m : Method) {plan : Plan} → PlanBy m job plan → plan .count ≤ plan .allowed
-  plan-allowed m {plan} x = subst (λ (n : ℕ). plan .count ≤ n) (sym (x .allows)) (method-allowed m (plan .count) (x .found) (x .ended))
+  pub plan-allowed : {edition : Edition} → OfEdition edition job → (m : Method) {plan : Plan} → PlanBy edition m job plan → plan .count ≤ plan .allowed
+  plan-allowed of m {plan} x = subst (λ (n : ℕ). plan .count ≤ n) (sym (x .allows)) (method-allowed of m (plan .count) (x .found) (x .ended))
 
   -- Every method has a plan.
-  pub plan-exists : (m : Method) → (plan : Plan) × PlanBy m job plan
-  plan-exists m = go (method-ends m)
+  pub plan-exists : (edition : Edition) (m : Method) → (plan : Plan) × PlanBy edition m job plan
+  plan-exists edition m = go (method-ends m)
     where
-      go : (n : ℕ) × (B : Bound) × MethodEnds m job n B → (plan : Plan) × PlanBy m job plan
+      go : (n : ℕ) × (B : Bound) × MethodEnds m job n B → (plan : Plan) × PlanBy edition m job plan
       go (n, B, e) = (
         record {
           separators = walk job B;
           count = n;
-          allowed = allowance m job;
+          allowed = allowance edition m job;
           bound = bottleneck job (walk job B);
           excess = imbalance job (bottleneck job (walk job B));
         },

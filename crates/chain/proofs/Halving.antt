@@ -1,4 +1,4 @@
--- Halving the row gives a partition whose loads are at most Wtot/P + heaviest × (P − 1)/P: each split leaves at most half of its part and half
+-- Halving the row gives a partition whose loads are at most Wtot/P + heaviest × (P − 1)/P + c: each split leaves at most half of its part and half
 -- the heaviest weight on either side.
 -- Assumes nothing.
 use Prim.Native.Nat.{ℕ, zero, suc, _+_, _-_, _*_, _/_, _%_, _^_, _≤_, _<_}
@@ -261,9 +261,9 @@ module _ (job : Job) (row : Halvable (job .speeds)) where
   unfolding speedOf
   same-speed p h = row .equal p h
 
-  -- P times every load is at most Wtot + heaviest × (P − 1).
+  -- P times every load is at most Wtot + heaviest × (P − 1) + c × P.
   halving-light : (p : ℕ) → p < processors job
-      → processors job * partLoad job (at (halving job) p) (at (halving job) (suc p)) ≤ totalWeight job + heaviest job * last job
+      → processors job * partLoad job (at (halving job) p) (at (halving job) (suc p)) ≤ totalWeight job + heaviest job * last job + job .startup * processors job
   halving-light p h =
       let a = at (halving job) p in
       let b = at (halving job) (suc p) in
@@ -279,10 +279,10 @@ module _ (job : Job) (row : Halvable (job .speeds)) where
     bottleneck-speed = bottleneck-cases ok (λ B. B .speed ≡ speedOf job 0) (halving job) (λ p h. same-speed p h)
 
     -- So is P times the bottleneck's load, which is the greatest of all.
-    pub halving-bound : processors job * (bottleneck job (halving job)) .load ≤ totalWeight job + heaviest job * last job
+    pub halving-bound : processors job * (bottleneck job (halving job)) .load ≤ totalWeight job + heaviest job * last job + job .startup * processors job
     unfolding boundAt partBound
     halving-bound =
-        bottleneck-cases ok (λ B. processors job * B .load ≤ totalWeight job + heaviest job * last job) (halving job) halving-light
+        bottleneck-cases ok (λ B. processors job * B .load ≤ totalWeight job + heaviest job * last job + job .startup * processors job) (halving job) halving-light
 
     pub halving-greatest : (p : ℕ) → p < processors job
         → partLoad job (at (halving job) p) (at (halving job) (suc p)) ≤ (bottleneck job (halving job)) .load

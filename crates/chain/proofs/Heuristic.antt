@@ -1,4 +1,4 @@
--- The heuristic gives a partition, and its bottleneck is at most the ideal plus its margin, heaviest/slowest: the separators grow since the
+-- The heuristic gives a partition, and its bottleneck is at most the ideal plus its margin, (heaviest + c)/slowest: the separators grow since the
 -- targets do, and each lies within half the heaviest weight of its target.
 -- Assumes nothing.
 use Prim.Native.Nat.{ℕ, zero, suc, _+_, _*_, _≤_, _<_}
@@ -178,9 +178,9 @@ module _ {job : Job} (ok : Proper job) where
 
   load-close : (p : ℕ) → p < processors job
       → partLoad job (at (heuristic job) p) (at (heuristic job) (suc p)) * totalSpeed job
-      ≤ totalWeight job * speedOf job p + heaviest job * totalSpeed job
+      ≤ totalWeight job * speedOf job p + (heaviest job + job .startup) * totalSpeed job
   load-close p h =
-      le-trans (mul-le-mul-right (totalSpeed job) (load-le job (at (heuristic job) p) (at (heuristic job) (suc p)))) (weight-close p h)
+      omega (arith, mul-le-mul-right (totalSpeed job) (load-le job (at (heuristic job) p) (at (heuristic job) (suc p))), weight-close p h)
 
   -- Every part of the heuristic is within the sum of the ideal and the margin.
   pub heuristic-close : Within job (heuristic job) (plus (ideal job) (margin job))
@@ -190,7 +190,7 @@ module _ {job : Job} (ok : Proper job) where
       (λ p h.
       make-le
       (cross (partLoad job (at (heuristic job) p) (at (heuristic job) (suc p))) (totalSpeed job) (totalWeight job)
-      (speedOf job p) (heaviest job) (slowest job) (load-close p h) (speed-slowest job p h)))
+      (speedOf job p) (heaviest job + job .startup) (slowest job) (load-close p h) (speed-slowest job p h)))
 
   -- So is its bottleneck.
   pub heuristic-bound : bottleneck job (heuristic job) ≼ plus (ideal job) (margin job)

@@ -14,7 +14,7 @@ use Rattle.bound.proofs.Order.{open-le, make-le, le-trans}
 use Rattle.chain.specs.Lists.{sumTo}
 use Rattle.chain.specs.Job.{Job, tasks, processors, last, speedOf, partWeight, totalWeight, totalSpeed, partBound, at, Partition, boundAt, bottleneck, ideal, Within}
 use Rattle.chain.proofs.Sums.{sum-is-sumTo}
-use Rattle.chain.proofs.Parts.{Proper, weight-split, weight-empty, weight-all, load-le, weight-le-load}
+use Rattle.chain.proofs.Parts.{Proper, weight-split, weight-empty, weight-all, load-plain, weight-le-load}
 use Rattle.chain.proofs.Within.{bounds-within}
 use Rattle.chain.proofs.Bottleneck.{processors-last, bottleneck-real, part-le-bottleneck, within-bottleneck, bottleneck-cases}
 
@@ -42,15 +42,14 @@ module _ {job : Job} (ok : Proper job) where
   unfolding ideal
   ideal-finite = record { speed-positive = total-speed-positive }
 
-  -- A single processor's part of all tasks is within it.
-  pub ideal-single : last job ≡ 0 → partBound job 0 0 (tasks job) ≼ ideal job
+  -- Without start-up work a single processor's part of all tasks is within it.
+  pub ideal-single : job .startup ≡ 0 → last job ≡ 0 → partBound job 0 0 (tasks job) ≼ ideal job
   unfolding ideal partBound sumTo
-  ideal-single e =
+  ideal-single c e =
       make-le
       (omega (
         arith,
-        mul-le-mul-right (totalSpeed job) (load-le job 0 (tasks job)),
-        ap (λ (w : ℕ). w * totalSpeed job) (weight-all job),
+        ap (λ (w : ℕ). w * totalSpeed job) (load-plain job c 0 (tasks job) ∙ weight-all job),
         ap (λ (v : ℕ). totalWeight job * v) (total-speed-is job ∙ ap (sumTo (speedOf job)) (processors-last ok ∙ ap suc e)),
       ))
 

@@ -5,20 +5,20 @@ use mathlib.Core.Path.{_≡_, refl}
 use mathlib.Core.Bool.{Bool, true, false}
 use mathlib.Core.List.{List, [], _∷_}
 use lib.ListN.{replicate}
-use Rattle.chain.specs.Limits.{maxTasks, maxWeight, maxProcessors, maxSpeed, maxBoundLoad, maxBoundSpeed}
+use Rattle.chain.specs.Limits.{maxTasks, maxWeight, maxStartup, maxProcessors, maxSpeed, maxBoundLoad, maxBoundSpeed}
 use Rattle.chain.specs.Job.{jobOf}
-use Rattle.chain.specs.Refusal.{eachBetween, speedsTest, weightsTest, processorsTest, tasksTest, boundTest, firstRefusal, jobTests}
+use Rattle.chain.specs.Refusal.{eachBetween, startupTest, speedsTest, weightsTest, processorsTest, tasksTest, boundTest, firstRefusal, jobTests}
 
 -- The job of these speeds and weights gives this number.
 abbrev gives : List ℕ → List ℕ → ℕ → Type 0
-gives es ws n = firstRefusal (jobTests (jobOf es ws)) ≡ n
+gives es ws n = firstRefusal (jobTests (jobOf 0 es ws)) ≡ n
 
 -- Scope 11.4: "Speed 10,000 is taken; speeds 0 and 10,001 are refused with 5." Scope 11.5: "Weight 1,000,000 is taken; weight 1,000,001 is
 -- refused with 6."
 pub values-limited :
     gives (1 ∷ []) [] 0 × gives (10000 ∷ []) [] 0 × gives (0 ∷ []) [] 5 × gives (10001 ∷ []) [] 5 × gives (1 ∷ []) (1000000 ∷ []) 0
     × gives (1 ∷ []) (1000001 ∷ []) 6
-unfolding firstRefusal jobTests speedsTest weightsTest processorsTest tasksTest eachBetween maxTasks maxWeight maxProcessors maxSpeed
+unfolding firstRefusal jobTests startupTest speedsTest weightsTest processorsTest tasksTest eachBetween maxTasks maxWeight maxStartup maxProcessors maxSpeed
 values-limited = (refl, refl, refl, refl, refl, refl)
 
 -- Scope 11.6: "96 machines are taken; none and 97 are refused with 7, with 2,049 tiles too." Scope 11.7: "2,048 tiles are taken; 2,049 are
@@ -26,12 +26,12 @@ values-limited = (refl, refl, refl, refl, refl, refl)
 pub counts-limited :
     gives (replicate 96 1) [] 0 × gives [] [] 7 × gives (replicate 97 1) [] 7 × gives [] (replicate 2049 0) 7
     × gives (replicate 97 1) (replicate 2049 0) 7 × gives (replicate 96 1) (replicate 2048 0) 0 × gives (replicate 96 1) (replicate 2049 0) 8
-unfolding firstRefusal jobTests speedsTest weightsTest processorsTest tasksTest eachBetween maxTasks maxWeight maxProcessors maxSpeed
+unfolding firstRefusal jobTests startupTest speedsTest weightsTest processorsTest tasksTest eachBetween maxTasks maxWeight maxStartup maxProcessors maxSpeed
 counts-limited = (refl, refl, refl, refl, refl, refl, refl)
 
 -- Scope 8.4: "In lists all speeds are tested before all weights."
 pub speeds-first : gives (0 ∷ []) (1000001 ∷ []) 5 × gives [] (1000001 ∷ []) 6
-unfolding firstRefusal jobTests speedsTest weightsTest processorsTest tasksTest eachBetween maxTasks maxWeight maxProcessors maxSpeed
+unfolding firstRefusal jobTests startupTest speedsTest weightsTest processorsTest tasksTest eachBetween maxTasks maxWeight maxStartup maxProcessors maxSpeed
 speeds-first = (refl, refl)
 
 -- A lent bound of this load and this speed passes, or does not.

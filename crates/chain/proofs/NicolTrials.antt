@@ -13,7 +13,7 @@ use borrow.Author.Tests.{eq-eqb, lt-ltb, le-ltb}
 use Rattle.bound.specs.declared.Bound.{Bound}
 use Rattle.bound.specs.Order.{nought, pick}
 use Rattle.chain.specs.Lists.{sumTo, all, isFirst, digits}
-use Rattle.chain.specs.Job.{Job, tasks, last}
+use Rattle.chain.specs.Job.{Edition, Job, tasks, last}
 use Rattle.chain.specs.Nicol.{Range, fitsAt, firstFit, startOn, leastCandidate, emptyFits, Comes, nextRange, rangeAfter, single, settled}
 use Rattle.chain.specs.Plan.{TrialsTo, NicolEnds, early, whole, allowance, nicolTrials, nicolStop}
 use Rattle.chain.specs.declared.Method.the-variants.{Nicol}
@@ -176,9 +176,9 @@ trials-unique {job} {n} x y =
 
 module _ {job : Job} (can : Plannable job) where
   -- within the allowance,
-  pub trials-allowed : (n c : ℕ) → n ≤ last job → ((p : ℕ) → p < n → Comes job p) → TrialsTo job n c → c ≤ allowance Nicol job
+  pub trials-allowed : (edition : Edition) (n c : ℕ) → n ≤ last job → ((p : ℕ) → p < n → Comes job p) → TrialsTo job n c → c ≤ allowance edition Nicol job
   unfolding allowance
-  trials-allowed n c h comes t =
+  trials-allowed edition n c h comes t =
       omega (
         arith,
         t .counted,
@@ -216,9 +216,9 @@ module _ {job : Job} (can : Plannable job) where
   nicol-least (whole t c e) = subst (Least job) (sym e) (candidates-least can (none-comes t))
 
   -- within its allowance,
-  pub nicol-allowed : {n : ℕ} {B : Bound} → NicolEnds job n B → n ≤ allowance Nicol job
-  nicol-allowed {n} (early p l t c e) = trials-allowed can (suc p) n l (λ q h. comes-sooner (omega arith) (first-comes t)) c
-  nicol-allowed {n} (whole t c e) = trials-allowed can (last job) n (omega arith) (λ q h. comes-sooner (omega arith) (none-comes t)) c
+  pub nicol-allowed : (edition : Edition) {n : ℕ} {B : Bound} → NicolEnds job n B → n ≤ allowance edition Nicol job
+  nicol-allowed edition {n} (early p l t c e) = trials-allowed can edition (suc p) n l (λ q h. comes-sooner (omega arith) (first-comes t)) c
+  nicol-allowed edition {n} (whole t c e) = trials-allowed can edition (last job) n (omega arith) (λ q h. comes-sooner (omega arith) (none-comes t)) c
 
   -- with the count and the bottleneck of the definitions.
   pub nicol-is : NicolEnds job (sumTo (nicolTrials job) (cond (ltb (nicolStop job) (last job)) (suc (nicolStop job)) (last job)))

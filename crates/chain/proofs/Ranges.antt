@@ -11,7 +11,7 @@ use lib.Dec.{T, leb, leb→le, le→leb, lit<, lit≤}
 use Rattle.bound.specs.declared.Bound.{Bound}
 use Rattle.bound.specs.Order.{nought, infinite, lesser, middle}
 use Rattle.bound.proofs.Order.{lesser-cases}
-use Rattle.chain.specs.Limits.{maxTasks, maxWeight, maxLoad, maxProcessors, maxSpeed, maxBoundLoad, maxBoundSpeed}
+use Rattle.chain.specs.Limits.{maxTasks, maxWeight, maxStartup, maxLoad, maxProcessors, maxSpeed, maxBoundLoad, maxBoundSpeed}
 use Rattle.chain.specs.Ranges.{Small, Lendable, Narrow}
 use Rattle.chain.specs.Lists.{sumTo}
 use Rattle.chain.specs.Job.{Job, tasks, processors, speedOf, Valid, partWeight, partLoad, totalWeight, totalSpeed, heaviest, fastest, partBound, offer, at, boundAt, bottleneck, ideal}
@@ -29,7 +29,7 @@ use Rattle.chain.proofs.Tests.{and-left, and-right, and-both}
 
 -- The limits: what their numbers come to. Loads fit 32 bits,
 pub loads-fit : maxLoad < 2 ^ 32
-unfolding maxLoad maxTasks maxWeight
+unfolding maxLoad maxTasks maxWeight maxStartup
 loads-fit = lit< tt
 
 -- (of all tasks together, and so of one)
@@ -37,9 +37,9 @@ weights-loads : maxTasks * maxWeight ≤ maxLoad
 unfolding maxLoad
 weights-loads = omega arith
 
-weight-load : maxWeight ≤ maxLoad
-unfolding maxLoad maxTasks maxWeight
-weight-load = lit≤ tt
+breadth-load : maxWeight + maxStartup ≤ maxLoad
+unfolding maxLoad maxTasks maxWeight maxStartup
+breadth-load = lit≤ tt
 
 -- and so do indices,
 tasks-fit : maxTasks < 2 ^ 32
@@ -68,7 +68,7 @@ unfolding maxBoundSpeed
 lent-speed-fits = lit< tt
 
 load-lendable : maxLoad ≤ maxBoundLoad
-unfolding maxLoad maxTasks maxWeight maxBoundLoad
+unfolding maxLoad maxTasks maxWeight maxStartup maxBoundLoad
 load-lendable = lit≤ tt
 
 speed-lendable : maxSpeed ≤ maxBoundSpeed
@@ -80,7 +80,7 @@ unfolding maxProcessors maxSpeed maxBoundSpeed
 total-speed-lendable = lit≤ tt
 
 middle-load-lendable : maxLoad * maxSpeed + maxLoad * maxSpeed ≤ maxBoundLoad
-unfolding maxLoad maxTasks maxWeight maxSpeed maxBoundLoad
+unfolding maxLoad maxTasks maxWeight maxStartup maxSpeed maxBoundLoad
 middle-load-lendable = lit≤ tt
 
 middle-speed-lendable : 2 * (maxSpeed * maxSpeed) ≤ maxBoundSpeed
@@ -88,7 +88,7 @@ unfolding maxSpeed maxBoundSpeed
 middle-speed-lendable = lit≤ tt
 
 load-by-lent-speed : maxLoad * maxBoundSpeed < 2 ^ 64
-unfolding maxLoad maxTasks maxWeight maxBoundSpeed
+unfolding maxLoad maxTasks maxWeight maxStartup maxBoundSpeed
 load-by-lent-speed = lit< tt
 
 lent-load-by-speed : maxBoundLoad * maxSpeed < 2 ^ 64
@@ -96,26 +96,28 @@ unfolding maxBoundLoad maxSpeed
 lent-load-by-speed = lit< tt
 
 load-by-speed : maxLoad * maxSpeed < 2 ^ 64
-unfolding maxLoad maxTasks maxWeight maxSpeed
+unfolding maxLoad maxTasks maxWeight maxStartup maxSpeed
 load-by-speed = lit< tt
 
 load-by-total-speed : maxLoad * (maxProcessors * maxSpeed) < 2 ^ 64
-unfolding maxLoad maxTasks maxWeight maxProcessors maxSpeed
+unfolding maxLoad maxTasks maxWeight maxStartup maxProcessors maxSpeed
 load-by-total-speed = lit< tt
 
 thousand-loads : 1000 * (maxLoad * (maxProcessors * maxSpeed)) < 2 ^ 64
-unfolding maxLoad maxTasks maxWeight maxProcessors maxSpeed
+unfolding maxLoad maxTasks maxWeight maxStartup maxProcessors maxSpeed
 thousand-loads = lit< tt
 
 load-by-speeds : maxLoad * (maxSpeed * maxSpeed) < 2 ^ 64
-unfolding maxLoad maxTasks maxWeight maxSpeed
+unfolding maxLoad maxTasks maxWeight maxStartup maxSpeed
 load-by-speeds = lit< tt
 
 module _ {job : Job} (v : Valid job) where
   -- All weight is within the limit of a load.
+  total-weight-small : totalWeight job ≤ maxTasks * maxWeight
+  total-weight-small = le-trans (sum-limit (job .weights) 0 maxWeight (v .weights-limit)) (mul-le-mul-right maxWeight (v .tasks-limit))
+
   pub total-weight-limit : totalWeight job ≤ maxLoad
-  total-weight-limit =
-      le-trans (sum-limit (job .weights) 0 maxWeight (v .weights-limit)) (le-trans (mul-le-mul-right maxWeight (v .tasks-limit)) weights-loads)
+  total-weight-limit = le-trans total-weight-small weights-loads
 
   -- No part weighs more than all tasks.
   pub weight-limit : (a b : ℕ) → partWeight job a b ≤ totalWeight job
@@ -123,7 +125,8 @@ module _ {job : Job} (v : Valid job) where
 
   -- Every load is within the limit of a load.
   pub load-limit : (a b : ℕ) → partLoad job a b ≤ maxLoad
-  load-limit a b = le-trans (load-le job a b) (le-trans (weight-limit a b) total-weight-limit)
+  unfolding maxLoad
+  load-limit a b = omega (arith, load-le job a b, weight-limit a b, total-weight-small, v .startup-limit)
 
   -- All speed is within its limit.
   pub total-speed-limit : totalSpeed job ≤ maxProcessors * maxSpeed
@@ -195,7 +198,7 @@ module _ {job : Job} (v : Valid job) where
 
   -- The product of bisection's allowance.
   pub breadth-limit : breadth job ≤ maxLoad
-  breadth-limit = le-trans heaviest-limit weight-load
+  breadth-limit = omega (arith, heaviest-limit, v .startup-limit, breadth-load)
 
   pub difference-product : breadth job * (fastest job * fastest job) < 2 ^ 64
   difference-product = lt-of-le-of-lt (mul-le-mul breadth-limit (mul-le-mul fastest-limit fastest-limit)) load-by-speeds

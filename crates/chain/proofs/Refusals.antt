@@ -10,10 +10,10 @@ use native.Mathlib.Omega.{arith}
 use native.Mathlib.Decide.{ℕ-discrete}
 use lib.Dec.{T, leb, eqb, leb→le, le→leb, eqb→eq, eqb-refl, lit≤}
 use lib.ListN.{length, getD}
-use Rattle.chain.specs.Limits.{maxTasks, maxWeight, maxProcessors, maxSpeed}
+use Rattle.chain.specs.Limits.{maxTasks, maxWeight, maxStartup, maxProcessors, maxSpeed}
 use Rattle.chain.specs.Lists.{all}
 use Rattle.chain.specs.Job.{Job, tasks, processors, speedOf, partLoad, Valid, at, Partition}
-use Rattle.chain.specs.Refusal.{Test, between, eachBetween, methodTest, speedsTest, weightsTest, processorsTest, tasksTest, rowTest, lengthTest, boundTest, isPartition, partitionTest, PlanRecords, separatorsOf, planLengthTest, joined, joinedTest, trueAt, trueTest, firstRefusal, FirstFailing, jobTests, Inputs, planTests, callTests, refusal}
+use Rattle.chain.specs.Refusal.{Test, between, eachBetween, methodTest, startupTest, speedsTest, weightsTest, processorsTest, tasksTest, rowTest, lengthTest, boundTest, isPartition, partitionTest, PlanRecords, separatorsOf, planLengthTest, joined, joinedTest, trueAt, trueTest, firstRefusal, FirstFailing, jobTests, Inputs, planTests, callTests, refusal}
 use Rattle.chain.proofs.Tests.{T-of, and-left, and-right, and-both}
 use Rattle.chain.proofs.Indices.{all-at, all-of}
 
@@ -215,9 +215,9 @@ numbers-behind ns ms (t ∷ ts) h =
 
 -- The tests of a job have numbers above 0.
 pub job-numbered : (job : Job) → Numbered (jobTests job)
-unfolding jobTests speedsTest weightsTest processorsTest tasksTest
+unfolding jobTests startupTest speedsTest weightsTest processorsTest tasksTest
 job-numbered job =
-    numbered-cons (omega arith) (numbered-cons (omega arith) (numbered-cons (omega arith) (numbered-cons (omega arith) numbered-nil)))
+    numbered-cons (omega arith) (numbered-cons (omega arith) (numbered-cons (omega arith) (numbered-cons (omega arith) (numbered-cons (omega arith) numbered-nil))))
 
 -- The tests of a call have numbers above 0.
 pub call-numbered : (job : Job) (inputs : Inputs) → Numbered (callTests job inputs)
@@ -258,12 +258,13 @@ each-of lo hi d (x ∷ xs) h k =
 
 module _ {job : Job} where
   accepted-valid : firstRefusal (jobTests job) ≡ 0 → Valid job
-  unfolding jobTests speedsTest weightsTest processorsTest tasksTest speedOf maxSpeed
+  unfolding jobTests startupTest speedsTest weightsTest processorsTest tasksTest speedOf maxSpeed
   accepted-valid e =
       record {
+        startup-limit = leb→le (job .startup) maxStartup (passes (startupTest (job .startup)) (List·Memᴰ·head refl));
         some-processor = leb→le 1 (processors job) (and-left (leb 1 (processors job)) (leb (processors job) maxProcessors) count);
         processors-limit = leb→le (processors job) maxProcessors (and-right (leb 1 (processors job)) (leb (processors job) maxProcessors) count);
-        tasks-limit = leb→le (tasks job) maxTasks (passes (tasksTest (job .weights)) (List·Memᴰ·tail (List·Memᴰ·tail (List·Memᴰ·tail (List·Memᴰ·head refl)))));
+        tasks-limit = leb→le (tasks job) maxTasks (passes (tasksTest (job .weights)) (List·Memᴰ·tail (List·Memᴰ·tail (List·Memᴰ·tail (List·Memᴰ·tail (List·Memᴰ·head refl))))));
         weights-limit = λ i. each-at 0 maxWeight 0 (job .weights) (omega arith) (omega arith) weights i .1;
         speeds-positive = λ p. speed p .0;
         speeds-limit = λ p. speed p .1;
@@ -273,18 +274,19 @@ module _ {job : Job} where
       passes = accepted-passes (jobTests job) (job-numbered job) e
 
       weights : T (eachBetween 0 maxWeight (job .weights))
-      weights = passes (weightsTest (job .weights)) (List·Memᴰ·tail (List·Memᴰ·head refl))
+      weights = passes (weightsTest (job .weights)) (List·Memᴰ·tail (List·Memᴰ·tail (List·Memᴰ·head refl)))
 
       count : T (between 1 maxProcessors (processors job))
-      count = passes (processorsTest (job .speeds)) (List·Memᴰ·tail (List·Memᴰ·tail (List·Memᴰ·head refl)))
+      count = passes (processorsTest (job .speeds)) (List·Memᴰ·tail (List·Memᴰ·tail (List·Memᴰ·tail (List·Memᴰ·head refl))))
 
       speed : (p : ℕ) → (1 ≤ getD (job .speeds) p 1) × (getD (job .speeds) p 1 ≤ maxSpeed)
-      speed = each-at 1 maxSpeed 1 (job .speeds) (omega arith) (lit≤ tt) (passes (speedsTest (job .speeds)) (List·Memᴰ·head refl))
+      speed = each-at 1 maxSpeed 1 (job .speeds) (omega arith) (lit≤ tt) (passes (speedsTest (job .speeds)) (List·Memᴰ·tail (List·Memᴰ·head refl)))
 
   valid-accepted : Valid job → firstRefusal (jobTests job) ≡ 0
-  unfolding jobTests speedsTest weightsTest processorsTest tasksTest speedOf firstRefusal
+  unfolding jobTests startupTest speedsTest weightsTest processorsTest tasksTest speedOf firstRefusal
   valid-accepted v =
-      pass-skip (speedsTest es) (weightsTest ws ∷ processorsTest es ∷ tasksTest ws ∷ []) (each-of 1 maxSpeed 1 es (v .speeds-positive) (v .speeds-limit))
+      pass-skip (startupTest (job .startup)) (speedsTest es ∷ weightsTest ws ∷ processorsTest es ∷ tasksTest ws ∷ []) (le→leb (job .startup) maxStartup (v .startup-limit))
+      ∙ pass-skip (speedsTest es) (weightsTest ws ∷ processorsTest es ∷ tasksTest ws ∷ []) (each-of 1 maxSpeed 1 es (v .speeds-positive) (v .speeds-limit))
       ∙ pass-skip (weightsTest ws) (processorsTest es ∷ tasksTest ws ∷ []) (each-of 0 maxWeight 0 ws (λ i. omega arith) (v .weights-limit))
       ∙ pass-skip (processorsTest es) (tasksTest ws ∷ []) (and-both (leb 1 (length es)) (leb (length es) maxProcessors) (le→leb 1 (length es) (v .some-processor)) (le→leb (length es) maxProcessors (v .processors-limit)))
       ∙ pass-skip (tasksTest ws) [] (le→leb (length ws) maxTasks (v .tasks-limit))

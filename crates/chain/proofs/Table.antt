@@ -13,7 +13,7 @@ use Rattle.bound.specs.declared.Bound.{Bound}
 use Rattle.bound.specs.Order.{le, _≼_, _≺_, pick, greater, lesser, Real, Finite}
 use Rattle.bound.proofs.Order.{finite-or-not, le-speedless, le-refl, le-trans, lt-le, lt-le-trans, not-both, le-true, true-le, false-lt, greater-cases, greater-left, greater-right, greater-first, greater-second, greater-le, le-greater-left, le-greater-right, lesser-cases, lesser-left, lesser-right}
 use Rattle.chain.specs.Lists.{sumTo}
-use Rattle.chain.specs.Job.{Job, tasks, last, offer}
+use Rattle.chain.specs.Job.{Edition, Job, tasks, last, offer}
 use Rattle.chain.specs.Dynamic.{startOf, candidate, crossingOf, lesserAt, tableValue, crossing, movesTo, moves}
 use Rattle.chain.specs.Plan.{allowance}
 use Rattle.chain.specs.declared.Method.the-variants.{Table}
@@ -287,7 +287,7 @@ module _ {job : Job} (ok : Proper job) where
   moves-are-crossings = sum-same (λ p. moves-to-crossing p (tasks job)) (last job)
 
   -- The moves made are within the allowance.
-  pub moves-allowed : moves job ≤ allowance Table job
+  pub moves-allowed : (edition : Edition) → moves job ≤ allowance edition Table job
   unfolding allowance
-  moves-allowed =
+  moves-allowed edition =
       omega (arith, moves-are-crossings, sum-le (tasks job) (λ p. crossing-le p (tasks job)) (last job))

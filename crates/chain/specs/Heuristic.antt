@@ -1,14 +1,14 @@
 -- The heuristic of Miguet and Pierson ("quick plan"). Scope, section 4.
-use Prim.Native.Nat.{ℕ, suc, _*_}
+use Prim.Native.Nat.{ℕ, suc, _+_, _*_}
 use mathlib.Core.List.{List, [], _∷_, _++_}
 use Rattle.bound.specs.declared.Bound.{Bound}
 use Rattle.bound.specs.Order.{over}
 use Rattle.chain.specs.Lists.{tabulate, sumTo, smallestLeast, distance}
 use Rattle.chain.specs.Job.{Job, tasks, last, speedOf, partWeight, totalWeight, totalSpeed, heaviest, slowest}
 
--- By how much the quick plan exceeds the ideal at most. Scope 10.3: "heaviest weight / slowest speed".
+-- By how much the quick plan exceeds the ideal at most. Scope 10.3: "(heaviest weight + c) / slowest speed".
 abbrev pub margin : Job → Bound
-margin job = over (heaviest job) (slowest job)
+margin job = over (heaviest job + job .startup) (slowest job)
 
 -- How far W(1,i) is from Wtot × (e1 + … + ep) / Etot, times Etot. Scope 4.2: "Distances are compared exactly."
 unfoldable pub miss : Job → ℕ → ℕ → ℕ

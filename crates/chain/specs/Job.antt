@@ -1,24 +1,49 @@
 -- The job, its parts and its partitions. Scope, sections 1 and 2. Processors are counted from 0 here: processor p is
 -- the scope's machine p + 1, and a part from a to b is the scope's tiles a + 1 to b.
-use Prim.Native.Nat.{ℕ, zero, suc, _-_, _≤_, _<_}
+use Prim.Native.Nat.{ℕ, zero, suc, _+_, _-_, _≤_, _<_}
 use mathlib.Core.Path.{_≡_}
-use mathlib.Core.Bool.{Bool}
+use mathlib.Core.Bool.{Bool, true, false, cond}
 use mathlib.Core.List.{List, [], _∷_}
-use lib.Dec.{T}
+use lib.Dec.{T, ltb}
 use lib.ListN.{length, getD, take, drop}
 use Rattle.bound.specs.declared.Bound.{Bound}
 use Rattle.bound.specs.Order.{over, le, greater}
-use Rattle.chain.specs.Limits.{maxTasks, maxWeight, maxProcessors, maxSpeed}
-use Rattle.chain.specs.Lists.{sum, greatestOf, leastOf}
+use Rattle.chain.specs.Limits.{maxTasks, maxWeight, maxStartup, maxProcessors, maxSpeed}
+use Rattle.chain.specs.Lists.{sum, greatestOf, leastOf, sumTo}
 
--- A job: the weights of the tasks ("tiles") and the speeds of the processors ("machines"), in order.
+-- Scope 17.1: "A job is of the first edition, or of the second, which has start-up work c"
+pub data Edition : Type 0 where
+  First : Edition
+  Second : ℕ → Edition
+
+-- Scope 17.2: "In the first edition c counts as 0."
+unfoldable pub startupOf : Edition → ℕ
+startupOf First = 0
+startupOf (Second c) = c
+
+-- Scope 17.3: "By lists the edition is given as a yes or no, second or not, with c beside it; in the first edition that c is not looked at."
+unfoldable pub editionOf : Bool → ℕ → Edition
+editionOf true c = Second c
+editionOf false c = First
+
+-- The start-up work that counts where the edition is given so.
+abbrev pub startupBy : Bool → ℕ → ℕ
+startupBy second c = startupOf (editionOf second c)
+
+-- A job: the start-up work that counts, the weights of the tasks ("tiles") and the speeds of the processors ("machines"), in order. Its
+-- edition says no more of how it is divided: it stays with the file, the calls and the allowance of a plan.
 pub record Job : Type 0 where
+  pub startup : ℕ
   pub weights : List ℕ
   pub speeds : List ℕ
 
--- Scope 1.5: "A job may come as two lists"
-abbrev pub jobOf : List ℕ → List ℕ → Job
-jobOf es ws = record { weights = ws; speeds = es }
+-- Scope 1.5: "A job may come as two lists", with the start-up work that counts.
+abbrev pub jobOf : ℕ → List ℕ → List ℕ → Job
+jobOf c es ws = record { startup = c; weights = ws; speeds = es }
+
+-- The job is of the edition: its start-up work is the one that counts.
+pub record OfEdition (edition : Edition) (job : Job) : Type 0 where
+  pub counts : job .startup ≡ startupOf edition
 
 -- Scope 1.5: "P is then how many speeds there are, N how many weights."
 abbrev pub tasks : Job → ℕ
@@ -35,8 +60,9 @@ last job = processors job - 1
 unfoldable pub speedOf : Job → ℕ → ℕ
 speedOf job p = getD (job .speeds) p 1
 
--- Every count, weight and speed is within its limit.
+-- Every count, weight and speed and the start-up work is within its limit.
 pub record Valid (job : Job) : Type 0 where
+  pub startup-limit : job .startup ≤ maxStartup
   pub some-processor : 1 ≤ processors job
   pub processors-limit : processors job ≤ maxProcessors
   pub tasks-limit : tasks job ≤ maxTasks
@@ -53,9 +79,14 @@ partOf job a b = take (b - a) (drop a (job .weights))
 unfoldable pub partWeight : Job → ℕ → ℕ → ℕ
 partWeight job a b = sum (partOf job a b)
 
--- The load of a part: its weight.
+-- Scope 17.4: "The load of a share that has tiles is c plus their weight; an empty share has load 0." Of a list of tasks:
+unfoldable pub loadOf : ℕ → List ℕ → ℕ
+loadOf c [] = 0
+loadOf c (w ∷ ws) = c + sum (w ∷ ws)
+
+-- The load of a part.
 unfoldable pub partLoad : Job → ℕ → ℕ → ℕ
-partLoad job a b = partWeight job a b
+partLoad job a b = loadOf (job .startup) (partOf job a b)
 
 -- Scope 1.7: "Wtot is the weight of all tiles, Etot the speed of all machines."
 abbrev pub totalWeight : Job → ℕ
@@ -79,7 +110,7 @@ slowestOf (e ∷ es) = leastOf e es
 abbrev pub slowest : Job → ℕ
 slowest job = slowestOf (job .speeds)
 
--- Scope 2.4: "The bound of a share is its weight over the speed of its machine." The part from a to b on processor p.
+-- Scope 2.4: "The bound of a share is its load over the speed of its machine." The part from a to b on processor p.
 unfoldable pub partBound : Job → ℕ → ℕ → ℕ → Bound
 partBound job p a b = over (partLoad job a b) (speedOf job p)
 
@@ -101,6 +132,10 @@ pub record Partition (job : Job) (s : List ℕ) : Type 0 where
   pub first : at s 0 ≡ 0
   pub grows : (p : ℕ) → p < processors job → at s p ≤ at s (suc p)
   pub end : at s (processors job) ≡ tasks job
+
+-- How many machines have tiles.
+unfoldable pub busy : Job → List ℕ → ℕ
+busy job s = sumTo (λ p. cond (ltb (at s p) (at s (suc p))) 1 0) (processors job)
 
 -- Scope 1.10: "Machine p takes the tiles s(p−1) + 1 to sp, and may take none: its share." The bound of processor p's part.
 unfoldable pub boundAt : Job → List ℕ → ℕ → Bound

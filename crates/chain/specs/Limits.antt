@@ -1,5 +1,5 @@
 -- The limits of the scope, each by its name.
-use Prim.Native.Nat.{ℕ, _*_}
+use Prim.Native.Nat.{ℕ, _+_, _*_}
 
 -- Scope 1.1: "N tiles, 0 to 2,048"
 unfoldable pub maxTasks : ℕ
@@ -9,9 +9,13 @@ maxTasks = 2048
 unfoldable pub maxWeight : ℕ
 maxWeight = 1000000
 
+-- Scope 17.1: "c, 0 to 1,000,000"
+unfoldable pub maxStartup : ℕ
+maxStartup = 1000000
+
 -- The greatest load that a part can have.
 unfoldable pub maxLoad : ℕ
-maxLoad = maxTasks * maxWeight
+maxLoad = maxTasks * maxWeight + maxStartup
 
 -- Scope 1.3: "P machines, 1 to 96"
 unfoldable pub maxProcessors : ℕ

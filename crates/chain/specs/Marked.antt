@@ -10,7 +10,7 @@ use Rattle.chain.specs.declared.Method.{Method}
 use Rattle.chain.specs.declared.Method.the-variants.{Table, Bidding, Bisection, Nicol}
 use Rattle.chain.specs.declared.Outcome.{Outcome}
 use Rattle.chain.specs.declared.Outcome.the-variants.{Fits, Fails}
-use Rattle.chain.specs.Job.{Job, jobOf, processors, last, totalWeight, heaviest, at, bottleneck}
+use Rattle.chain.specs.Job.{Edition, First, Second, startupOf, Job, jobOf, processors, last, totalWeight, heaviest, at, bottleneck}
 use Rattle.chain.specs.Probe.{walk, walked, probe}
 use Rattle.chain.specs.Heuristic.{heuristic}
 use Rattle.chain.specs.Halving.{halving}
@@ -72,8 +72,8 @@ fieldsOf a b c d = a ∷ b ∷ c ∷ d ∷ []
 
 -- A row of the table.
 pub data Row : Type 0 where
-  -- a job's plan: separators, bottleneck, imbalance, counts, allowances
-  planned : Job → List ℕ → Bound → ℕ → Four → Four → Row
+  -- the plan of a job of this edition: separators, bottleneck, imbalance, counts, allowances
+  planned : Edition → Job → List ℕ → Bound → ℕ → Four → Four → Row
   -- a trial that fits, with its separators; one that fails, with its next bid and how far each machine got
   fitsWith : Job → Bound → List ℕ → Row
   failsWith : Job → Bound → Bound → List ℕ → Row
@@ -102,9 +102,9 @@ isFitting (Fails B) = false
 
 -- The row says what the definitions give.
 unfoldable pub holds : Row → Bool
-holds (planned job s B i n a) =
-    sameList (planOf job) s && samePair (bottleneck job s) B && eqb (imbalance job B) i && figuresAre (λ m. countBy m job) n
-    && figuresAre (λ m. allowance m job) a && walksAre job s
+holds (planned edition job s B i n a) =
+    eqb (job .startup) (startupOf edition) && sameList (planOf job) s && samePair (bottleneck job s) B && eqb (imbalance job B) i && figuresAre (λ m. countBy m job) n
+    && figuresAre (λ m. allowance edition m job) a && walksAre job s
 holds (fitsWith job B s) = isFitting (probe job B) && sameList (walk job B) s && sameList (walked job B) s
 holds (failsWith job B C s) = isFailing (probe job B) C && sameList (walked job B) s
 holds (quick job s B) = sameList (heuristic job) s && samePair (bottleneck job s) B
@@ -122,36 +122,36 @@ everyHolds [] = true
 everyHolds (r ∷ rs) = holds r && everyHolds rs
 
 abbrev pub jobA : Job
-jobA = jobOf (1 ∷ 3 ∷ []) (1 ∷ 3 ∷ 8 ∷ [])
+jobA = jobOf 0 (1 ∷ 3 ∷ []) (1 ∷ 3 ∷ 8 ∷ [])
 
 abbrev pub jobB : Job
-jobB = jobOf (1 ∷ 2 ∷ []) (4 ∷ 3 ∷ 2 ∷ 6 ∷ 1 ∷ [])
+jobB = jobOf 0 (1 ∷ 2 ∷ []) (4 ∷ 3 ∷ 2 ∷ 6 ∷ 1 ∷ [])
 
 abbrev pub jobC : Job
-jobC = jobOf (7 ∷ 2 ∷ []) []
+jobC = jobOf 0 (7 ∷ 2 ∷ []) []
 
 abbrev pub jobD : Job
-jobD = jobOf (1 ∷ 1 ∷ []) (0 ∷ 0 ∷ [])
+jobD = jobOf 0 (1 ∷ 1 ∷ []) (0 ∷ 0 ∷ [])
 
 abbrev pub jobE : Job
-jobE = jobOf (1 ∷ 1 ∷ []) (6 ∷ [])
+jobE = jobOf 0 (1 ∷ 1 ∷ []) (6 ∷ [])
 
 -- The table, with the figures of the scope's section 11. Scope 11.1: "A trial of A at 3/1 fails with next bid 11/3 and writes 0 1 2; at
 -- 11/3 it fits; at 23/6 it fits with 0 1 3." Scope 11.2: "The quick plan of A is 0 2 3 with bottleneck 4/1." Scope 11.3: "Measuring 0 3 3 of A gives 12/1;
 -- measuring 0 2 2 of A is refused with 11." Scope 11.10: "The quick plan is not the plan: of A its bottleneck is 4/1, the plan's 11/3."
 unfoldable pub marked : List Row
 marked =
-    planned jobA (0 ∷ 1 ∷ 3 ∷ []) (over 11 3) 223 (four 2 2 2 2) (four 3 4 8 2)
+    planned First jobA (0 ∷ 1 ∷ 3 ∷ []) (over 11 3) 223 (four 2 2 2 2) (four 3 4 8 2)
     ∷ failsWith jobA (over 3 1) (over 11 3) (0 ∷ 1 ∷ 2 ∷ [])
     ∷ fitsWith jobA (over 11 3) (0 ∷ 1 ∷ 3 ∷ [])
     ∷ fitsWith jobA (over 23 6) (0 ∷ 1 ∷ 3 ∷ [])
     ∷ quick jobA (0 ∷ 2 ∷ 3 ∷ []) (over 4 1)
     ∷ measures jobA (0 ∷ 3 ∷ 3 ∷ []) (over 12 1)
     ∷ refused jobA (0 ∷ 2 ∷ 2 ∷ []) 11
-    ∷ planned jobB (0 ∷ 1 ∷ 5 ∷ []) (over 12 2) 125 (four 2 2 1 2) (four 5 6 6 3)
-    ∷ planned jobC (0 ∷ 0 ∷ 0 ∷ []) (over 0 7) 0 (four 0 1 1 0) (four 0 1 1 0)
-    ∷ planned jobD (0 ∷ 2 ∷ 2 ∷ []) (over 0 1) 0 (four 0 1 1 2) (four 2 3 1 2)
-    ∷ planned jobE (0 ∷ 1 ∷ 1 ∷ []) (over 6 1) 1000 (four 1 2 1 1) (four 1 2 4 1)
+    ∷ planned First jobB (0 ∷ 1 ∷ 5 ∷ []) (over 12 2) 125 (four 2 2 1 2) (four 5 6 6 3)
+    ∷ planned First jobC (0 ∷ 0 ∷ 0 ∷ []) (over 0 7) 0 (four 0 1 1 0) (four 0 1 1 0)
+    ∷ planned First jobD (0 ∷ 2 ∷ 2 ∷ []) (over 0 1) 0 (four 0 1 1 2) (four 2 3 1 2)
+    ∷ planned First jobE (0 ∷ 1 ∷ 1 ∷ []) (over 6 1) 1000 (four 1 2 1 1) (four 1 2 4 1)
     ∷ []
 
 -- Beside the marked jobs: two bids that tie, 3/1 and 6/2; how far three trials got. Scope 11.17: "A trial of B at 4/1 fails with next
@@ -167,17 +167,17 @@ marked =
 -- before a gap.
 unfoldable pub worked : List Row
 worked =
-    failsWith (jobOf (1 ∷ 2 ∷ []) (3 ∷ 3 ∷ [])) (over 0 1) (over 3 1) (0 ∷ 0 ∷ 0 ∷ [])
+    failsWith (jobOf 0 (1 ∷ 2 ∷ []) (3 ∷ 3 ∷ [])) (over 0 1) (over 3 1) (0 ∷ 0 ∷ 0 ∷ [])
     ∷ failsWith jobB (over 4 1) (over 12 2) (0 ∷ 1 ∷ 3 ∷ [])
     ∷ failsWith jobE (over 5 1) (over 6 1) (0 ∷ 0 ∷ 0 ∷ [])
-    ∷ failsWith (jobOf (1 ∷ []) (2 ∷ 0 ∷ 3 ∷ [])) (over 2 1) (over 5 1) (0 ∷ 2 ∷ [])
-    ∷ quick (jobOf (1 ∷ 3 ∷ []) (1 ∷ 1 ∷ [])) (0 ∷ 0 ∷ 2 ∷ []) (over 2 3)
-    ∷ planned (jobOf (2 ∷ 3 ∷ 3 ∷ []) (6 ∷ 3 ∷ 4 ∷ 1 ∷ [])) (0 ∷ 0 ∷ 1 ∷ 4 ∷ []) (over 8 3) 524 (four 3 3 3 5) (four 8 9 6 6)
-    ∷ planned (jobOf (1 ∷ 1 ∷ []) (5 ∷ 1 ∷ [])) (0 ∷ 1 ∷ 2 ∷ []) (over 5 1) 667 (four 1 2 1 2) (four 2 3 4 2)
-    ∷ planned (jobOf (1 ∷ 1 ∷ 1 ∷ []) (2 ∷ 2 ∷ 2 ∷ 2 ∷ 2 ∷ 2 ∷ [])) (0 ∷ 2 ∷ 4 ∷ 6 ∷ []) (over 4 1) 0 (four 7 1 1 5) (four 12 13 3 6)
-    ∷ planned (jobOf (1 ∷ 1 ∷ 1 ∷ []) (0 ∷ 0 ∷ [])) (0 ∷ 2 ∷ 2 ∷ 2 ∷ []) (over 0 1) 0 (four 0 1 1 2) (four 4 5 1 4)
-    ∷ planned (jobOf (3 ∷ []) (5 ∷ 2 ∷ [])) (0 ∷ 2 ∷ []) (over 7 3) 0 (four 0 1 1 0) (four 0 1 5 0)
-    ∷ planned (jobOf (1 ∷ 1 ∷ []) (1000 ∷ 1001 ∷ [])) (0 ∷ 1 ∷ 2 ∷ []) (over 1001 1) 1 (four 2 2 1 1) (four 2 3 11 2)
+    ∷ failsWith (jobOf 0 (1 ∷ []) (2 ∷ 0 ∷ 3 ∷ [])) (over 2 1) (over 5 1) (0 ∷ 2 ∷ [])
+    ∷ quick (jobOf 0 (1 ∷ 3 ∷ []) (1 ∷ 1 ∷ [])) (0 ∷ 0 ∷ 2 ∷ []) (over 2 3)
+    ∷ planned First (jobOf 0 (2 ∷ 3 ∷ 3 ∷ []) (6 ∷ 3 ∷ 4 ∷ 1 ∷ [])) (0 ∷ 0 ∷ 1 ∷ 4 ∷ []) (over 8 3) 524 (four 3 3 3 5) (four 8 9 6 6)
+    ∷ planned First (jobOf 0 (1 ∷ 1 ∷ []) (5 ∷ 1 ∷ [])) (0 ∷ 1 ∷ 2 ∷ []) (over 5 1) 667 (four 1 2 1 2) (four 2 3 4 2)
+    ∷ planned First (jobOf 0 (1 ∷ 1 ∷ 1 ∷ []) (2 ∷ 2 ∷ 2 ∷ 2 ∷ 2 ∷ 2 ∷ [])) (0 ∷ 2 ∷ 4 ∷ 6 ∷ []) (over 4 1) 0 (four 7 1 1 5) (four 12 13 3 6)
+    ∷ planned First (jobOf 0 (1 ∷ 1 ∷ 1 ∷ []) (0 ∷ 0 ∷ [])) (0 ∷ 2 ∷ 2 ∷ 2 ∷ []) (over 0 1) 0 (four 0 1 1 2) (four 4 5 1 4)
+    ∷ planned First (jobOf 0 (3 ∷ []) (5 ∷ 2 ∷ [])) (0 ∷ 2 ∷ []) (over 7 3) 0 (four 0 1 1 0) (four 0 1 5 0)
+    ∷ planned First (jobOf 0 (1 ∷ 1 ∷ []) (1000 ∷ 1001 ∷ [])) (0 ∷ 1 ∷ 2 ∷ []) (over 1001 1) 1 (four 2 2 1 1) (four 2 3 11 2)
     ∷ filed jobA (fieldsOf 0 1 1 1 ∷ fieldsOf 1 3 11 3 ∷ []) 0
     ∷ filed jobA (fieldsOf 0 1 1 1 ∷ []) 12
     ∷ filed jobA (fieldsOf 0 1 1 1 ∷ fieldsOf 1 3 11 3 ∷ fieldsOf 3 3 0 1 ∷ []) 12
@@ -194,50 +194,50 @@ worked =
     ∷ best jobD (0 ∷ 0 ∷ 2 ∷ [])
     ∷ best jobD (0 ∷ 1 ∷ 2 ∷ [])
     ∷ best jobE (0 ∷ 0 ∷ 1 ∷ [])
-    ∷ best (jobOf (1 ∷ 2 ∷ []) (2 ∷ 2 ∷ [])) (0 ∷ 0 ∷ 2 ∷ [])
-    ∷ measures (jobOf (1 ∷ 2 ∷ []) (2 ∷ 2 ∷ [])) (0 ∷ 0 ∷ 2 ∷ []) (over 4 2)
-    ∷ planned (jobOf (1 ∷ 2 ∷ []) (2 ∷ 2 ∷ [])) (0 ∷ 1 ∷ 2 ∷ []) (over 2 1) 500 (four 1 2 1 2) (four 2 3 5 2)
+    ∷ best (jobOf 0 (1 ∷ 2 ∷ []) (2 ∷ 2 ∷ [])) (0 ∷ 0 ∷ 2 ∷ [])
+    ∷ measures (jobOf 0 (1 ∷ 2 ∷ []) (2 ∷ 2 ∷ [])) (0 ∷ 0 ∷ 2 ∷ []) (over 4 2)
+    ∷ planned First (jobOf 0 (1 ∷ 2 ∷ []) (2 ∷ 2 ∷ [])) (0 ∷ 1 ∷ 2 ∷ []) (over 2 1) 500 (four 1 2 1 2) (four 2 3 5 2)
     ∷ []
 
 abbrev pub jobI : Job
-jobI = jobOf (3 ∷ 3 ∷ 3 ∷ 3 ∷ []) (5 ∷ 1 ∷ 1 ∷ 1 ∷ 4 ∷ 2 ∷ 2 ∷ 2 ∷ [])
+jobI = jobOf 0 (3 ∷ 3 ∷ 3 ∷ 3 ∷ []) (5 ∷ 1 ∷ 1 ∷ 1 ∷ 4 ∷ 2 ∷ 2 ∷ 2 ∷ [])
 
 abbrev pub jobJ : Job
-jobJ = jobOf (1 ∷ 1 ∷ 1 ∷ 1 ∷ []) (1 ∷ 3 ∷ 1 ∷ 2 ∷ 3 ∷ [])
+jobJ = jobOf 0 (1 ∷ 1 ∷ 1 ∷ 1 ∷ []) (1 ∷ 3 ∷ 1 ∷ 2 ∷ 3 ∷ [])
 
 abbrev pub jobL : Job
-jobL = jobOf (1 ∷ 1 ∷ 1 ∷ 1 ∷ []) (6 ∷ [])
+jobL = jobOf 0 (1 ∷ 1 ∷ 1 ∷ 1 ∷ []) (6 ∷ [])
 
 -- The jobs F to L of the scope's section 16, with the quick plan of I and the plan of J. Scope 16.10: "Speeds 1 2 are refused with 14, and
 -- so are three machines of one speed, with no room for separators too." Beside them: six and 96 machines; 64, with room and without; a last
 -- speed that is greater or less; 5, 6, 7 and 8 before 14.
 unfoldable pub halvedJobs : List Row
 halvedJobs =
-    halved (jobOf (7 ∷ []) (4 ∷ 3 ∷ 2 ∷ 6 ∷ 1 ∷ [])) (0 ∷ 5 ∷ []) (over 16 7)
-    ∷ halved (jobOf (1 ∷ 1 ∷ []) (1 ∷ 2 ∷ 1 ∷ [])) (0 ∷ 1 ∷ 3 ∷ []) (over 3 1)
-    ∷ halved (jobOf (1 ∷ 1 ∷ []) (2 ∷ 0 ∷ 0 ∷ 2 ∷ [])) (0 ∷ 1 ∷ 4 ∷ []) (over 2 1)
+    halved (jobOf 0 (7 ∷ []) (4 ∷ 3 ∷ 2 ∷ 6 ∷ 1 ∷ [])) (0 ∷ 5 ∷ []) (over 16 7)
+    ∷ halved (jobOf 0 (1 ∷ 1 ∷ []) (1 ∷ 2 ∷ 1 ∷ [])) (0 ∷ 1 ∷ 3 ∷ []) (over 3 1)
+    ∷ halved (jobOf 0 (1 ∷ 1 ∷ []) (2 ∷ 0 ∷ 0 ∷ 2 ∷ [])) (0 ∷ 1 ∷ 4 ∷ []) (over 2 1)
     ∷ halved jobI (0 ∷ 1 ∷ 4 ∷ 5 ∷ 8 ∷ []) (over 6 3)
     ∷ quick jobI (0 ∷ 1 ∷ 4 ∷ 6 ∷ 8 ∷ []) (over 6 3)
     ∷ halved jobJ (0 ∷ 1 ∷ 3 ∷ 4 ∷ 5 ∷ []) (over 4 1)
     ∷ beaten jobJ (0 ∷ 1 ∷ 3 ∷ 4 ∷ 5 ∷ [])
     ∷ best jobJ (0 ∷ 1 ∷ 2 ∷ 4 ∷ 5 ∷ [])
     ∷ measures jobJ (0 ∷ 1 ∷ 2 ∷ 4 ∷ 5 ∷ []) (over 3 1)
-    ∷ halved (jobOf (3 ∷ 3 ∷ []) []) (0 ∷ 0 ∷ 0 ∷ []) (over 0 3)
+    ∷ halved (jobOf 0 (3 ∷ 3 ∷ []) []) (0 ∷ 0 ∷ 0 ∷ []) (over 0 3)
     ∷ halved jobL (0 ∷ 0 ∷ 0 ∷ 0 ∷ 1 ∷ []) (over 6 1)
     ∷ heavy jobL
-    ∷ unhalved (jobOf (1 ∷ 2 ∷ []) []) 3 14
-    ∷ unhalved (jobOf (1 ∷ 2 ∷ []) []) 0 14
-    ∷ unhalved (jobOf (1 ∷ 1 ∷ 1 ∷ []) []) 4 14
-    ∷ unhalved (jobOf (1 ∷ 1 ∷ 1 ∷ []) []) 0 14
-    ∷ unhalved (jobOf (1 ∷ 1 ∷ 1 ∷ 2 ∷ []) []) 5 14
-    ∷ unhalved (jobOf (2 ∷ 2 ∷ 2 ∷ 1 ∷ []) []) 5 14
-    ∷ unhalved (jobOf (replicate 6 1) []) 7 14
-    ∷ unhalved (jobOf (replicate 64 1) []) 65 0
-    ∷ unhalved (jobOf (replicate 64 1) []) 64 9
-    ∷ unhalved (jobOf (replicate 96 1) []) 97 14
-    ∷ unhalved (jobOf (replicate 97 1) []) 98 7
-    ∷ unhalved (jobOf [] []) 1 7
-    ∷ unhalved (jobOf (1 ∷ 2 ∷ []) (replicate 2049 0)) 3 8
-    ∷ unhalved (jobOf (1 ∷ 2 ∷ []) (1000001 ∷ [])) 3 6
-    ∷ unhalved (jobOf (1 ∷ 0 ∷ []) []) 3 5
+    ∷ unhalved (jobOf 0 (1 ∷ 2 ∷ []) []) 3 14
+    ∷ unhalved (jobOf 0 (1 ∷ 2 ∷ []) []) 0 14
+    ∷ unhalved (jobOf 0 (1 ∷ 1 ∷ 1 ∷ []) []) 4 14
+    ∷ unhalved (jobOf 0 (1 ∷ 1 ∷ 1 ∷ []) []) 0 14
+    ∷ unhalved (jobOf 0 (1 ∷ 1 ∷ 1 ∷ 2 ∷ []) []) 5 14
+    ∷ unhalved (jobOf 0 (2 ∷ 2 ∷ 2 ∷ 1 ∷ []) []) 5 14
+    ∷ unhalved (jobOf 0 (replicate 6 1) []) 7 14
+    ∷ unhalved (jobOf 0 (replicate 64 1) []) 65 0
+    ∷ unhalved (jobOf 0 (replicate 64 1) []) 64 9
+    ∷ unhalved (jobOf 0 (replicate 96 1) []) 97 14
+    ∷ unhalved (jobOf 0 (replicate 97 1) []) 98 7
+    ∷ unhalved (jobOf 0 [] []) 1 7
+    ∷ unhalved (jobOf 0 (1 ∷ 2 ∷ []) (replicate 2049 0)) 3 8
+    ∷ unhalved (jobOf 0 (1 ∷ 2 ∷ []) (1000001 ∷ [])) 3 6
+    ∷ unhalved (jobOf 0 (1 ∷ 0 ∷ []) []) 3 5
     ∷ []

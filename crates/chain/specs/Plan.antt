@@ -9,7 +9,7 @@ use Rattle.bound.specs.Order.{over, nought, pick, lesser, roundedUp, _≼_, _�
 use Rattle.chain.specs.declared.Method.{Method}
 use Rattle.chain.specs.declared.Method.the-variants.{Table, Bidding, Bisection, Nicol}
 use Rattle.chain.specs.Lists.{digits, sumTo, all, isFirst, smallestFrom}
-use Rattle.chain.specs.Job.{Job, tasks, last, totalWeight, totalSpeed, heaviest, fastest, slowest, at, Partition, bottleneck, ideal}
+use Rattle.chain.specs.Job.{Edition, First, Second, Job, tasks, last, totalWeight, totalSpeed, heaviest, fastest, slowest, at, Partition, bottleneck, ideal}
 use Rattle.chain.specs.Probe.{walk, fits}
 use Rattle.chain.specs.Dynamic.{tableValue, moves}
 use Rattle.chain.specs.Bidding.{bidding}
@@ -90,30 +90,35 @@ MethodEnds Bidding job count found = BiddingEnds job count found
 MethodEnds Bisection job count found = BisectionEnds job count found
 MethodEnds Nicol job count found = NicolEnds job count found
 
--- The heaviest weight in D. Over the slowest speed it is how far bisection's ends are apart at most when it begins.
+-- The heaviest weight and the start-up work in D. Over the slowest speed it is how far bisection's ends are apart at most when it begins.
 abbrev pub breadth : Job → ℕ
-breadth job = heaviest job
+breadth job = heaviest job + job .startup
 
--- Scope 6.3: "D is heaviest × fastest² / slowest, rounded down"
+-- Scope 6.3: "D is (heaviest + c) × fastest² / slowest, rounded down"
 unfoldable pub difference : Job → ℕ
 difference job = breadth job * (fastest job * fastest job) / slowest job
 
--- Scope 6.2: "(P − 1) × N for the table, (P − 1) × N + 1 for bidding, 1 + the binary digits of D for bisection and (P − 1) × the binary
--- digits of N for Nicol's search"
-unfoldable pub allowance : Method → Job → ℕ
-allowance Table job = last job * tasks job
-allowance Bidding job = last job * tasks job + 1
-allowance Bisection job = 1 + digits (difference job)
-allowance Nicol job = last job * digits (tasks job)
+-- Scope 17.8: "On a single machine the allowance of bidding is 2 in the second edition, whatever c is." Else as in 6.2.
+unfoldable pub biddingAllowance : Edition → Job → ℕ
+biddingAllowance First job = last job * tasks job + 1
+biddingAllowance (Second c) job = cond (eqb (last job) 0) 2 (last job * tasks job + 1)
 
--- The failures of bidding before a trial fits, and the rounds of bisection before its ends meet, each looked for up to the allowance;
--- the trials of Nicol's search on a processor, up to the digits of N. The theorem `method-is` says that they are found, so this end
+-- Scope 6.2: "(P − 1) × N for the table, (P − 1) × N + 1 for bidding, 1 + the binary digits of D for bisection and (P − 1) × the binary
+-- digits of N for Nicol's search". Of a job of this edition.
+unfoldable pub allowance : Edition → Method → Job → ℕ
+allowance edition Table job = last job * tasks job
+allowance edition Bidding job = biddingAllowance edition job
+allowance edition Bisection job = 1 + digits (difference job)
+allowance edition Nicol job = last job * digits (tasks job)
+
+-- The failures of bidding before a trial fits, and the rounds of bisection before its ends meet, each looked for up to the allowance, that
+-- of the second edition, which is no less than that of the first; the trials of Nicol's search on a processor, up to the digits of N. The theorem `method-is` says that they are found, so this end
 -- cuts nothing off.
 unfoldable pub biddingFailures : Job → ℕ
-biddingFailures job = smallestFrom (λ k. fits job (bidding job k)) 0 (allowance Bidding job)
+biddingFailures job = smallestFrom (λ k. fits job (bidding job k)) 0 (allowance (Second (job .startup)) Bidding job)
 
 unfoldable pub bisectionRounds : Job → ℕ
-bisectionRounds job = smallestFrom (λ k. meet (ends job k)) 0 (allowance Bisection job)
+bisectionRounds job = smallestFrom (λ k. meet (ends job k)) 0 (allowance (Second (job .startup)) Bisection job)
 
 unfoldable pub nicolTrials : Job → ℕ → ℕ
 nicolTrials job p = smallestFrom (settled job p) 0 (digits (tasks job))
@@ -155,12 +160,12 @@ pub record Plan : Type 0 where
   pub bound : Bound
   pub excess : ℕ
 
--- A plan of the job by the method. Scope 5.2: "Each ends with one walk of the trial at the bottleneck that it found; the walk writes
+-- A plan of the job, of this edition, by the method. Scope 5.2: "Each ends with one walk of the trial at the bottleneck that it found; the walk writes
 -- the separators and is not counted."
-pub record PlanBy (method : Method) (job : Job) (plan : Plan) : Type 0 where
+pub record PlanBy (edition : Edition) (method : Method) (job : Job) (plan : Plan) : Type 0 where
   pub found : Bound
   pub ended : MethodEnds method job (plan .count) found
   pub walked : plan .separators ≡ walk job found
-  pub allows : plan .allowed ≡ allowance method job
+  pub allows : plan .allowed ≡ allowance edition method job
   pub measured : plan .bound ≡ bottleneck job (plan .separators)
   pub exceeds : plan .excess ≡ imbalance job (plan .bound)

@@ -6,7 +6,7 @@ use mathlib.Core.List.{List, [], _∷_, _++_, map, List·Memᴰ}
 use lib.ListN.{length, take}
 use lib.Dec.{T, leb, eqb}
 use Rattle.bound.specs.declared.Bound.{Bound}
-use Rattle.chain.specs.Limits.{maxTasks, maxWeight, maxProcessors, maxSpeed, maxBoundLoad, maxBoundSpeed}
+use Rattle.chain.specs.Limits.{maxTasks, maxWeight, maxStartup, maxProcessors, maxSpeed, maxBoundLoad, maxBoundSpeed}
 use Rattle.chain.specs.Lists.{tabulate, all, powerOfTwo}
 use Rattle.chain.specs.Job.{Job, tasks, processors, speedOf, partLoad, at}
 
@@ -30,6 +30,10 @@ eachBetween lo hi (x ∷ xs) = between lo hi x && eachBetween lo hi xs
 -- Refusal 1: "the method is not 1 to 4"
 unfoldable pub methodTest : ℕ → Test
 methodTest m = test 1 (between 1 4 m)
+
+-- Refusal 16: "the start-up work is out of range"
+unfoldable pub startupTest : ℕ → Test
+startupTest c = test 16 (leb c maxStartup)
 
 -- Refusal 5: "a speed is out of range"
 unfoldable pub speedsTest : List ℕ → Test
@@ -123,10 +127,10 @@ pub record FirstFailing (ts : List Test) (n : ℕ) : Type 0 where
   pub fails : failed .passes ≡ false
   pub gives : failed .number ≡ n
 
--- What every call with a job by lists tests. Scope 8.4: "In lists all speeds are tested before all weights."
+-- What every call with a job by lists tests. Scope 8.4: "In lists c is tested first, then all speeds, then all weights."
 unfoldable pub jobTests : Job → List Test
 jobTests job =
-    speedsTest (job .speeds) ∷ weightsTest (job .weights) ∷ processorsTest (job .speeds) ∷ tasksTest (job .weights) ∷ []
+    startupTest (job .startup) ∷ speedsTest (job .speeds) ∷ weightsTest (job .weights) ∷ processorsTest (job .speeds) ∷ tasksTest (job .weights) ∷ []
 
 -- A lent list: the length that is needed and the length that it has.
 pub record Lent : Type 0 where
@@ -229,7 +233,7 @@ halvingInputs job lent = withRow (job .speeds) (lending (separatorsNeeded job) l
 unfoldable pub planTests : Job → PlanRecords → List Test
 planTests job plan = planLengthTest plan ∷ joinedTest job plan ∷ trueTest job plan ∷ []
 
--- The tests of a call by lists, in order: 1; 5, 6, 7, 8; 14; 9; 10; 12; 11; 13.
+-- The tests of a call by lists, in order: 1; 16, 5, 6, 7, 8; 14; 9; 10; 12; 11; 13.
 unfoldable pub callTests : Job → Inputs → List Test
 callTests job inputs =
     map methodTest (inputs .methods) ++ jobTests job ++ map rowTest (inputs .rows) ++ map (λ l. lengthTest (l .needed) (l .given)) (inputs .lists)
