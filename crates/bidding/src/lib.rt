@@ -20,9 +20,16 @@ use probe::walk_from;
 
 // Inner. Where the walk at the next bid parts from the failed walk in front of the list: before the first processor whose bid is
 // within it. Up to there the separators and the bids stay.
-fn parting(speeds: &[u32], weights: &[u32], sums: &[u32], next: Bound, separators: &[u32]) -> Point
+fn parting(
+    startup: u32,
+    speeds: &[u32],
+    weights: &[u32],
+    sums: &[u32],
+    next: Bound,
+    separators: &[u32],
+) -> Point
     ghost { Job }
-    requires { λ job. ⌜ jobOf (now speeds) (now weights) ≡ job ⌝ }
+    requires { λ job. ⌜ jobOf startup (now speeds) (now weights) ≡ job ⌝ }
     requires { λ job. ⌜ Ready job (now sums) ⌝ }
     requires { λ job. ⌜ FailedWalk job next (now separators) ⌝ }
     ensures { λ job r. ⌜ Reached job next (now (separators .entry)) r ⌝ }
@@ -33,7 +40,7 @@ fn parting(speeds: &[u32], weights: &[u32], sums: &[u32], next: Bound, separator
     let mut p = 0;
     while p < last {
         let end = index(separators[p + 1]);
-        let bid = bid_of(speeds, weights, sums, p, a, end);
+        let bid = bid_of(startup, speeds, weights, sums, p, a, end);
         if Bound::at_most(bid, next) {
             return Point {
                 processor: p,
@@ -54,15 +61,21 @@ fn parting(speeds: &[u32], weights: &[u32], sums: &[u32], next: Bound, separator
 
 // Inner. Bidding: a trial at the ideal, then at each least next bid until one fits. Each walk goes on from where it parts from the
 // one before. It leaves the walk at the bound found.
-pub fn bidding_in(speeds: &[u32], weights: &[u32], sums: &[u32], separators: &mut [u32]) -> Found
+pub fn bidding_in(
+    startup: u32,
+    speeds: &[u32],
+    weights: &[u32],
+    sums: &[u32],
+    separators: &mut [u32],
+) -> Found
     ghost { Job }
-    requires { λ job. ⌜ jobOf (now speeds) (now weights) ≡ job ⌝ }
+    requires { λ job. ⌜ jobOf startup (now speeds) (now weights) ≡ job ⌝ }
     requires { λ job. ⌜ Ready job (now sums) ⌝ }
     requires { λ job. ⌜ processors job < length (now separators) ⌝ }
     ensures { λ job r. ⌜ BiddingEnds job (r .count) (r .bound) ⌝ }
     ensures { λ job r. ⌜ now (separators .exit) ≡ walk job (r .bound) ++ drop (suc (processors job)) (now (separators .entry)) ⌝ }
 {
-    let mut bound = ideal_of(speeds, weights, sums);
+    let mut bound = ideal_of(startup, speeds, weights, sums);
     let mut point = Point {
         processor: 0,
         start: 0,
@@ -70,7 +83,7 @@ pub fn bidding_in(speeds: &[u32], weights: &[u32], sums: &[u32], separators: &mu
     };
     let mut failures = 0u32;
     loop {
-        let answer = walk_from(speeds, weights, sums, bound, point, separators);
+        let answer = walk_from(startup, speeds, weights, sums, bound, point, separators);
         match answer {
             Outcome::Fits => {
                 return Found {
@@ -79,7 +92,7 @@ pub fn bidding_in(speeds: &[u32], weights: &[u32], sums: &[u32], separators: &mu
                 };
             }
             Outcome::Fails(next) => {
-                point = parting(speeds, weights, sums, next, separators);
+                point = parting(startup, speeds, weights, sums, next, separators);
                 bound = next;
                 failures += 1;
             }

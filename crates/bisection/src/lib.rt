@@ -21,6 +21,7 @@ use probe::probe_in;
 // Inner. One round of bisection: a trial at half the sum of the ends. A fit brings the high end to that partition's bottleneck,
 // a failure brings the low end to the next bid.
 fn next_ends(
+    startup: u32,
     speeds: &[u32],
     weights: &[u32],
     sums: &[u32],
@@ -29,7 +30,7 @@ fn next_ends(
     separators: &mut [u32],
 ) -> Ends
     ghost { Job }
-    requires { λ job. ⌜ jobOf (now speeds) (now weights) ≡ job ⌝ }
+    requires { λ job. ⌜ jobOf startup (now speeds) (now weights) ≡ job ⌝ }
     requires { λ job. ⌜ Ready job (now sums) ⌝ }
     requires { λ job. ⌜ processors job < length (now separators) ⌝ }
     requires { λ job. ⌜ Small low × Small high ⌝ }
@@ -37,10 +38,10 @@ fn next_ends(
     ensures { λ job r. ⌜ KeptFrom (suc (processors job)) (now (separators .entry)) (now (separators .exit)) ⌝ }
 {
     let middle = Bound::midpoint(low, high);
-    let answer = probe_in(speeds, weights, sums, middle, separators);
+    let answer = probe_in(startup, speeds, weights, sums, middle, separators);
     match answer {
         Outcome::Fits => {
-            let least = measure_in(speeds, weights, sums, separators);
+            let least = measure_in(startup, speeds, weights, sums, separators);
             Ends { low, high: least }
         }
         Outcome::Fails(bid) => Ends { low: bid, high },
@@ -49,6 +50,7 @@ fn next_ends(
 
 // Inner. The rounds of bisection, once the trial at the ideal has failed with this next bid: until the two ends meet.
 fn bisect(
+    startup: u32,
     speeds: &[u32],
     weights: &[u32],
     sums: &[u32],
@@ -56,7 +58,7 @@ fn bisect(
     separators: &mut [u32],
 ) -> Found
     ghost { Job }
-    requires { λ job. ⌜ jobOf (now speeds) (now weights) ≡ job ⌝ }
+    requires { λ job. ⌜ jobOf startup (now speeds) (now weights) ≡ job ⌝ }
     requires { λ job. ⌜ Ready job (now sums) ⌝ }
     requires { λ job. ⌜ processors job < length (now separators) ⌝ }
     requires { λ job. ⌜ Rejected job (ideal job) next ⌝ }
@@ -64,15 +66,15 @@ fn bisect(
     ensures { λ job r. ⌜ Lendable (r .bound) ⌝ }
     ensures { λ job r. ⌜ KeptFrom (suc (processors job)) (now (separators .entry)) (now (separators .exit)) ⌝ }
 {
-    heuristic_in(speeds, weights, sums, separators);
+    heuristic_in(startup, speeds, weights, sums, separators);
     let mut low = next;
-    let mut high = measure_in(speeds, weights, sums, separators);
+    let mut high = measure_in(startup, speeds, weights, sums, separators);
     let mut rounds = 0u32;
     let found = loop {
         if Bound::at_most(high, low) {
             break low;
         }
-        let ends = next_ends(speeds, weights, sums, low, high, separators);
+        let ends = next_ends(startup, speeds, weights, sums, low, high, separators);
         low = ends.low;
         high = ends.high;
         rounds += 1;
@@ -84,19 +86,25 @@ fn bisect(
 }
 
 // Inner. Bisection: a trial at the ideal; if it fails, rounds between its next bid and the heuristic's bottleneck.
-pub fn bisection_in(speeds: &[u32], weights: &[u32], sums: &[u32], separators: &mut [u32]) -> Found
+pub fn bisection_in(
+    startup: u32,
+    speeds: &[u32],
+    weights: &[u32],
+    sums: &[u32],
+    separators: &mut [u32],
+) -> Found
     ghost { Job }
-    requires { λ job. ⌜ jobOf (now speeds) (now weights) ≡ job ⌝ }
+    requires { λ job. ⌜ jobOf startup (now speeds) (now weights) ≡ job ⌝ }
     requires { λ job. ⌜ Ready job (now sums) ⌝ }
     requires { λ job. ⌜ processors job < length (now separators) ⌝ }
     ensures { λ job r. ⌜ BisectionEnds job (r .count) (r .bound) ⌝ }
     ensures { λ job r. ⌜ Lendable (r .bound) ⌝ }
     ensures { λ job r. ⌜ KeptFrom (suc (processors job)) (now (separators .entry)) (now (separators .exit)) ⌝ }
 {
-    let bound = ideal_of(speeds, weights, sums);
-    let answer = probe_in(speeds, weights, sums, bound, separators);
+    let bound = ideal_of(startup, speeds, weights, sums);
+    let answer = probe_in(startup, speeds, weights, sums, bound, separators);
     match answer {
         Outcome::Fits => Found { bound, count: 1 },
-        Outcome::Fails(next) => bisect(speeds, weights, sums, next, separators),
+        Outcome::Fails(next) => bisect(startup, speeds, weights, sums, next, separators),
     }
 }

@@ -38,35 +38,41 @@ pub enum Probed {
 }
 
 // Inner. The bottleneck of the partition in front of the list.
-fn measure_tested(speeds: &[u32], weights: &[u32], separators: &[u32]) -> Bound
+fn measure_tested(startup: u32, speeds: &[u32], weights: &[u32], separators: &[u32]) -> Bound
     ghost { Job }
-    requires { λ job. ⌜ jobOf (now speeds) (now weights) ≡ job ⌝ }
+    requires { λ job. ⌜ jobOf startup (now speeds) (now weights) ≡ job ⌝ }
     requires { λ job. ⌜ Valid job ⌝ }
     requires { λ job. ⌜ Partition job (take (suc (processors job)) (now separators)) ⌝ }
     ensures { λ job r. ⌜ r ≡ bottleneck job (take (suc (processors job)) (now (separators .entry))) ⌝ }
 {
     let mut sums = [0u32; MAX_TASKS + 1];
     prefix_sums(weights, &mut sums);
-    measure_in(speeds, weights, &sums, separators)
+    measure_in(startup, speeds, weights, &sums, separators)
 }
 
 // Measures a partition: its bottleneck, or the refusal: 5, 6, 7, 8, 9 or 11, in this order. Entries past P + 1 are ignored.
-pub fn measure(speeds: &[u32], weights: &[u32], separators: &[u32]) -> Measured
+pub fn measure(startup: u32, speeds: &[u32], weights: &[u32], separators: &[u32]) -> Measured
     ensures { λ r.
-        let job = jobOf (now (speeds .entry)) (now (weights .entry)) in
+        let job = jobOf startup (now (speeds .entry)) (now (weights .entry)) in
         ⌜ r ≡ measureAnswer job (now (separators .entry)) ⌝ }
 {
-    let number = test_measure(speeds, weights, separators);
+    let number = test_measure(startup, speeds, weights, separators);
     if number != 0 {
         return Measured::Refused(number);
     }
-    Measured::Bottleneck(measure_tested(speeds, weights, separators))
+    Measured::Bottleneck(measure_tested(startup, speeds, weights, separators))
 }
 
 // Inner. The probe at the bound: writes how far each processor gets, P + 1 separators, whether it fits or not.
-fn probe_tested(speeds: &[u32], weights: &[u32], bound: Bound, separators: &mut [u32]) -> Outcome
+fn probe_tested(
+    startup: u32,
+    speeds: &[u32],
+    weights: &[u32],
+    bound: Bound,
+    separators: &mut [u32],
+) -> Outcome
     ghost { Job }
-    requires { λ job. ⌜ jobOf (now speeds) (now weights) ≡ job ⌝ }
+    requires { λ job. ⌜ jobOf startup (now speeds) (now weights) ≡ job ⌝ }
     requires { λ job. ⌜ Valid job ⌝ }
     requires { λ job. ⌜ Lendable bound ⌝ }
     requires { λ job. ⌜ processors job < length (now separators) ⌝ }
@@ -75,30 +81,36 @@ fn probe_tested(speeds: &[u32], weights: &[u32], bound: Bound, separators: &mut 
 {
     let mut sums = [0u32; MAX_TASKS + 1];
     prefix_sums(weights, &mut sums);
-    walked_in(speeds, weights, &sums, bound, separators)
+    walked_in(startup, speeds, weights, &sums, bound, separators)
 }
 
 // The probe at a lent bound: whether it fits, or the refusal: 5, 6, 7, 8, 9 or 10, in this order. It writes the P + 1 separators,
 // whether it fits or fails; a refusal writes nothing. Later entries stay.
-pub fn probe(speeds: &[u32], weights: &[u32], bound: Bound, separators: &mut [u32]) -> Probed
+pub fn probe(
+    startup: u32,
+    speeds: &[u32],
+    weights: &[u32],
+    bound: Bound,
+    separators: &mut [u32],
+) -> Probed
     ensures answer { λ r.
-        let job = jobOf (now (speeds .entry)) (now (weights .entry)) in
+        let job = jobOf startup (now (speeds .entry)) (now (weights .entry)) in
         ⌜ r ≡ probeAnswer job bound (now (separators .entry)) ⌝ }
     ensures separators { λ _.
-        let job = jobOf (now (speeds .entry)) (now (weights .entry)) in
+        let job = jobOf startup (now (speeds .entry)) (now (weights .entry)) in
         ⌜ now (separators .exit) ≡ probeWrites job bound (now (separators .entry)) ⌝ }
 {
-    let number = test_probe(speeds, weights, bound, separators.len());
+    let number = test_probe(startup, speeds, weights, bound, separators.len());
     if number != 0 {
         return Probed::Refused(number);
     }
-    Probed::Answered(probe_tested(speeds, weights, bound, separators))
+    Probed::Answered(probe_tested(startup, speeds, weights, bound, separators))
 }
 
 // Inner. Writes the heuristic's separators and gives their bottleneck.
-fn heuristic_tested(speeds: &[u32], weights: &[u32], separators: &mut [u32]) -> Bound
+fn heuristic_tested(startup: u32, speeds: &[u32], weights: &[u32], separators: &mut [u32]) -> Bound
     ghost { Job }
-    requires { λ job. ⌜ jobOf (now speeds) (now weights) ≡ job ⌝ }
+    requires { λ job. ⌜ jobOf startup (now speeds) (now weights) ≡ job ⌝ }
     requires { λ job. ⌜ Valid job ⌝ }
     requires { λ job. ⌜ processors job < length (now separators) ⌝ }
     ensures { λ job r. ⌜ r ≡ bottleneck job (quick.heuristic job) ⌝ }
@@ -106,31 +118,31 @@ fn heuristic_tested(speeds: &[u32], weights: &[u32], separators: &mut [u32]) -> 
 {
     let mut sums = [0u32; MAX_TASKS + 1];
     prefix_sums(weights, &mut sums);
-    heuristic_in(speeds, weights, &sums, separators);
-    measure_in(speeds, weights, &sums, separators)
+    heuristic_in(startup, speeds, weights, &sums, separators);
+    measure_in(startup, speeds, weights, &sums, separators)
 }
 
 // The heuristic: its bottleneck, or the refusal: 5, 6, 7, 8 or 9, in this order. It writes the P + 1 separators, a refusal
 // writes nothing. Later entries stay.
-pub fn heuristic(speeds: &[u32], weights: &[u32], separators: &mut [u32]) -> Measured
+pub fn heuristic(startup: u32, speeds: &[u32], weights: &[u32], separators: &mut [u32]) -> Measured
     ensures answer { λ r.
-        let job = jobOf (now (speeds .entry)) (now (weights .entry)) in
+        let job = jobOf startup (now (speeds .entry)) (now (weights .entry)) in
         ⌜ r ≡ heuristicAnswer job (now (separators .entry)) ⌝ }
     ensures separators { λ _.
-        let job = jobOf (now (speeds .entry)) (now (weights .entry)) in
+        let job = jobOf startup (now (speeds .entry)) (now (weights .entry)) in
         ⌜ now (separators .exit) ≡ heuristicWrites job (now (separators .entry)) ⌝ }
 {
-    let number = test_heuristic(speeds, weights, separators.len());
+    let number = test_heuristic(startup, speeds, weights, separators.len());
     if number != 0 {
         return Measured::Refused(number);
     }
-    Measured::Bottleneck(heuristic_tested(speeds, weights, separators))
+    Measured::Bottleneck(heuristic_tested(startup, speeds, weights, separators))
 }
 
 // Inner. Writes the separators of the halved row and gives their bottleneck.
-fn halving_tested(speeds: &[u32], weights: &[u32], separators: &mut [u32]) -> Bound
+fn halving_tested(startup: u32, speeds: &[u32], weights: &[u32], separators: &mut [u32]) -> Bound
     ghost { Job }
-    requires { λ job. ⌜ jobOf (now speeds) (now weights) ≡ job ⌝ }
+    requires { λ job. ⌜ jobOf startup (now speeds) (now weights) ≡ job ⌝ }
     requires { λ job. ⌜ Valid job ⌝ }
     requires { λ job. ⌜ Halvable (now speeds) ⌝ }
     requires { λ job. ⌜ processors job < length (now separators) ⌝ }
@@ -139,23 +151,23 @@ fn halving_tested(speeds: &[u32], weights: &[u32], separators: &mut [u32]) -> Bo
 {
     let mut sums = [0u32; MAX_TASKS + 1];
     prefix_sums(weights, &mut sums);
-    halving_in(speeds, weights, &sums, separators);
-    measure_in(speeds, weights, &sums, separators)
+    halving_in(startup, speeds, weights, &sums, separators);
+    measure_in(startup, speeds, weights, &sums, separators)
 }
 
 // Halving the row: its bottleneck, or the refusal: 5, 6, 7, 8, 14 or 9, in this order. It writes the P + 1 separators, a refusal
 // writes nothing. Later entries stay.
-pub fn halving(speeds: &[u32], weights: &[u32], separators: &mut [u32]) -> Measured
+pub fn halving(startup: u32, speeds: &[u32], weights: &[u32], separators: &mut [u32]) -> Measured
     ensures answer { λ r.
-        let job = jobOf (now (speeds .entry)) (now (weights .entry)) in
+        let job = jobOf startup (now (speeds .entry)) (now (weights .entry)) in
         ⌜ r ≡ halvingAnswer job (now (separators .entry)) ⌝ }
     ensures separators { λ _.
-        let job = jobOf (now (speeds .entry)) (now (weights .entry)) in
+        let job = jobOf startup (now (speeds .entry)) (now (weights .entry)) in
         ⌜ now (separators .exit) ≡ halvingWrites job (now (separators .entry)) ⌝ }
 {
-    let number = test_halving(speeds, weights, separators.len());
+    let number = test_halving(startup, speeds, weights, separators.len());
     if number != 0 {
         return Measured::Refused(number);
     }
-    Measured::Bottleneck(halving_tested(speeds, weights, separators))
+    Measured::Bottleneck(halving_tested(startup, speeds, weights, separators))
 }

@@ -27,8 +27,8 @@ editionOf true c = Second c
 editionOf false c = First
 
 -- The start-up work that counts where the edition is given so.
-abbrev pub startupBy : Bool → ℕ → ℕ
-startupBy second c = startupOf (editionOf second c)
+abbrev pub effective : Bool → ℕ → ℕ
+effective second c = startupOf (editionOf second c)
 
 -- A job: the start-up work that counts, the weights of the tasks ("tiles") and the speeds of the processors ("machines"), in order. Its
 -- edition says no more of how it is divided: it stays with the file, the calls and the allowance of a plan.

@@ -44,6 +44,7 @@ fn put(scratch: &mut [u32], row: usize, i: usize, value: Bound)
 // Inner. The pointer moves on to the crossing of i in the row after row p, which begins at `before`. At i at the latest it
 // stops: the part is empty there.
 fn advance(
+    startup: u32,
     speeds: &[u32],
     weights: &[u32],
     scratch: &[u32],
@@ -54,7 +55,7 @@ fn advance(
     start: Pointer,
 ) -> Pointer
     ghost { Job }
-    requires { λ job. ⌜ jobOf (now speeds) (now weights) ≡ job ⌝ }
+    requires { λ job. ⌜ jobOf startup (now speeds) (now weights) ≡ job ⌝ }
     requires { λ job. ⌜ RowReady job (now scratch) before p ⌝ }
     requires { λ job. ⌜ speed ≡ speedOf job (suc p) ⌝ }
     requires { λ job. ⌜ (i ≤ tasks job) × (start .at ≤ crossing job p i) × (start .moves + i < 2 ^ 32 + start .at) ⌝ }
@@ -75,6 +76,7 @@ fn advance(
 // Inner. The value at i in the row after row p. At the crossing the row before is the greater of the two, before the crossing
 // the part is.
 fn value_at(
+    startup: u32,
     speeds: &[u32],
     weights: &[u32],
     scratch: &[u32],
@@ -85,7 +87,7 @@ fn value_at(
     at: usize,
 ) -> Bound
     ghost { Job }
-    requires { λ job. ⌜ jobOf (now speeds) (now weights) ≡ job ⌝ }
+    requires { λ job. ⌜ jobOf startup (now speeds) (now weights) ≡ job ⌝ }
     requires { λ job. ⌜ RowReady job (now scratch) before p ⌝ }
     requires { λ job. ⌜ speed ≡ speedOf job (suc p) ⌝ }
     requires { λ job. ⌜ (i ≤ tasks job) × (at ≡ crossing job p i) ⌝ }
@@ -101,6 +103,7 @@ fn value_at(
 
 // Inner. Fills the row after row p; the pointer starts at 0. The speed is read once, before the stores.
 fn fill_row(
+    startup: u32,
     speeds: &[u32],
     weights: &[u32],
     scratch: &mut [u32],
@@ -110,7 +113,7 @@ fn fill_row(
     start: Pointer,
 ) -> Pointer
     ghost { Job }
-    requires { λ job. ⌜ jobOf (now speeds) (now weights) ≡ job ⌝ }
+    requires { λ job. ⌜ jobOf startup (now speeds) (now weights) ≡ job ⌝ }
     requires { λ job. ⌜ RowReady job (now scratch) before p ⌝ }
     requires { λ job. ⌜ Places (suc (tasks job)) before row (length (now scratch)) ⌝ }
     requires { λ job. ⌜ (start .at ≡ 0) × (start .moves + tasks job < 2 ^ 32) ⌝ }
@@ -120,9 +123,19 @@ fn fill_row(
     let mut pointer = start;
     let mut i = 0;
     while i <= weights.len() {
-        pointer = advance(speeds, weights, scratch, before, p, speed, i, pointer);
+        pointer = advance(
+            startup,
+            speeds,
+            weights,
+            scratch,
+            before,
+            p,
+            speed,
+            i,
+            pointer,
+        );
         let at = pointer.at;
-        let value = value_at(speeds, weights, scratch, before, p, speed, i, at);
+        let value = value_at(startup, speeds, weights, scratch, before, p, speed, i, at);
         put(scratch, row, i, value);
         i += 1;
     }
@@ -130,9 +143,9 @@ fn fill_row(
 }
 
 // Inner. Fills the row of processor 0.
-fn first_row(speeds: &[u32], weights: &[u32], scratch: &mut [u32], row: usize)
+fn first_row(startup: u32, speeds: &[u32], weights: &[u32], scratch: &mut [u32], row: usize)
     ghost { Job }
-    requires { λ job. ⌜ jobOf (now speeds) (now weights) ≡ job ⌝ }
+    requires { λ job. ⌜ jobOf startup (now speeds) (now weights) ≡ job ⌝ }
     requires { λ job. ⌜ Ready job (now scratch) ⌝ }
     requires { λ job. ⌜ (suc (tasks job) ≤ row) × (row + 2 * suc (tasks job) ≤ length (now scratch)) ⌝ }
     ensures { λ job r. ⌜ FirstRow job (now (scratch .entry)) (now (scratch .exit)) row ⌝ }
@@ -148,9 +161,9 @@ fn first_row(speeds: &[u32], weights: &[u32], scratch: &mut [u32], row: usize)
 
 // Inner. The value of the last processor at the last task, and the moves made. The scratch list begins with the prefix sums;
 // the two rows behind them are free for use.
-pub fn table_in(speeds: &[u32], weights: &[u32], scratch: &mut [u32]) -> Found
+pub fn table_in(startup: u32, speeds: &[u32], weights: &[u32], scratch: &mut [u32]) -> Found
     ghost { Job }
-    requires { λ job. ⌜ jobOf (now speeds) (now weights) ≡ job ⌝ }
+    requires { λ job. ⌜ jobOf startup (now speeds) (now weights) ≡ job ⌝ }
     requires { λ job. ⌜ Ready job (now scratch) ⌝ }
     requires { λ job. ⌜ 5 * suc (tasks job) ≤ length (now scratch) ⌝ }
     ensures { λ job r. ⌜ Tabled job (now (scratch .entry)) (now (scratch .exit)) (r .bound) (r .count) ⌝ }
@@ -160,10 +173,10 @@ pub fn table_in(speeds: &[u32], weights: &[u32], scratch: &mut [u32]) -> Found
     let mut other = 3 * n;
     let mut pointer = Pointer { at: 0, moves: 0 };
     let mut p = 0;
-    first_row(speeds, weights, scratch, row);
+    first_row(startup, speeds, weights, scratch, row);
     while p + 1 < speeds.len() {
         pointer.at = 0;
-        pointer = fill_row(speeds, weights, scratch, row, other, p, pointer);
+        pointer = fill_row(startup, speeds, weights, scratch, row, other, p, pointer);
         let done = row;
         row = other;
         other = done;

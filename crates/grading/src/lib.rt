@@ -52,9 +52,15 @@ fn and_same(all: bool, a: u32, b: u32) -> bool
 
 // Inner. Takes the separators of the plan file to the front of the list, and answers whether each record begins where the one before
 // ends.
-fn take_separators(speeds: &[u32], weights: &[u32], plan: &[u8], separators: &mut [u32]) -> bool
+fn take_separators(
+    startup: u32,
+    speeds: &[u32],
+    weights: &[u32],
+    plan: &[u8],
+    separators: &mut [u32],
+) -> bool
     ghost { Job }
-    requires { λ job. ⌜ jobOf (now speeds) (now weights) ≡ job ⌝ }
+    requires { λ job. ⌜ jobOf startup (now speeds) (now weights) ≡ job ⌝ }
     requires { λ job. ⌜ Valid job ⌝ }
     requires { λ job. ⌜ planNeeded job ≤ length (now plan) ⌝ }
     requires { λ job. ⌜ processors job < length (now separators) ⌝ }
@@ -77,6 +83,7 @@ fn take_separators(speeds: &[u32], weights: &[u32], plan: &[u8], separators: &mu
 
 // Inner. Whether the record of processor p has the load of its part and its speed.
 fn tells_at(
+    startup: u32,
     speeds: &[u32],
     weights: &[u32],
     sums: &[u32],
@@ -85,7 +92,7 @@ fn tells_at(
     p: usize,
 ) -> bool
     ghost { Job }
-    requires { λ job. ⌜ jobOf (now speeds) (now weights) ≡ job ⌝ }
+    requires { λ job. ⌜ jobOf startup (now speeds) (now weights) ≡ job ⌝ }
     requires { λ job. ⌜ Ready job (now sums) ⌝ }
     requires { λ job. ⌜ Partition job (take (suc (processors job)) (now separators)) ⌝ }
     requires { λ job. ⌜ planNeeded job ≤ length (now plan) ⌝ }
@@ -100,9 +107,16 @@ fn tells_at(
 }
 
 // Inner. Whether every record has the load of its part and its speed.
-fn tells_all(speeds: &[u32], weights: &[u32], sums: &[u32], separators: &[u32], plan: &[u8]) -> bool
+fn tells_all(
+    startup: u32,
+    speeds: &[u32],
+    weights: &[u32],
+    sums: &[u32],
+    separators: &[u32],
+    plan: &[u8],
+) -> bool
     ghost { Job }
-    requires { λ job. ⌜ jobOf (now speeds) (now weights) ≡ job ⌝ }
+    requires { λ job. ⌜ jobOf startup (now speeds) (now weights) ≡ job ⌝ }
     requires { λ job. ⌜ Ready job (now sums) ⌝ }
     requires { λ job. ⌜ Partition job (take (suc (processors job)) (now separators)) ⌝ }
     requires { λ job. ⌜ planNeeded job ≤ length (now plan) ⌝ }
@@ -110,7 +124,7 @@ fn tells_all(speeds: &[u32], weights: &[u32], sums: &[u32], separators: &[u32], 
 {
     let mut p = 0;
     while p < speeds.len() {
-        if !tells_at(speeds, weights, sums, separators, plan, p) {
+        if !tells_at(startup, speeds, weights, sums, separators, plan, p) {
             return false;
         }
         p += 1;
@@ -119,15 +133,21 @@ fn tells_all(speeds: &[u32], weights: &[u32], sums: &[u32], separators: &[u32], 
 }
 
 // Inner. The grade of a partition: it is measured, and its bottleneck held against the one that bisection finds.
-fn grade_partition(speeds: &[u32], weights: &[u32], sums: &[u32], separators: &mut [u32]) -> Graded
+fn grade_partition(
+    startup: u32,
+    speeds: &[u32],
+    weights: &[u32],
+    sums: &[u32],
+    separators: &mut [u32],
+) -> Graded
     ghost { Job }
-    requires { λ job. ⌜ jobOf (now speeds) (now weights) ≡ job ⌝ }
+    requires { λ job. ⌜ jobOf startup (now speeds) (now weights) ≡ job ⌝ }
     requires { λ job. ⌜ Ready job (now sums) ⌝ }
     requires { λ job. ⌜ Partition job (take (suc (processors job)) (now separators)) ⌝ }
     ensures { λ job r. ⌜ r ≡ gradeOf job (take (suc (processors job)) (now (separators .entry))) ⌝ }
 {
-    let measured = measure_in(speeds, weights, sums, separators);
-    let found = bisection_in(speeds, weights, sums, separators);
+    let measured = measure_in(startup, speeds, weights, sums, separators);
+    let found = bisection_in(startup, speeds, weights, sums, separators);
     if Bound::at_most(measured, found.bound) {
         return Graded::Best;
     }
@@ -135,9 +155,15 @@ fn grade_partition(speeds: &[u32], weights: &[u32], sums: &[u32], separators: &m
 }
 
 // Inner. The grade of the separators that were taken from the plan file, or 13.
-fn grade_told(speeds: &[u32], weights: &[u32], plan: &[u8], separators: &mut [u32]) -> Graded
+fn grade_told(
+    startup: u32,
+    speeds: &[u32],
+    weights: &[u32],
+    plan: &[u8],
+    separators: &mut [u32],
+) -> Graded
     ghost { Job }
-    requires { λ job. ⌜ jobOf (now speeds) (now weights) ≡ job ⌝ }
+    requires { λ job. ⌜ jobOf startup (now speeds) (now weights) ≡ job ⌝ }
     requires { λ job. ⌜ Valid job ⌝ }
     requires { λ job. ⌜ planNeeded job ≤ length (now plan) ⌝ }
     requires { λ job. ⌜ Partition job (take (suc (processors job)) (now separators)) ⌝ }
@@ -145,16 +171,16 @@ fn grade_told(speeds: &[u32], weights: &[u32], plan: &[u8], separators: &mut [u3
 {
     let mut sums = [0u32; MAX_TASKS + 1];
     prefix_sums(weights, &mut sums);
-    if !tells_all(speeds, weights, &sums, separators, plan) {
+    if !tells_all(startup, speeds, weights, &sums, separators, plan) {
         return Graded::Refused(13);
     }
-    grade_partition(speeds, weights, &sums, separators)
+    grade_partition(startup, speeds, weights, &sums, separators)
 }
 
 // Inner. Grades the plan file of a job that has been tested: the grade, or the refusal: 12, 11 or 13, in this order.
-fn grade_in(speeds: &[u32], weights: &[u32], plan: &[u8]) -> Graded
+fn grade_in(startup: u32, speeds: &[u32], weights: &[u32], plan: &[u8]) -> Graded
     ghost { Job }
-    requires { λ job. ⌜ jobOf (now speeds) (now weights) ≡ job ⌝ }
+    requires { λ job. ⌜ jobOf startup (now speeds) (now weights) ≡ job ⌝ }
     requires { λ job. ⌜ Valid job ⌝ }
     ensures { λ job r. ⌜ r ≡ planGrade job (now (plan .entry)) ⌝ }
 {
@@ -162,32 +188,32 @@ fn grade_in(speeds: &[u32], weights: &[u32], plan: &[u8]) -> Graded
         return Graded::Refused(12);
     }
     let mut separators = [0u32; MAX_PROCESSORS + 1];
-    if !take_separators(speeds, weights, plan, &mut separators) {
+    if !take_separators(startup, speeds, weights, plan, &mut separators) {
         return Graded::Refused(11); // a gap, or an overlap
     }
-    if !is_partition(speeds, weights, &separators) {
+    if !is_partition(startup, speeds, weights, &separators) {
         return Graded::Refused(11);
     }
-    grade_told(speeds, weights, plan, &mut separators)
+    grade_told(startup, speeds, weights, plan, &mut separators)
 }
 
 // Grades a plan file beside the lists of its job: best, valid, or the refusal: 5, 6, 7, 8, 12, 11 or 13, in this order.
-pub fn grade(speeds: &[u32], weights: &[u32], plan: &[u8]) -> Graded
+pub fn grade(startup: u32, speeds: &[u32], weights: &[u32], plan: &[u8]) -> Graded
     ensures { λ r.
-        let job = jobOf (now (speeds .entry)) (now (weights .entry)) in
+        let job = jobOf startup (now (speeds .entry)) (now (weights .entry)) in
         ⌜ r ≡ gradeAnswer job (now (plan .entry)) ⌝ }
 {
-    let number = test_job(speeds, weights);
+    let number = test_job(startup, speeds, weights);
     if number != 0 {
         return Graded::Refused(number);
     }
-    grade_in(speeds, weights, plan)
+    grade_in(startup, speeds, weights, plan)
 }
 
 // Inner. The test of the buffer for the grade, of which so many bytes are lent, and the grade.
-fn grade_read(speeds: &[u32], weights: &[u32], plan: &[u8], lent: usize) -> Graded
+fn grade_read(startup: u32, speeds: &[u32], weights: &[u32], plan: &[u8], lent: usize) -> Graded
     ghost { Job }
-    requires { λ job. ⌜ jobOf (now speeds) (now weights) ≡ job ⌝ }
+    requires { λ job. ⌜ jobOf startup (now speeds) (now weights) ≡ job ⌝ }
     requires { λ job. ⌜ Valid job ⌝ }
     ensures { λ job r. ⌜ r ≡ roomGrade job (now (plan .entry)) gradeNeeded lent ⌝ }
 {
@@ -195,7 +221,7 @@ fn grade_read(speeds: &[u32], weights: &[u32], plan: &[u8], lent: usize) -> Grad
     if number != 0 {
         return Graded::Refused(number);
     }
-    grade_in(speeds, weights, plan)
+    grade_in(startup, speeds, weights, plan)
 }
 
 // Inner. Grades a plan file beside its job file, so many bytes being lent for the grade: best, valid, or the refusal: 2 to 8 on the

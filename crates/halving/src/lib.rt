@@ -56,9 +56,15 @@ fn split_row(sums: &[u32], separators: &mut [u32], first: usize, last: usize, a:
 }
 
 // Inner. Writes the separators of the halved row to the front of the list.
-pub fn halving_in(speeds: &[u32], weights: &[u32], sums: &[u32], separators: &mut [u32])
+pub fn halving_in(
+    startup: u32,
+    speeds: &[u32],
+    weights: &[u32],
+    sums: &[u32],
+    separators: &mut [u32],
+)
     ghost { Job }
-    requires { λ job. ⌜ jobOf (now speeds) (now weights) ≡ job ⌝ }
+    requires { λ job. ⌜ jobOf startup (now speeds) (now weights) ≡ job ⌝ }
     requires { λ job. ⌜ Ready job (now sums) ⌝ }
     requires { λ job. ⌜ Halvable (now speeds) ⌝ }
     requires { λ job. ⌜ processors job < length (now separators) ⌝ }

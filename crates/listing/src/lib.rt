@@ -90,9 +90,16 @@ fn put_plan_line(
 }
 
 // Inner. Plans by the method and puts its line. A job within the limits is planned: nothing is refused here.
-fn list_method(method: Method, speeds: &[u32], weights: &[u32], at: usize, out: &mut [u8]) -> usize
+fn list_method(
+    method: Method,
+    startup: u32,
+    speeds: &[u32],
+    weights: &[u32],
+    at: usize,
+    out: &mut [u8],
+) -> usize
     ghost { Job }
-    requires { λ job. ⌜ jobOf (now speeds) (now weights) ≡ job ⌝ }
+    requires { λ job. ⌜ jobOf startup (now speeds) (now weights) ≡ job ⌝ }
     requires { λ job. ⌜ Valid job ⌝ }
     requires { λ job. ⌜ at + planRoom (processors job + 1) ≤ length (now out) ⌝ }
     ensures { λ job r. ⌜ Put (methodLine method job) at (now (out .entry)) (now (out .exit)) r ⌝ }
@@ -100,15 +107,22 @@ fn list_method(method: Method, speeds: &[u32], weights: &[u32], at: usize, out: 
 {
     let mut separators = [0u32; SEPARATORS];
     let mut scratch = [0u32; SCRATCH];
-    let figures = plan_in(method, speeds, weights, &mut separators, &mut scratch);
+    let figures = plan_in(
+        method,
+        startup,
+        speeds,
+        weights,
+        &mut separators,
+        &mut scratch,
+    );
     let used = speeds.len() + 1;
     put_plan_line(method_number(method), figures, &separators[..used], at, out)
 }
 
 // Inner. Puts the first line: the job's counts and its total weight.
-fn put_counts_line(speeds: &[u32], weights: &[u32], out: &mut [u8]) -> usize
+fn put_counts_line(startup: u32, speeds: &[u32], weights: &[u32], out: &mut [u8]) -> usize
     ghost { Job }
-    requires { λ job. ⌜ jobOf (now speeds) (now weights) ≡ job ⌝ }
+    requires { λ job. ⌜ jobOf startup (now speeds) (now weights) ≡ job ⌝ }
     requires { λ job. ⌜ Valid job ⌝ }
     requires { λ job. ⌜ countsRoom ≤ length (now out) ⌝ }
     ensures { λ job r. ⌜ Put (countsLine job) 0 (now (out .entry)) (now (out .exit)) r ⌝ }
@@ -122,19 +136,19 @@ fn put_counts_line(speeds: &[u32], weights: &[u32], out: &mut [u8]) -> usize
 }
 
 // Inner. Puts the listing of a job within the limits.
-fn list_job(speeds: &[u32], weights: &[u32], out: &mut [u8]) -> usize
+fn list_job(startup: u32, speeds: &[u32], weights: &[u32], out: &mut [u8]) -> usize
     ghost { Job }
-    requires { λ job. ⌜ jobOf (now speeds) (now weights) ≡ job ⌝ }
+    requires { λ job. ⌜ jobOf startup (now speeds) (now weights) ≡ job ⌝ }
     requires { λ job. ⌜ Valid job ⌝ }
     requires { λ job. ⌜ listingRoom ≤ length (now out) ⌝ }
     ensures { λ job r. ⌜ Put (jobListing job) 0 (now (out .entry)) (now (out .exit)) r ⌝ }
     ensures { λ job r. ⌜ r ≤ listingRoom ⌝ }
 {
-    let mut next = put_counts_line(speeds, weights, out);
-    next = list_method(Method::Table, speeds, weights, next, out);
-    next = list_method(Method::Bidding, speeds, weights, next, out);
-    next = list_method(Method::Bisection, speeds, weights, next, out);
-    list_method(Method::Nicol, speeds, weights, next, out)
+    let mut next = put_counts_line(startup, speeds, weights, out);
+    next = list_method(Method::Table, startup, speeds, weights, next, out);
+    next = list_method(Method::Bidding, startup, speeds, weights, next, out);
+    next = list_method(Method::Bisection, startup, speeds, weights, next, out);
+    list_method(Method::Nicol, startup, speeds, weights, next, out)
 }
 
 // Inner. Puts the listing of a job file, or the line of its refusal.

@@ -31,9 +31,17 @@ fn middle_of(low: usize, high: usize) -> usize
 }
 
 // Inner. The bound of the part from a to j on processor p.
-fn bound_to(speeds: &[u32], weights: &[u32], sums: &[u32], p: usize, a: usize, j: usize) -> Bound
+fn bound_to(
+    startup: u32,
+    speeds: &[u32],
+    weights: &[u32],
+    sums: &[u32],
+    p: usize,
+    a: usize,
+    j: usize,
+) -> Bound
     ghost { Job }
-    requires { λ job. ⌜ jobOf (now speeds) (now weights) ≡ job ⌝ }
+    requires { λ job. ⌜ jobOf startup (now speeds) (now weights) ≡ job ⌝ }
     requires { λ job. ⌜ Ready job (now sums) ⌝ }
     requires { λ job. ⌜ (p < processors job) × (a ≤ j) × (j ≤ tasks job) ⌝ }
     ensures { λ job r. ⌜ r ≡ partBound job p a j ⌝ }
@@ -44,6 +52,7 @@ fn bound_to(speeds: &[u32], weights: &[u32], sums: &[u32], p: usize, a: usize, j
 
 // Inner. A trial of the whole job at the bound of the part from a to j on processor p.
 fn fits_at(
+    startup: u32,
     speeds: &[u32],
     weights: &[u32],
     sums: &[u32],
@@ -53,15 +62,15 @@ fn fits_at(
     separators: &mut [u32],
 ) -> bool
     ghost { Job }
-    requires { λ job. ⌜ jobOf (now speeds) (now weights) ≡ job ⌝ }
+    requires { λ job. ⌜ jobOf startup (now speeds) (now weights) ≡ job ⌝ }
     requires { λ job. ⌜ Ready job (now sums) ⌝ }
     requires { λ job. ⌜ processors job < length (now separators) ⌝ }
     requires { λ job. ⌜ (p < processors job) × (a ≤ j) × (j ≤ tasks job) ⌝ }
     ensures { λ job r. ⌜ r ≡ fitsAt job p a j ⌝ }
     ensures { λ job r. ⌜ KeptFrom (suc (processors job)) (now (separators .entry)) (now (separators .exit)) ⌝ }
 {
-    let bound = bound_to(speeds, weights, sums, p, a, j);
-    let answer = probe_in(speeds, weights, sums, bound, separators);
+    let bound = bound_to(startup, speeds, weights, sums, p, a, j);
+    let answer = probe_in(startup, speeds, weights, sums, bound, separators);
     match answer {
         Outcome::Fits => true,
         Outcome::Fails(next) => false,
@@ -70,6 +79,7 @@ fn fits_at(
 
 // Inner. The smallest index from a to N that fits, by halving, for a processor to which the search comes and whose part starts at a.
 fn first_fit(
+    startup: u32,
     speeds: &[u32],
     weights: &[u32],
     sums: &[u32],
@@ -78,7 +88,7 @@ fn first_fit(
     separators: &mut [u32],
 ) -> FirstFit
     ghost { Job }
-    requires { λ job. ⌜ jobOf (now speeds) (now weights) ≡ job ⌝ }
+    requires { λ job. ⌜ jobOf startup (now speeds) (now weights) ≡ job ⌝ }
     requires { λ job. ⌜ Ready job (now sums) ⌝ }
     requires { λ job. ⌜ processors job < length (now separators) ⌝ }
     requires { λ job. ⌜ (p < last job) × (a ≡ startOn job p) × Comes job p ⌝ }
@@ -92,7 +102,7 @@ fn first_fit(
     while low < high {
         let middle = middle_of(low, high);
         trials += 1;
-        if fits_at(speeds, weights, sums, p, a, middle, separators) {
+        if fits_at(startup, speeds, weights, sums, p, a, middle, separators) {
             high = middle;
         } else {
             low = middle + 1;
@@ -103,9 +113,15 @@ fn first_fit(
 
 // Inner. Nicol's search: processor by processor the smallest part at whose bound the job fits; the least of these bounds, and of all that
 // remains for the last, is the bottleneck. Where an empty part fits, it is nought.
-pub fn nicol_in(speeds: &[u32], weights: &[u32], sums: &[u32], separators: &mut [u32]) -> Found
+pub fn nicol_in(
+    startup: u32,
+    speeds: &[u32],
+    weights: &[u32],
+    sums: &[u32],
+    separators: &mut [u32],
+) -> Found
     ghost { Job }
-    requires { λ job. ⌜ jobOf (now speeds) (now weights) ≡ job ⌝ }
+    requires { λ job. ⌜ jobOf startup (now speeds) (now weights) ≡ job ⌝ }
     requires { λ job. ⌜ Ready job (now sums) ⌝ }
     requires { λ job. ⌜ processors job < length (now separators) ⌝ }
     ensures { λ job r. ⌜ NicolEnds job (r .count) (r .bound) ⌝ }
@@ -118,7 +134,7 @@ pub fn nicol_in(speeds: &[u32], weights: &[u32], sums: &[u32], separators: &mut 
     let mut a = 0;
     let mut p = 0;
     while p < last {
-        let found = first_fit(speeds, weights, sums, p, a, separators);
+        let found = first_fit(startup, speeds, weights, sums, p, a, separators);
         let end = found.index;
         count += found.trials;
         if end == a {
@@ -127,11 +143,11 @@ pub fn nicol_in(speeds: &[u32], weights: &[u32], sums: &[u32], separators: &mut 
                 count,
             };
         }
-        least = Bound::lesser(least, bound_to(speeds, weights, sums, p, a, end));
+        least = Bound::lesser(least, bound_to(startup, speeds, weights, sums, p, a, end));
         a = end - 1;
         p += 1;
     }
-    let rest = bound_to(speeds, weights, sums, p, a, weights.len());
+    let rest = bound_to(startup, speeds, weights, sums, p, a, weights.len());
     Found {
         bound: Bound::lesser(least, rest),
         count,

@@ -101,9 +101,9 @@ pub fn part_bound(speed: u32, sums: &[u32], a: usize, b: usize) -> Bound
 }
 
 // Inner. The ideal, all weight over all speed.
-pub fn ideal_of(speeds: &[u32], weights: &[u32], sums: &[u32]) -> Bound
+pub fn ideal_of(startup: u32, speeds: &[u32], weights: &[u32], sums: &[u32]) -> Bound
     ghost { Job }
-    requires { λ job. ⌜ jobOf (now speeds) (now weights) ≡ job ⌝ }
+    requires { λ job. ⌜ jobOf startup (now speeds) (now weights) ≡ job ⌝ }
     requires { λ job. ⌜ Ready job (now sums) ⌝ }
     ensures { λ job r. ⌜ r ≡ ideal job ⌝ }
 {
@@ -114,9 +114,16 @@ pub fn ideal_of(speeds: &[u32], weights: &[u32], sums: &[u32]) -> Bound
 }
 
 // Inner. The bound of processor p's part.
-fn bound_at(speeds: &[u32], weights: &[u32], sums: &[u32], separators: &[u32], p: usize) -> Bound
+fn bound_at(
+    startup: u32,
+    speeds: &[u32],
+    weights: &[u32],
+    sums: &[u32],
+    separators: &[u32],
+    p: usize,
+) -> Bound
     ghost { Job }
-    requires { λ job. ⌜ jobOf (now speeds) (now weights) ≡ job ⌝ }
+    requires { λ job. ⌜ jobOf startup (now speeds) (now weights) ≡ job ⌝ }
     requires { λ job. ⌜ Ready job (now sums) ⌝ }
     requires { λ job. ⌜ Partition job (take (suc (processors job)) (now separators)) ⌝ }
     requires { λ job. ⌜ p < processors job ⌝ }
@@ -128,19 +135,28 @@ fn bound_at(speeds: &[u32], weights: &[u32], sums: &[u32], separators: &[u32], p
 }
 
 // Inner. The bottleneck of the partition in front of the list.
-pub fn measure_in(speeds: &[u32], weights: &[u32], sums: &[u32], separators: &[u32]) -> Bound
+pub fn measure_in(
+    startup: u32,
+    speeds: &[u32],
+    weights: &[u32],
+    sums: &[u32],
+    separators: &[u32],
+) -> Bound
     ghost { Job }
-    requires { λ job. ⌜ jobOf (now speeds) (now weights) ≡ job ⌝ }
+    requires { λ job. ⌜ jobOf startup (now speeds) (now weights) ≡ job ⌝ }
     requires { λ job. ⌜ Ready job (now sums) ⌝ }
     requires { λ job. ⌜ Partition job (take (suc (processors job)) (now separators)) ⌝ }
     ensures { λ job r. ⌜ r ≡ bottleneck job (now (separators .entry)) ⌝ }
     ensures { λ job r. ⌜ r ≡ bottleneck job (take (suc (processors job)) (now (separators .entry))) ⌝ }
 {
     let last = speeds.len() - 1;
-    let mut greatest = bound_at(speeds, weights, sums, separators, 0);
+    let mut greatest = bound_at(startup, speeds, weights, sums, separators, 0);
     let mut p = 1;
     while p <= last {
-        greatest = Bound::greater(greatest, bound_at(speeds, weights, sums, separators, p));
+        greatest = Bound::greater(
+            greatest,
+            bound_at(startup, speeds, weights, sums, separators, p),
+        );
         p += 1;
     }
     greatest

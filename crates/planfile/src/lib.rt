@@ -20,6 +20,7 @@ use refusals::test_write_plan;
 
 // Inner. The record of processor p at its place.
 fn put_plan_record(
+    startup: u32,
     speeds: &[u32],
     weights: &[u32],
     sums: &[u32],
@@ -28,7 +29,7 @@ fn put_plan_record(
     plan: &mut [u8],
 )
     ghost { Job }
-    requires { λ job. ⌜ jobOf (now speeds) (now weights) ≡ job ⌝ }
+    requires { λ job. ⌜ jobOf startup (now speeds) (now weights) ≡ job ⌝ }
     requires { λ job. ⌜ Ready job (now sums) ⌝ }
     requires { λ job. ⌜ Partition job (take (suc (processors job)) (now separators)) ⌝ }
     requires { λ job. ⌜ (p < processors job) × (planRecordSize * p + planRecordSize ≤ length (now plan)) ⌝ }
@@ -48,9 +49,16 @@ fn put_plan_record(
 }
 
 // Inner. The records of all processors to the front of the buffer. Later bytes stay.
-pub fn put_plan(speeds: &[u32], weights: &[u32], sums: &[u32], separators: &[u32], plan: &mut [u8])
+pub fn put_plan(
+    startup: u32,
+    speeds: &[u32],
+    weights: &[u32],
+    sums: &[u32],
+    separators: &[u32],
+    plan: &mut [u8],
+)
     ghost { Job }
-    requires { λ job. ⌜ jobOf (now speeds) (now weights) ≡ job ⌝ }
+    requires { λ job. ⌜ jobOf startup (now speeds) (now weights) ≡ job ⌝ }
     requires { λ job. ⌜ Ready job (now sums) ⌝ }
     requires { λ job. ⌜ Partition job (take (suc (processors job)) (now separators)) ⌝ }
     requires { λ job. ⌜ planNeeded job ≤ length (now plan) ⌝ }
@@ -59,26 +67,32 @@ pub fn put_plan(speeds: &[u32], weights: &[u32], sums: &[u32], separators: &[u32
 {
     let mut p = 0;
     while p < speeds.len() {
-        put_plan_record(speeds, weights, sums, separators, p, plan);
+        put_plan_record(startup, speeds, weights, sums, separators, p, plan);
         p += 1;
     }
 }
 
 // Writes a plan file: the count of its bytes, or the refusal: 5, 6, 7, 8, 9 or 11, in this order. Later bytes stay.
-pub fn write_plan(speeds: &[u32], weights: &[u32], separators: &[u32], plan: &mut [u8]) -> Written
+pub fn write_plan(
+    startup: u32,
+    speeds: &[u32],
+    weights: &[u32],
+    separators: &[u32],
+    plan: &mut [u8],
+) -> Written
     ensures answer { λ r.
-        let job = jobOf (now (speeds .entry)) (now (weights .entry)) in
+        let job = jobOf startup (now (speeds .entry)) (now (weights .entry)) in
         ⌜ r ≡ writePlanAnswer job (now (separators .entry)) (length (now (plan .entry))) ⌝ }
     ensures bytes { λ _.
-        let job = jobOf (now (speeds .entry)) (now (weights .entry)) in
+        let job = jobOf startup (now (speeds .entry)) (now (weights .entry)) in
         ⌜ now (plan .exit) ≡ writePlanBytes job (now (separators .entry)) (now (plan .entry)) ⌝ }
 {
-    let number = test_write_plan(speeds, weights, separators, plan.len());
+    let number = test_write_plan(startup, speeds, weights, separators, plan.len());
     if number != 0 {
         return Written::Refused(number);
     }
     let mut sums = [0u32; MAX_TASKS + 1];
     prefix_sums(weights, &mut sums);
-    put_plan(speeds, weights, &sums, separators, plan);
+    put_plan(startup, speeds, weights, &sums, separators, plan);
     Written::Bytes(PLAN_RECORD * speeds.len())
 }

@@ -42,9 +42,9 @@ fn least_of(values: &[u32]) -> u32
 }
 
 // D, the heaviest weight times the fastest speed squared over the slowest speed. Inner.
-fn difference_of(speeds: &[u32], weights: &[u32]) -> u64
+fn difference_of(startup: u32, speeds: &[u32], weights: &[u32]) -> u64
     ghost { Job }
-    requires { λ job. ⌜ jobOf (now speeds) (now weights) ≡ job ⌝ }
+    requires { λ job. ⌜ jobOf startup (now speeds) (now weights) ≡ job ⌝ }
     requires { λ job. ⌜ Valid job ⌝ }
     ensures { λ job r. ⌜ r ≡ difference job ⌝ }
 {
@@ -63,9 +63,9 @@ fn digits_of(n: u64) -> u32
 }
 
 // The allowance of a method. Inner: the job is within the limits.
-pub fn allowance_of(method: Method, speeds: &[u32], weights: &[u32]) -> u32
+pub fn allowance_of(method: Method, startup: u32, speeds: &[u32], weights: &[u32]) -> u32
     ghost { Job }
-    requires { λ job. ⌜ jobOf (now speeds) (now weights) ≡ job ⌝ }
+    requires { λ job. ⌜ jobOf startup (now speeds) (now weights) ≡ job ⌝ }
     requires { λ job. ⌜ Valid job ⌝ }
     ensures { λ job r. ⌜ r ≡ allowance method job ⌝ }
 {
@@ -74,7 +74,7 @@ pub fn allowance_of(method: Method, speeds: &[u32], weights: &[u32]) -> u32
     match method {
         Method::Table => most as u32,
         Method::Bidding => (most + 1) as u32,
-        Method::Bisection => 1 + digits_of(difference_of(speeds, weights)),
+        Method::Bisection => 1 + digits_of(difference_of(startup, speeds, weights)),
         Method::Nicol => last as u32 * digits_of(weights.len() as u64),
     }
 }

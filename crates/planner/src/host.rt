@@ -21,30 +21,37 @@ use refusals::PLAN_RECORD;
 use refusals::choose;
 
 // Inner. Plans a tested job and writes its plan file to the front of the buffer.
-fn write_best(method: Method, speeds: &[u32], weights: &[u32], plan: &mut [u8])
+fn write_best(method: Method, startup: u32, speeds: &[u32], weights: &[u32], plan: &mut [u8])
     ghost { Job }
-    requires { λ job. ⌜ jobOf (now speeds) (now weights) ≡ job ⌝ }
+    requires { λ job. ⌜ jobOf startup (now speeds) (now weights) ≡ job ⌝ }
     requires { λ job. ⌜ Valid job ⌝ }
     requires { λ job. ⌜ planNeeded job ≤ length (now plan) ⌝ }
     ensures { λ job _. ⌜ now (plan .exit) ≡ planBytes job (planOf job) ++ drop (planNeeded job) (now (plan .entry)) ⌝ }
 {
     let mut separators = [0u32; super::SEPARATORS];
     let mut scratch = [0u32; super::SCRATCH];
-    super::plan_in(method, speeds, weights, &mut separators, &mut scratch);
-    put_plan(speeds, weights, &scratch, &separators, plan);
+    super::plan_in(
+        method,
+        startup,
+        speeds,
+        weights,
+        &mut separators,
+        &mut scratch,
+    );
+    put_plan(startup, speeds, weights, &scratch, &separators, plan);
 }
 
 // Inner. The test of the buffer, and the plan.
-fn plan_read(method: Method, speeds: &[u32], weights: &[u32], plan: &mut [u8]) -> u32
+fn plan_read(method: Method, startup: u32, speeds: &[u32], weights: &[u32], plan: &mut [u8]) -> u32
     ghost { Job }
-    requires { λ job. ⌜ jobOf (now speeds) (now weights) ≡ job ⌝ }
+    requires { λ job. ⌜ jobOf startup (now speeds) (now weights) ≡ job ⌝ }
     requires { λ job. ⌜ Valid job ⌝ }
     ensures { λ job r. ⌜ Host job (now (plan .entry)) (now (plan .exit)) r ⌝ }
 {
     if plan.len() < PLAN_RECORD * speeds.len() {
         return 9;
     }
-    write_best(method, speeds, weights, plan);
+    write_best(method, startup, speeds, weights, plan);
     0
 }
 

@@ -8,9 +8,15 @@ ghost use Rattle.chain.specs.Plan.{imbalance};
 use bound::Bound;
 
 // The imbalance of a bottleneck in thousandths of the ideal, rounded up. Inner: the bottleneck is no less than the ideal.
-pub fn imbalance_of(speeds: &[u32], weights: &[u32], total: u64, bottleneck: Bound) -> u64
+pub fn imbalance_of(
+    startup: u32,
+    speeds: &[u32],
+    weights: &[u32],
+    total: u64,
+    bottleneck: Bound,
+) -> u64
     ghost { Job }
-    requires { λ job. ⌜ jobOf (now speeds) (now weights) ≡ job ⌝ }
+    requires { λ job. ⌜ jobOf startup (now speeds) (now weights) ≡ job ⌝ }
     requires { λ job. ⌜ Valid job ⌝ }
     requires { λ job. ⌜ (total ≡ sum (now weights)) × Small bottleneck × (ideal job ≼ bottleneck) ⌝ }
     ensures { λ job r. ⌜ r ≡ imbalance job bottleneck ⌝ }

@@ -61,13 +61,14 @@ pub enum Planned {
 // Inner. Runs the method; the scratch list begins with the prefix sums, and still does when it ends.
 fn run_method(
     method: Method,
+    startup: u32,
     speeds: &[u32],
     weights: &[u32],
     separators: &mut [u32],
     scratch: &mut [u32],
 ) -> Found
     ghost { Job }
-    requires { λ job. ⌜ jobOf (now speeds) (now weights) ≡ job ⌝ }
+    requires { λ job. ⌜ jobOf startup (now speeds) (now weights) ≡ job ⌝ }
     requires { λ job. ⌜ Ready job (now scratch) ⌝ }
     requires { λ job. ⌜ (processors job < length (now separators)) × (scratchNeeded job ≤ length (now scratch)) ⌝ }
     ensures { λ job r. ⌜ MethodEnds method job (r .count) (r .bound) ⌝ }
@@ -77,29 +78,37 @@ fn run_method(
     ensures { λ job r. ⌜ KeptFrom (scratchNeeded job) (now (scratch .entry)) (now (scratch .exit)) ⌝ }
 {
     match method {
-        Method::Table => table_in(speeds, weights, scratch),
-        Method::Bidding => bidding_in(speeds, weights, scratch, separators),
-        Method::Bisection => bisection_in(speeds, weights, scratch, separators),
-        Method::Nicol => nicol_in(speeds, weights, scratch, separators),
+        Method::Table => table_in(startup, speeds, weights, scratch),
+        Method::Bidding => bidding_in(startup, speeds, weights, scratch, separators),
+        Method::Bisection => bisection_in(startup, speeds, weights, scratch, separators),
+        Method::Nicol => nicol_in(startup, speeds, weights, scratch, separators),
     }
 }
 
 // Inner. The closing walk at the bottleneck found: it writes the separators and is not counted.
-fn close_walk(speeds: &[u32], weights: &[u32], sums: &[u32], bound: Bound, separators: &mut [u32])
+fn close_walk(
+    startup: u32,
+    speeds: &[u32],
+    weights: &[u32],
+    sums: &[u32],
+    bound: Bound,
+    separators: &mut [u32],
+)
     ghost { Job }
-    requires { λ job. ⌜ jobOf (now speeds) (now weights) ≡ job ⌝ }
+    requires { λ job. ⌜ jobOf startup (now speeds) (now weights) ≡ job ⌝ }
     requires { λ job. ⌜ Ready job (now sums) ⌝ }
     requires { λ job. ⌜ processors job < length (now separators) ⌝ }
     requires { λ job. ⌜ walk job bound ≡ planOf job ⌝ }
     requires { λ job. ⌜ Lendable bound ⌝ }
     ensures { λ job _. ⌜ now (separators .exit) ≡ planOf job ++ drop (suc (processors job)) (now (separators .entry)) ⌝ }
 {
-    probe_in(speeds, weights, sums, bound, separators);
+    probe_in(startup, speeds, weights, sums, bound, separators);
 }
 
 // Inner. The closing walk, and the figures of the plan.
 fn close_plan(
     method: Method,
+    startup: u32,
     speeds: &[u32],
     weights: &[u32],
     sums: &[u32],
@@ -107,7 +116,7 @@ fn close_plan(
     separators: &mut [u32],
 ) -> Figures
     ghost { Job }
-    requires { λ job. ⌜ jobOf (now speeds) (now weights) ≡ job ⌝ }
+    requires { λ job. ⌜ jobOf startup (now speeds) (now weights) ≡ job ⌝ }
     requires { λ job. ⌜ Ready job (now sums) ⌝ }
     requires { λ job. ⌜ processors job < length (now separators) ⌝ }
     requires { λ job. ⌜ MethodEnds method job (found .count) (found .bound) ⌝ }
@@ -117,11 +126,11 @@ fn close_plan(
 {
     let bound = found.bound;
     let count = found.count;
-    close_walk(speeds, weights, sums, bound, separators);
-    let bottleneck = measure_in(speeds, weights, sums, separators);
+    close_walk(startup, speeds, weights, sums, bound, separators);
+    let bottleneck = measure_in(startup, speeds, weights, sums, separators);
     let total = wide(sums[weights.len()]);
-    let allowance = allowance_of(method, speeds, weights);
-    let imbalance = imbalance_of(speeds, weights, total, bottleneck);
+    let allowance = allowance_of(method, startup, speeds, weights);
+    let imbalance = imbalance_of(startup, speeds, weights, total, bottleneck);
     Figures {
         count,
         allowance,
@@ -133,13 +142,14 @@ fn close_plan(
 // Inner. Plans a job that has been tested.
 pub fn plan_in(
     method: Method,
+    startup: u32,
     speeds: &[u32],
     weights: &[u32],
     separators: &mut [u32],
     scratch: &mut [u32],
 ) -> Figures
     ghost { Job }
-    requires { λ job. ⌜ jobOf (now speeds) (now weights) ≡ job ⌝ }
+    requires { λ job. ⌜ jobOf startup (now speeds) (now weights) ≡ job ⌝ }
     requires { λ job. ⌜ Valid job ⌝ }
     requires { λ job. ⌜ (processors job < length (now separators)) × (scratchNeeded job ≤ length (now scratch)) ⌝ }
     ensures { λ job r. ⌜ r ≡ planFigures method job ⌝ }
@@ -148,59 +158,61 @@ pub fn plan_in(
     ensures { λ job _. ⌜ Ready job (now (scratch .exit)) ⌝ }
 {
     prefix_sums(weights, scratch);
-    let found = run_method(method, speeds, weights, separators, scratch);
-    close_plan(method, speeds, weights, scratch, found, separators)
+    let found = run_method(method, startup, speeds, weights, separators, scratch);
+    close_plan(method, startup, speeds, weights, scratch, found, separators)
 }
 
 // Plans a job by a method that is known: the plan, or the refusal: 5, 6, 7, 8 or 9, in this order.
 fn plan_by(
     method: Method,
+    startup: u32,
     speeds: &[u32],
     weights: &[u32],
     separators: &mut [u32],
     scratch: &mut [u32],
 ) -> Planned
     ensures answer { λ r.
-        let job = jobOf (now (speeds .entry)) (now (weights .entry)) in
+        let job = jobOf startup (now (speeds .entry)) (now (weights .entry)) in
         ⌜ r ≡ methodAnswer job method (now (separators .entry)) (now (scratch .entry)) ⌝ }
     ensures separators { λ _.
-        let job = jobOf (now (speeds .entry)) (now (weights .entry)) in
+        let job = jobOf startup (now (speeds .entry)) (now (weights .entry)) in
         ⌜ now (separators .exit) ≡ methodWrites job (now (separators .entry)) (now (scratch .entry)) ⌝ }
     ensures scratch { λ _.
-        let job = jobOf (now (speeds .entry)) (now (weights .entry)) in
+        let job = jobOf startup (now (speeds .entry)) (now (weights .entry)) in
         let number = listsRefusal job (length (now (separators .entry))) (length (now (scratch .entry))) in
         ⌜ ScratchAfter number job (now (scratch .entry)) (now (scratch .exit)) ⌝ }
 {
-    let tested = test_plan(speeds, weights, separators.len(), scratch.len());
+    let tested = test_plan(startup, speeds, weights, separators.len(), scratch.len());
     if tested != 0 {
         return Planned::Refused(tested);
     }
-    Planned::Accepted(plan_in(method, speeds, weights, separators, scratch))
+    Planned::Accepted(plan_in(method, startup, speeds, weights, separators, scratch))
 }
 
 // Plans a job by the method with this number: the first P + 1 separators become the plan's, or the refusal: 1, 5, 6, 7, 8 or 9, in
 // this order.
 pub fn plan(
     method: u32,
+    startup: u32,
     speeds: &[u32],
     weights: &[u32],
     separators: &mut [u32],
     scratch: &mut [u32],
 ) -> Planned
     ensures answer { λ r.
-        let job = jobOf (now (speeds .entry)) (now (weights .entry)) in
+        let job = jobOf startup (now (speeds .entry)) (now (weights .entry)) in
         ⌜ r ≡ planAnswer job method (now (separators .entry)) (now (scratch .entry)) ⌝ }
     ensures separators { λ _.
-        let job = jobOf (now (speeds .entry)) (now (weights .entry)) in
+        let job = jobOf startup (now (speeds .entry)) (now (weights .entry)) in
         ⌜ now (separators .exit) ≡ planWrites job method (now (separators .entry)) (now (scratch .entry)) ⌝ }
     ensures scratch { λ _.
-        let job = jobOf (now (speeds .entry)) (now (weights .entry)) in
+        let job = jobOf startup (now (speeds .entry)) (now (weights .entry)) in
         let number = planRefusal job method (length (now (separators .entry))) (length (now (scratch .entry))) in
         ⌜ ScratchAfter number job (now (scratch .entry)) (now (scratch .exit)) ⌝ }
 {
     let chosen = choose(method);
     match chosen {
         Chosen::Unknown => Planned::Refused(1),
-        Chosen::Known(known) => plan_by(known, speeds, weights, separators, scratch),
+        Chosen::Known(known) => plan_by(known, startup, speeds, weights, separators, scratch),
     }
 }

@@ -56,6 +56,7 @@ pub fn raised(sum: u32, load: u64) -> u32
 // Inner. The greatest index from a to N whose part, from a on, is within the bound on processor p. The hint changes only the time:
 // the end in a walk at a lesser bound is a good one.
 pub fn part_end(
+    startup: u32,
     speeds: &[u32],
     weights: &[u32],
     sums: &[u32],
@@ -65,7 +66,7 @@ pub fn part_end(
     hint: usize,
 ) -> usize
     ghost { Job }
-    requires { λ job. ⌜ jobOf (now speeds) (now weights) ≡ job ⌝ }
+    requires { λ job. ⌜ jobOf startup (now speeds) (now weights) ≡ job ⌝ }
     requires { λ job. ⌜ Ready job (now sums) ⌝ }
     requires { λ job. ⌜ Lendable bound ⌝ }
     requires { λ job. ⌜ (p < processors job) × (a ≤ tasks job) ⌝ }
@@ -89,6 +90,7 @@ pub fn one_more(i: usize, n: usize) -> usize
 
 // Inner. The bid of processor p: the bound of its part from a to end with one more task.
 pub fn bid_of(
+    startup: u32,
     speeds: &[u32],
     weights: &[u32],
     sums: &[u32],
@@ -97,7 +99,7 @@ pub fn bid_of(
     end: usize,
 ) -> Bound
     ghost { Job }
-    requires { λ job. ⌜ jobOf (now speeds) (now weights) ≡ job ⌝ }
+    requires { λ job. ⌜ jobOf startup (now speeds) (now weights) ≡ job ⌝ }
     requires { λ job. ⌜ Ready job (now sums) ⌝ }
     requires { λ job. ⌜ (p < processors job) × (a ≤ end) × (end ≤ tasks job) ⌝ }
     ensures { λ job r. ⌜ r ≡ offer job p a (suc end) ⌝ }
@@ -108,9 +110,16 @@ pub fn bid_of(
 }
 
 // Inner. The bound of all that remains from a on, on processor p.
-pub fn rest_of(speeds: &[u32], weights: &[u32], sums: &[u32], p: usize, a: usize) -> Bound
+pub fn rest_of(
+    startup: u32,
+    speeds: &[u32],
+    weights: &[u32],
+    sums: &[u32],
+    p: usize,
+    a: usize,
+) -> Bound
     ghost { Job }
-    requires { λ job. ⌜ jobOf (now speeds) (now weights) ≡ job ⌝ }
+    requires { λ job. ⌜ jobOf startup (now speeds) (now weights) ≡ job ⌝ }
     requires { λ job. ⌜ Ready job (now sums) ⌝ }
     requires { λ job. ⌜ (p < processors job) × (a ≤ tasks job) ⌝ }
     ensures { λ job r. ⌜ r ≡ offer job p a (tasks job) ⌝ }
@@ -129,6 +138,7 @@ pub struct Point {
 // Inner. The probe at the bound from a point on that its walk has reached: writes the separators from there on, whether it fits
 // or not, and answers. What the list holds from there on is a hint, most often the walk before.
 pub fn walk_from(
+    startup: u32,
     speeds: &[u32],
     weights: &[u32],
     sums: &[u32],
@@ -137,7 +147,7 @@ pub fn walk_from(
     separators: &mut [u32],
 ) -> Outcome
     ghost { Job }
-    requires { λ job. ⌜ jobOf (now speeds) (now weights) ≡ job ⌝ }
+    requires { λ job. ⌜ jobOf startup (now speeds) (now weights) ≡ job ⌝ }
     requires { λ job. ⌜ Ready job (now sums) ⌝ }
     requires { λ job. ⌜ Lendable bound ⌝ }
     requires { λ job. ⌜ processors job < length (now separators) ⌝ }
@@ -153,14 +163,14 @@ pub fn walk_from(
     while p < last {
         let hint = index(separators[p + 1]);
         separators[p] = narrow(a);
-        let end = part_end(speeds, weights, sums, p, a, bound, hint);
-        best = Bound::lesser(best, bid_of(speeds, weights, sums, p, a, end));
+        let end = part_end(startup, speeds, weights, sums, p, a, bound, hint);
+        best = Bound::lesser(best, bid_of(startup, speeds, weights, sums, p, a, end));
         a = end;
         p += 1;
     }
     separators[p] = narrow(a);
     separators[p + 1] = narrow(n);
-    let rest = rest_of(speeds, weights, sums, p, a);
+    let rest = rest_of(startup, speeds, weights, sums, p, a);
     if Bound::at_most(rest, bound) {
         return Outcome::Fits;
     }
@@ -169,6 +179,7 @@ pub fn walk_from(
 
 // Inner. The probe at the bound: writes the walk's P + 1 separators, whether it fits or not, and answers.
 pub fn probe_in(
+    startup: u32,
     speeds: &[u32],
     weights: &[u32],
     sums: &[u32],
@@ -176,7 +187,7 @@ pub fn probe_in(
     separators: &mut [u32],
 ) -> Outcome
     ghost { Job }
-    requires { λ job. ⌜ jobOf (now speeds) (now weights) ≡ job ⌝ }
+    requires { λ job. ⌜ jobOf startup (now speeds) (now weights) ≡ job ⌝ }
     requires { λ job. ⌜ Ready job (now sums) ⌝ }
     requires { λ job. ⌜ Lendable bound ⌝ }
     requires { λ job. ⌜ processors job < length (now separators) ⌝ }
@@ -188,12 +199,13 @@ pub fn probe_in(
         start: 0,
         least: Bound::INFINITE,
     };
-    walk_from(speeds, weights, sums, bound, first, separators)
+    walk_from(startup, speeds, weights, sums, bound, first, separators)
 }
 
 // Inner. The same probe, which writes how far each processor gets: where it fits that is the walk, where it fails the last entry is
 // how far the last processor reaches.
 pub fn walked_in(
+    startup: u32,
     speeds: &[u32],
     weights: &[u32],
     sums: &[u32],
@@ -201,20 +213,20 @@ pub fn walked_in(
     separators: &mut [u32],
 ) -> Outcome
     ghost { Job }
-    requires { λ job. ⌜ jobOf (now speeds) (now weights) ≡ job ⌝ }
+    requires { λ job. ⌜ jobOf startup (now speeds) (now weights) ≡ job ⌝ }
     requires { λ job. ⌜ Ready job (now sums) ⌝ }
     requires { λ job. ⌜ Lendable bound ⌝ }
     requires { λ job. ⌜ processors job < length (now separators) ⌝ }
     ensures { λ job r. ⌜ r ≡ probe job bound ⌝ }
     ensures { λ job r. ⌜ now (separators .exit) ≡ walked job bound ++ drop (suc (processors job)) (now (separators .entry)) ⌝ }
 {
-    let answer = probe_in(speeds, weights, sums, bound, separators);
+    let answer = probe_in(startup, speeds, weights, sums, bound, separators);
     match answer {
         Outcome::Fits => Outcome::Fits,
         Outcome::Fails(next) => {
             let last = speeds.len() - 1;
             let a = index(separators[last]);
-            let end = part_end(speeds, weights, sums, last, a, bound, a);
+            let end = part_end(startup, speeds, weights, sums, last, a, bound, a);
             separators[last + 1] = narrow(end);
             Outcome::Fails(next)
         }

@@ -9,3 +9,4 @@ pub mod Accepted
 pub mod Lent
 pub mod Answering
 pub mod Promises
+pub mod Editions

@@ -13,10 +13,10 @@ use borrow.Author.Tests.{le-leb, lt-leb, not-true, not-false}
 use Rattle.bound.specs.declared.Bound.{Bound}
 use Rattle.chain.specs.Limits.{maxBoundLoad, maxBoundSpeed}
 use Rattle.chain.specs.Lists.{powerOfTwo}
-use Rattle.chain.specs.Job.{Job, tasks, processors}
+use Rattle.chain.specs.Job.{Edition, Job, tasks, processors}
 use Rattle.chain.specs.Refusal.{Test, between, eachBetween, methodTest, allEqual, rowTest, lengthTest, boundTest, isPartition, partitionTest, firstRefusal, jobTests, separatorsNeeded, measureInputs, halvingInputs, callTests, refusal}
 use Rattle.chain.proofs.Refusals.{numbered-nil, numbered-cons, first-decide, others-decide, job-numbered, call-numbered}
-use Rattle.refusals.specs.Inputs.{scratchLists, scratchNeeded, planNeeded, bytesNeeded, probeInputs, heuristicInputs, planLists, planInputs, writeInputs, writePlanInputs}
+use Rattle.refusals.specs.Inputs.{recordSize, scratchLists, scratchNeeded, planNeeded, headRecords, bytesNeeded, probeInputs, heuristicInputs, planLists, planInputs, writeInputs, writePlanInputs}
 use Rattle.refusals.proofs.Each.{between-low, between-high, between-in}
 use Rattle.refusals.proofs.Steps.{fails, passes, passed-all}
 
@@ -219,14 +219,17 @@ module _ (job : Job) where
         others-decide (methodTest m ∷ []) (callTests job (planLists job separators scratch)) e (numbered-cons (omega arith) numbered-nil) refl f
 
   -- Writing a job file: the job, then the buffer.
-  module _ (lent : ℕ) {n : ℕ} (e : n ≡ firstRefusal (jobTests job)) where
-    pub write-job-tests : n ≢ 0 → n ≡ refusal job (writeInputs job lent)
+  module _ (edition : Edition) (lent : ℕ) {n : ℕ} (e : n ≡ firstRefusal (jobTests job)) where
+    pub write-job-tests : n ≢ 0 → n ≡ refusal job (writeInputs edition job lent)
     unfolding refusal callTests jobTests
-    write-job-tests h = first-decide (jobTests job) (lengthTest (bytesNeeded job) lent ∷ []) e h
+    write-job-tests h = first-decide (jobTests job) (lengthTest (bytesNeeded edition job) lent ∷ []) e h
 
-    pub write-bytes : n ≡ 0 → {k : ℕ} → k ≡ firstRefusal (lengthTest (bytesNeeded job) lent ∷ []) → k ≡ refusal job (writeInputs job lent)
+    pub write-bytes : n ≡ 0 → {h : ℕ} → h ≡ headRecords edition → {k : ℕ} → k ≡ firstRefusal (lengthTest (recordSize * (h + (tasks job + processors job))) lent ∷ [])
+        → k ≡ refusal job (writeInputs edition job lent)
     unfolding refusal callTests jobTests
-    write-bytes z f = others-decide (jobTests job) (lengthTest (bytesNeeded job) lent ∷ []) e (job-numbered job) z f
+    write-bytes z head f =
+        others-decide (jobTests job) (lengthTest (bytesNeeded edition job) lent ∷ []) e (job-numbered job) z
+        (f ∙ ap (λ (h : ℕ). firstRefusal (lengthTest (recordSize * (h + (tasks job + processors job))) lent ∷ [])) head)
 
   -- Writing a plan file: the job and the separators, then the buffer, then the division.
   module _ (s : List ℕ) (lent : ℕ) {n : ℕ} (e : n ≡ refusal job (heuristicInputs job (length s))) where

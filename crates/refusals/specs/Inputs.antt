@@ -3,7 +3,7 @@ use Prim.Native.Nat.{ℕ, suc, _+_, _*_}
 use mathlib.Core.List.{List}
 use lib.ListN.{length}
 use Rattle.bound.specs.declared.Bound.{Bound}
-use Rattle.chain.specs.Job.{Job, tasks, processors}
+use Rattle.chain.specs.Job.{Edition, First, Second, Job, tasks, processors}
 use Rattle.chain.specs.Refusal.{Inputs, nothing, withMethod, lending, withBound, withDivision, separatorsNeeded}
 
 -- Scope 7.2: "8-byte records", of a job file.
@@ -25,9 +25,14 @@ scratchNeeded job = scratchLists * suc (tasks job)
 abbrev pub planNeeded : Job → ℕ
 planNeeded job = planRecordSize * processors job
 
--- Scope 8.7: "8 × (N + P) bytes for a job file"
-abbrev pub bytesNeeded : Job → ℕ
-bytesNeeded job = recordSize * (tasks job + processors job)
+-- Scope 17.9: "A job file of the second edition has one record more, in front"
+unfoldable pub headRecords : Edition → ℕ
+headRecords First = 0
+headRecords (Second c) = 1
+
+-- Scope 8.7: "8 × (N + P) bytes for a job file", 8 more in the second edition.
+abbrev pub bytesNeeded : Edition → Job → ℕ
+bytesNeeded edition job = recordSize * (headRecords edition + (tasks job + processors job))
 
 -- The probe ("trial"): the bound, and a list of this length for the separators.
 abbrev pub probeInputs : Job → Bound → ℕ → Inputs
@@ -45,8 +50,8 @@ abbrev pub planInputs : Job → ℕ → ℕ → ℕ → Inputs
 planInputs job m separators scratch = withMethod m (planLists job separators scratch)
 
 -- Writing a job file: a buffer of this length.
-abbrev pub writeInputs : Job → ℕ → Inputs
-writeInputs job lent = lending (bytesNeeded job) lent nothing
+abbrev pub writeInputs : Edition → Job → ℕ → Inputs
+writeInputs edition job lent = lending (bytesNeeded edition job) lent nothing
 
 -- Writing a plan file: the separators of a division, and a buffer of this length.
 abbrev pub writePlanInputs : Job → List ℕ → ℕ → Inputs

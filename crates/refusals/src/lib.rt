@@ -7,11 +7,12 @@ ghost use lib.ListN.{length, take};
 ghost use lib.Dec.{leb};
 ghost use Rattle.chain.specs.Limits.{maxProcessors, maxTasks};
 ghost use Rattle.chain.specs.Lists.{powerOfTwo};
-ghost use Rattle.chain.specs.Job.{Job, jobOf, processors};
+ghost use Rattle.chain.specs.Job as counts;
+ghost use Rattle.chain.specs.Job.{editionOf, Job, jobOf, processors};
 ghost use Rattle.chain.specs.Refusal.{test, between, eachBetween, rowTest, lengthTest, boundTest, isPartition, partitionTest};
 ghost use Rattle.chain.specs.Refusal.{firstRefusal, jobTests, measureInputs, halvingInputs, refusal};
 ghost use Rattle.refusals.specs.Methods.{chosenOf, numberOf};
-ghost use Rattle.refusals.specs.Inputs.{probeInputs, heuristicInputs, planLists, writeInputs, writePlanInputs};
+ghost use Rattle.refusals.specs.Inputs.{headRecords, probeInputs, heuristicInputs, planLists, writeInputs, writePlanInputs};
 use bound::Bound;
 use chain::Method;
 
@@ -19,6 +20,8 @@ use chain::Method;
 pub const MAX_TASKS: usize = 2048;
 
 pub const MAX_WEIGHT: u32 = 1_000_000;
+
+pub const MAX_STARTUP: u32 = 1_000_000;
 
 pub const MAX_PROCESSORS: usize = 96;
 
@@ -92,12 +95,22 @@ pub fn test_counts(processors: usize, tasks: usize) -> u32
     0
 }
 
-// The test of a job by lists: 0, or the number of the refusal: 5, 6, 7 or 8, in this order.
-pub fn test_job(speeds: &[u32], weights: &[u32]) -> u32
+// Inner. The start-up work that counts: in the first edition it is 0.
+pub fn effective(second: bool, startup: u32) -> u32
+    ensures { λ r. ⌜ r ≡ counts.effective second startup ⌝ }
+{
+    if second { startup } else { 0 }
+}
+
+// Inner. The test of a job by its start-up work and its lists: 0, or the number of the refusal: 16, 5, 6, 7 or 8, in this order.
+pub fn test_lists(startup: u32, speeds: &[u32], weights: &[u32]) -> u32
     ensures { λ r.
-        let job = jobOf (now (speeds .entry)) (now (weights .entry)) in
+        let job = jobOf startup (now (speeds .entry)) (now (weights .entry)) in
         ⌜ r ≡ firstRefusal (jobTests job) ⌝ }
 {
+    if MAX_STARTUP < startup {
+        return 16;
+    }
     if !each_between(1, MAX_SPEED, speeds) {
         return 5;
     }
@@ -107,10 +120,19 @@ pub fn test_job(speeds: &[u32], weights: &[u32]) -> u32
     test_counts(speeds.len(), weights.len())
 }
 
+// The test of a job by lists: 0, or the number of the refusal: 16, 5, 6, 7 or 8, in this order.
+pub fn test_job(second: bool, startup: u32, speeds: &[u32], weights: &[u32]) -> u32
+    ensures { λ r.
+        let job = jobOf (counts.effective second startup) (now (speeds .entry)) (now (weights .entry)) in
+        ⌜ r ≡ firstRefusal (jobTests job) ⌝ }
+{
+    test_lists(effective(second, startup), speeds, weights)
+}
+
 // Inner. Whether the first P + 1 separators are a partition of the job.
-pub fn is_partition(speeds: &[u32], weights: &[u32], separators: &[u32]) -> bool
+pub fn is_partition(startup: u32, speeds: &[u32], weights: &[u32], separators: &[u32]) -> bool
     ghost { Job }
-    requires { λ job. ⌜ jobOf (now speeds) (now weights) ≡ job ⌝ }
+    requires { λ job. ⌜ jobOf startup (now speeds) (now weights) ≡ job ⌝ }
     requires { λ job. ⌜ processors job < length (now separators) ⌝ }
     ensures { λ job r. ⌜ r ≡ isPartition job (take (suc (processors job)) (now (separators .entry))) ⌝ }
 {
@@ -209,39 +231,39 @@ fn test_bound(bound: Bound) -> u32
 }
 
 // Inner. The test of a division: 0 or 11.
-fn test_division(speeds: &[u32], weights: &[u32], separators: &[u32]) -> u32
+fn test_division(startup: u32, speeds: &[u32], weights: &[u32], separators: &[u32]) -> u32
     ghost { Job }
-    requires { λ job. ⌜ jobOf (now speeds) (now weights) ≡ job ⌝ }
+    requires { λ job. ⌜ jobOf startup (now speeds) (now weights) ≡ job ⌝ }
     requires { λ job. ⌜ processors job < length (now separators) ⌝ }
     ensures { λ job r. ⌜ r ≡ firstRefusal (partitionTest job (now (separators .entry)) ∷ []) ⌝ }
 {
-    if !is_partition(speeds, weights, separators) {
+    if !is_partition(startup, speeds, weights, separators) {
         return 11;
     }
     0
 }
 
-// Inner. The tests of the heuristic, with which every call with a list of separators begins: 0, or the refusal: 5, 6, 7, 8 or 9, in
+// Inner. The tests of the heuristic, with which every call with a list of separators begins: 0, or the refusal: 16, 5, 6, 7, 8 or 9, in
 // this order.
-pub fn test_heuristic(speeds: &[u32], weights: &[u32], lent: usize) -> u32
+pub fn test_heuristic(startup: u32, speeds: &[u32], weights: &[u32], lent: usize) -> u32
     ensures { λ r.
-        let job = jobOf (now (speeds .entry)) (now (weights .entry)) in
+        let job = jobOf startup (now (speeds .entry)) (now (weights .entry)) in
         ⌜ r ≡ refusal job (heuristicInputs job lent) ⌝ }
 {
-    let by_job = test_job(speeds, weights);
+    let by_job = test_lists(startup, speeds, weights);
     if by_job != 0 {
         return by_job;
     }
     test_length(speeds.len() + 1, lent)
 }
 
-// Inner. The tests of halving the row: 0, or the refusal: 5, 6, 7, 8, 14 or 9, in this order.
-pub fn test_halving(speeds: &[u32], weights: &[u32], lent: usize) -> u32
+// Inner. The tests of halving the row: 0, or the refusal: 16, 5, 6, 7, 8, 14 or 9, in this order.
+pub fn test_halving(startup: u32, speeds: &[u32], weights: &[u32], lent: usize) -> u32
     ensures { λ r.
-        let job = jobOf (now (speeds .entry)) (now (weights .entry)) in
+        let job = jobOf startup (now (speeds .entry)) (now (weights .entry)) in
         ⌜ r ≡ refusal job (halvingInputs job lent) ⌝ }
 {
-    let by_job = test_job(speeds, weights);
+    let by_job = test_lists(startup, speeds, weights);
     if by_job != 0 {
         return by_job;
     }
@@ -253,26 +275,26 @@ pub fn test_halving(speeds: &[u32], weights: &[u32], lent: usize) -> u32
     by_list
 }
 
-// Inner. The tests of measuring: 0, or the refusal: 5, 6, 7, 8, 9 or 11, in this order.
-pub fn test_measure(speeds: &[u32], weights: &[u32], separators: &[u32]) -> u32
+// Inner. The tests of measuring: 0, or the refusal: 16, 5, 6, 7, 8, 9 or 11, in this order.
+pub fn test_measure(startup: u32, speeds: &[u32], weights: &[u32], separators: &[u32]) -> u32
     ensures { λ r.
-        let job = jobOf (now (speeds .entry)) (now (weights .entry)) in
+        let job = jobOf startup (now (speeds .entry)) (now (weights .entry)) in
         ⌜ r ≡ refusal job (measureInputs job (now (separators .entry))) ⌝ }
 {
-    let by_list = test_heuristic(speeds, weights, separators.len());
+    let by_list = test_heuristic(startup, speeds, weights, separators.len());
     if by_list != 0 {
         return by_list;
     }
-    test_division(speeds, weights, separators)
+    test_division(startup, speeds, weights, separators)
 }
 
-// Inner. The tests of a probe: 0, or the refusal: 5, 6, 7, 8, 9 or 10, in this order.
-pub fn test_probe(speeds: &[u32], weights: &[u32], bound: Bound, lent: usize) -> u32
+// Inner. The tests of a probe: 0, or the refusal: 16, 5, 6, 7, 8, 9 or 10, in this order.
+pub fn test_probe(startup: u32, speeds: &[u32], weights: &[u32], bound: Bound, lent: usize) -> u32
     ensures { λ r.
-        let job = jobOf (now (speeds .entry)) (now (weights .entry)) in
+        let job = jobOf startup (now (speeds .entry)) (now (weights .entry)) in
         ⌜ r ≡ refusal job (probeInputs job bound lent) ⌝ }
 {
-    let by_list = test_heuristic(speeds, weights, lent);
+    let by_list = test_heuristic(startup, speeds, weights, lent);
     let by_bound = test_bound(bound);
     if by_list != 0 {
         return by_list;
@@ -280,44 +302,71 @@ pub fn test_probe(speeds: &[u32], weights: &[u32], bound: Bound, lent: usize) ->
     by_bound
 }
 
-// Inner. The tests of planning into lists of these lengths, the method apart: 0, or the refusal: 5, 6, 7, 8 or 9, in this order.
-pub fn test_plan(speeds: &[u32], weights: &[u32], separators: usize, scratch: usize) -> u32
+// Inner. The tests of planning into lists of these lengths, the method apart: 0, or the refusal: 16, 5, 6, 7, 8 or 9, in this order.
+pub fn test_plan(
+    startup: u32,
+    speeds: &[u32],
+    weights: &[u32],
+    separators: usize,
+    scratch: usize,
+) -> u32
     ensures { λ r.
-        let job = jobOf (now (speeds .entry)) (now (weights .entry)) in
+        let job = jobOf startup (now (speeds .entry)) (now (weights .entry)) in
         ⌜ r ≡ refusal job (planLists job separators scratch) ⌝ }
 {
-    let by_list = test_heuristic(speeds, weights, separators);
+    let by_list = test_heuristic(startup, speeds, weights, separators);
     if by_list != 0 {
         return by_list;
     }
     test_length(SCRATCH_LISTS * (weights.len() + 1), scratch)
 }
 
-// Inner. The tests of writing a job file: 0, or the refusal: 5, 6, 7, 8 or 9, in this order.
-pub fn test_write_job(speeds: &[u32], weights: &[u32], lent: usize) -> u32
-    ensures { λ r.
-        let job = jobOf (now (speeds .entry)) (now (weights .entry)) in
-        ⌜ r ≡ refusal job (writeInputs job lent) ⌝ }
+// Inner. How many records of a job file stand before its machines: one in the second edition.
+pub fn head_records(second: bool, startup: u32) -> usize
+    ensures { λ r. ⌜ r ≡ headRecords (editionOf second startup) ⌝ }
+    ensures { λ r. ⌜ r ≤ 1 ⌝ }
 {
-    let by_job = test_job(speeds, weights);
+    if second { 1 } else { 0 }
+}
+
+// Inner. The tests of writing a job file: 0, or the refusal: 16, 5, 6, 7, 8 or 9, in this order.
+pub fn test_write_job(
+    second: bool,
+    startup: u32,
+    speeds: &[u32],
+    weights: &[u32],
+    lent: usize,
+) -> u32
+    ensures { λ r.
+        let job = jobOf startup (now (speeds .entry)) (now (weights .entry)) in
+        ⌜ r ≡ refusal job (writeInputs (editionOf second startup) job lent) ⌝ }
+{
+    let by_job = test_lists(startup, speeds, weights);
     if by_job != 0 {
         return by_job;
     }
-    test_length(RECORD * (weights.len() + speeds.len()), lent)
+    let head = head_records(second, startup);
+    test_length(RECORD * (head + (weights.len() + speeds.len())), lent)
 }
 
-// Inner. The tests of writing a plan file: 0, or the refusal: 5, 6, 7, 8, 9 or 11, in this order.
-pub fn test_write_plan(speeds: &[u32], weights: &[u32], separators: &[u32], lent: usize) -> u32
+// Inner. The tests of writing a plan file: 0, or the refusal: 16, 5, 6, 7, 8, 9 or 11, in this order.
+pub fn test_write_plan(
+    startup: u32,
+    speeds: &[u32],
+    weights: &[u32],
+    separators: &[u32],
+    lent: usize,
+) -> u32
     ensures { λ r.
-        let job = jobOf (now (speeds .entry)) (now (weights .entry)) in
+        let job = jobOf startup (now (speeds .entry)) (now (weights .entry)) in
         ⌜ r ≡ refusal job (writePlanInputs job (now (separators .entry)) lent) ⌝ }
 {
-    let by_list = test_heuristic(speeds, weights, separators.len());
+    let by_list = test_heuristic(startup, speeds, weights, separators.len());
     if by_list != 0 {
         return by_list;
     }
     let by_bytes = test_length(PLAN_RECORD * speeds.len(), lent);
-    let by_division = test_division(speeds, weights, separators);
+    let by_division = test_division(startup, speeds, weights, separators);
     if by_bytes != 0 {
         return by_bytes;
     }

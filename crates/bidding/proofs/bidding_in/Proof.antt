@@ -20,15 +20,15 @@ use Rattle.bidding.proofs.bidding_in.Statement.{statement}
 use Rattle.bidding.proofs.bidding_in.Tie as tie
 
 abbrev Inv-loop : tie.InvT-loop
-Inv-loop speeds weights sums separators₀ bound₀ point₀ failures₀ separators bound point failures =
-    Bidden (jobOf speeds weights) bound failures × (KeptFrom (suc (length speeds)) separators₀ separators × Reached (jobOf speeds weights) bound separators point)
+Inv-loop startup speeds weights sums separators₀ bound₀ point₀ failures₀ separators bound point failures =
+    Bidden (jobOf startup speeds weights) bound failures × (KeptFrom (suc (length speeds)) separators₀ separators × Reached (jobOf startup speeds weights) bound separators point)
 
 abbrev μ-loop : tie.MeasureT-loop
-μ-loop speeds weights sums separators₀ bound₀ point₀ failures₀ separators bound point failures = allowance Bidding (jobOf speeds weights) - failures
+μ-loop startup speeds weights sums separators₀ bound₀ point₀ failures₀ separators bound point failures = allowance Bidding (jobOf startup speeds weights) - failures
 
 -- The job that the lists make.
 abbrev job-at : tie.Start Inv-loop μ-loop → Job
-job-at s = jobOf (s .args .speeds .now) (s .args .weights .now)
+job-at s = jobOf (s .args .startup) (s .args .speeds .now) (s .args .weights .now)
 
 ideal-of-requires : tie.Need-ideal-of-requires Inv-loop μ-loop
 ideal-of-requires c κs = search needs

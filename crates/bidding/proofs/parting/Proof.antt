@@ -11,10 +11,10 @@ use Rattle.bidding.proofs.parting.Statement.{statement}
 use Rattle.bidding.proofs.parting.Tie as tie
 
 abbrev Inv-loop : tie.InvT-loop
-Inv-loop speeds weights sums next separators last least₀ a₀ p₀ least a p = Scanned (jobOf speeds weights) next separators p a least
+Inv-loop startup speeds weights sums next separators last least₀ a₀ p₀ least a p = Scanned (jobOf startup speeds weights) next separators p a least
 
 abbrev μ-loop : tie.MeasureT-loop
-μ-loop speeds weights sums next separators last least₀ a₀ p₀ least a p = last - p
+μ-loop startup speeds weights sums next separators last least₀ a₀ p₀ least a p = last - p
 
 sub-last : tie.Need-sub-last Inv-loop μ-loop
 sub-last c = omega arith

@@ -19,16 +19,16 @@ use Rattle.bisection.proofs.bisect.Statement.{statement}
 use Rattle.bisection.proofs.bisect.Tie as tie
 
 abbrev Inv-loop : tie.InvT-loop
-Inv-loop speeds weights sums separators₀ low₀ high₀ rounds₀ separators low high rounds =
-    Halved (jobOf speeds weights) low high rounds × KeptFrom (suc (length speeds)) separators₀ separators
+Inv-loop startup speeds weights sums separators₀ low₀ high₀ rounds₀ separators low high rounds =
+    Halved (jobOf startup speeds weights) low high rounds × KeptFrom (suc (length speeds)) separators₀ separators
     × (length speeds < length separators)
 
 abbrev μ-loop : tie.MeasureT-loop
-μ-loop speeds weights sums separators₀ low₀ high₀ rounds₀ separators low high rounds = digits (difference (jobOf speeds weights)) - rounds
+μ-loop startup speeds weights sums separators₀ low₀ high₀ rounds₀ separators low high rounds = digits (difference (jobOf startup speeds weights)) - rounds
 
 -- The job that the lists make.
 abbrev job-at : tie.Start Inv-loop μ-loop → Job
-job-at s = jobOf (s .args .speeds .now) (s .args .weights .now)
+job-at s = jobOf (s .args .startup) (s .args .speeds .now) (s .args .weights .now)
 
 heuristic-in-requires : tie.Need-heuristic-in-requires Inv-loop μ-loop
 heuristic-in-requires c κs = search needs

@@ -20,7 +20,7 @@ use Rattle.bisection.proofs.bisection_in.Tie as tie
 
 -- The job that the lists make.
 abbrev job-at : tie.Start → Job
-job-at s = jobOf (s .args .speeds .now) (s .args .weights .now)
+job-at s = jobOf (s .args .startup) (s .args .speeds .now) (s .args .weights .now)
 
 ideal-of-requires : tie.Need-ideal-of-requires
 ideal-of-requires c κs = search needs

@@ -20,7 +20,7 @@ use Rattle.bisection.proofs.next_ends.Tie as tie
 
 -- The job that the lists make.
 abbrev job-at : tie.Start → Job
-job-at s = jobOf (s .args .speeds .now) (s .args .weights .now)
+job-at s = jobOf (s .args .startup) (s .args .speeds .now) (s .args .weights .now)
 
 midpoint-requires : tie.Need-midpoint-requires
 midpoint-requires c κs = middle-products (c .before .before .before .before .pre .1 .1 .0) (c .before .before .before .before .pre .1 .1 .1)

@@ -13,7 +13,7 @@ test-halving-requires c κs = search needs
 returns : tie.Need-returns
 returns c =
     let a = c .before .before .before .before .before .args in
-    halving-refused (jobOf (a .speeds .now) (a .weights .now)) (a .separators .now) (c .before .test-halving .ensures) (c .if1 .taken)
+    halving-refused (jobOf (a .startup) (a .speeds .now) (a .weights .now)) (a .separators .now) (c .before .test-halving .ensures) (c .if1 .taken)
 
 halving-tested-requires : tie.Need-halving-tested-requires
 halving-tested-requires c κs =
@@ -28,7 +28,7 @@ returns-2 c =
     let e = c .before .before .before .before in
     let a = e .before .before .before .before .before .args in
     let found = c .before .before .halving-tested .ensures in
-    halving-accepted (jobOf (a .speeds .now) (a .weights .now)) (a .separators .now) (e .before .test-halving .ensures) (e .if1 .left) (found .0) (found .1)
+    halving-accepted (jobOf (a .startup) (a .speeds .now) (a .weights .now)) (a .separators .now) (e .before .test-halving .ensures) (e .if1 .left) (found .0) (found .1)
 
 pub halving-spec : {M : Type 1} → statement M
 halving-spec =

@@ -13,7 +13,7 @@ test-heuristic-requires c κs = search needs
 returns : tie.Need-returns
 returns c =
     let a = c .before .before .before .before .before .args in
-    heuristic-refused (jobOf (a .speeds .now) (a .weights .now)) (a .separators .now) (c .before .test-heuristic .ensures) (c .if1 .taken)
+    heuristic-refused (jobOf (a .startup) (a .speeds .now) (a .weights .now)) (a .separators .now) (c .before .test-heuristic .ensures) (c .if1 .taken)
 
 heuristic-tested-requires : tie.Need-heuristic-tested-requires
 heuristic-tested-requires c κs =
@@ -28,7 +28,7 @@ returns-2 c =
     let e = c .before .before .before .before in
     let a = e .before .before .before .before .before .args in
     let found = c .before .before .heuristic-tested .ensures in
-    heuristic-accepted (jobOf (a .speeds .now) (a .weights .now)) (a .separators .now) (e .before .test-heuristic .ensures) (e .if1 .left) (found .0) (found .1)
+    heuristic-accepted (jobOf (a .startup) (a .speeds .now) (a .weights .now)) (a .separators .now) (e .before .test-heuristic .ensures) (e .if1 .left) (found .0) (found .1)
 
 pub heuristic-spec : {M : Type 1} → statement M
 heuristic-spec =

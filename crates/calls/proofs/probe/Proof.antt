@@ -13,7 +13,7 @@ test-probe-requires c κs = search needs
 returns : tie.Need-returns
 returns c =
     let a = c .before .before .before .before .before .args in
-    probe-refused (jobOf (a .speeds .now) (a .weights .now)) (a .separators .now) (a .bound) (c .before .test-probe .ensures) (c .if1 .taken)
+    probe-refused (jobOf (a .startup) (a .speeds .now) (a .weights .now)) (a .separators .now) (a .bound) (c .before .test-probe .ensures) (c .if1 .taken)
 
 probe-tested-requires : tie.Need-probe-tested-requires
 probe-tested-requires c κs =
@@ -28,7 +28,7 @@ returns-2 c =
     let e = c .before .before .before .before in
     let a = e .before .before .before .before .before .args in
     let found = c .before .before .probe-tested .ensures in
-    probe-accepted (jobOf (a .speeds .now) (a .weights .now)) (a .separators .now) (a .bound) (e .before .test-probe .ensures) (e .if1 .left) (found .0) (found .1)
+    probe-accepted (jobOf (a .startup) (a .speeds .now) (a .weights .now)) (a .separators .now) (a .bound) (e .before .test-probe .ensures) (e .if1 .left) (found .0) (found .1)
 
 pub probe-spec : {M : Type 1} → statement M
 probe-spec =

@@ -18,10 +18,10 @@ use Rattle.dynamic.proofs.advance.Statement.{statement}
 use Rattle.dynamic.proofs.advance.Tie as tie
 
 abbrev Inv-loop : tie.InvT-loop
-Inv-loop speeds weights scratch before p speed i at₀ moves₀ at moves = Moving (jobOf speeds weights) p i at₀ moves₀ at moves
+Inv-loop startup speeds weights scratch before p speed i at₀ moves₀ at moves = Moving (jobOf startup speeds weights) p i at₀ moves₀ at moves
 
 abbrev μ-loop : tie.MeasureT-loop
-μ-loop speeds weights scratch before p speed i at₀ moves₀ at moves = i - at
+μ-loop startup speeds weights scratch before p speed i at₀ moves₀ at moves = i - at
 
 loop-holds : tie.Need-loop-holds Inv-loop μ-loop
 loop-holds c = moving-start (c .before .before .before .pre .1 .1 .1)
@@ -46,7 +46,7 @@ module _ (c : tie.After-entry Inv-loop μ-loop) where
   start = c .before .before .before .before .before .before
 
   abbrev job : Job
-  job = jobOf (start .args .speeds .now) (start .args .weights .now)
+  job = jobOf (start .args .startup) (start .args .speeds .now) (start .args .weights .now)
 
   abbrev at : ℕ
   at = c .before .before .loop .at

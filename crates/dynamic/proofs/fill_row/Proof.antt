@@ -14,11 +14,11 @@ use Rattle.dynamic.proofs.fill_row.Statement.{statement}
 use Rattle.dynamic.proofs.fill_row.Tie as tie
 
 abbrev Inv-loop : tie.InvT-loop
-Inv-loop speeds weights scratch₀ before row p speed pointer₀ i₀ scratch pointer i =
-    Filling (jobOf speeds weights) scratch₀ scratch row p (pointer₀ .moves) i (pointer .at) (pointer .moves)
+Inv-loop startup speeds weights scratch₀ before row p speed pointer₀ i₀ scratch pointer i =
+    Filling (jobOf startup speeds weights) scratch₀ scratch row p (pointer₀ .moves) i (pointer .at) (pointer .moves)
 
 abbrev μ-loop : tie.MeasureT-loop
-μ-loop speeds weights scratch₀ before row p speed pointer₀ i₀ scratch pointer i = suc (length weights) - i
+μ-loop startup speeds weights scratch₀ before row p speed pointer₀ i₀ scratch pointer i = suc (length weights) - i
 
 add-speed : tie.Need-add-speed Inv-loop μ-loop
 add-speed c = omega (arith, c .before .before .before .pre .0 .next)
@@ -40,7 +40,7 @@ module _ (c : tie.At-loop Inv-loop μ-loop) where
   start = c .before .before .before .before .before
 
   abbrev job : Job
-  job = jobOf (start .args .speeds .now) (start .args .weights .now)
+  job = jobOf (start .args .startup) (start .args .speeds .now) (start .args .weights .now)
 
   still-ready : RowReady job (c .loop .scratch) (start .args .before) (start .args .p)
   still-ready = writing-ready (start .pre .0) (start .pre .1 .0) (c .loop .inv .writing)

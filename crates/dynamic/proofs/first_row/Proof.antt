@@ -21,14 +21,14 @@ use Rattle.dynamic.proofs.first_row.Statement.{statement}
 use Rattle.dynamic.proofs.first_row.Tie as tie
 
 abbrev Inv-loop : tie.InvT-loop
-Inv-loop speeds weights scratch₀ row speed i₀ scratch i = Writing (jobOf speeds weights) scratch₀ scratch row 0 i
+Inv-loop startup speeds weights scratch₀ row speed i₀ scratch i = Writing (jobOf startup speeds weights) scratch₀ scratch row 0 i
 
 abbrev μ-loop : tie.MeasureT-loop
-μ-loop speeds weights scratch₀ row speed i₀ scratch i = suc (length weights) - i
+μ-loop startup speeds weights scratch₀ row speed i₀ scratch i = suc (length weights) - i
 
 -- The job that the lists make.
 abbrev job-at : tie.Start Inv-loop μ-loop → Job
-job-at s = jobOf (s .args .speeds .now) (s .args .weights .now)
+job-at s = jobOf (s .args .startup) (s .args .speeds .now) (s .args .weights .now)
 
 loop-holds : tie.Need-loop-holds Inv-loop μ-loop
 loop-holds c =

@@ -12,10 +12,10 @@ use Rattle.dynamic.proofs.table_in.Statement.{statement}
 use Rattle.dynamic.proofs.table_in.Tie as tie
 
 abbrev Inv-loop : tie.InvT-loop
-Inv-loop speeds weights scratch₀ n row₀ other₀ pointer₀ p₀ scratch row other pointer p = Tabling (jobOf speeds weights) scratch₀ scratch row other p (pointer .moves)
+Inv-loop startup speeds weights scratch₀ n row₀ other₀ pointer₀ p₀ scratch row other pointer p = Tabling (jobOf startup speeds weights) scratch₀ scratch row other p (pointer .moves)
 
 abbrev μ-loop : tie.MeasureT-loop
-μ-loop speeds weights scratch₀ n row₀ other₀ pointer₀ p₀ scratch row other pointer p = length speeds - p
+μ-loop startup speeds weights scratch₀ n row₀ other₀ pointer₀ p₀ scratch row other pointer p = length speeds - p
 
 add-n : tie.Need-add-n Inv-loop μ-loop
 add-n c = omega arith

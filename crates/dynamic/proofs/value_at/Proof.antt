@@ -18,7 +18,7 @@ use Rattle.dynamic.proofs.value_at.Tie as tie
 
 -- The job that the lists make.
 abbrev job-at : tie.Start → Job
-job-at s = jobOf (s .args .speeds .now) (s .args .weights .now)
+job-at s = jobOf (s .args .startup) (s .args .speeds .now) (s .args .weights .now)
 
 -- The crossing is at most i.
 at-le : (c : tie.Start) → c .args .at ≤ c .args .i
@@ -57,7 +57,7 @@ module _ (c : tie.After-part-bound) where
   start = c .before .before .before .before .before .before
 
   abbrev job : Job
-  job = jobOf (start .args .speeds .now) (start .args .weights .now)
+  job = jobOf (start .args .startup) (start .args .speeds .now) (start .args .weights .now)
 
   part-is : c .part-bound .result ≡ offer job (suc (start .args .p)) (start .args .at - 1) (start .args .i)
   part-is =

@@ -14,7 +14,7 @@ test-job-requires c κs = search needs
 returns : tie.Need-returns
 returns c =
     let s = c .before .before .before .before .before in
-    lists-refused (jobOf (s .args .speeds .now) (s .args .weights .now)) (s .args .plan .now) (c .before .test-job .ensures) (c .if1 .taken)
+    lists-refused (jobOf (s .args .startup) (s .args .speeds .now) (s .args .weights .now)) (s .args .plan .now) (c .before .test-job .ensures) (c .if1 .taken)
 
 grade-in-requires : tie.Need-grade-in-requires
 grade-in-requires c κs = job-accepted .0 (sym (c .before .test-job .ensures) ∙ c .if1 .left)
@@ -22,7 +22,7 @@ grade-in-requires c κs = job-accepted .0 (sym (c .before .test-job .ensures) �
 returns-2 : tie.Need-returns-2
 returns-2 c =
     let s = c .before .before .before .before .before .before in
-    lists-graded (jobOf (s .args .speeds .now) (s .args .weights .now)) (s .args .plan .now) (c .before .before .test-job .ensures) (c .before .if1 .left) (c .grade-in .ensures)
+    lists-graded (jobOf (s .args .startup) (s .args .speeds .now) (s .args .weights .now)) (s .args .plan .now) (c .before .before .test-job .ensures) (c .before .if1 .left) (c .grade-in .ensures)
 
 pub grade-spec : {M : Type 1} → statement M
 grade-spec = tie.close (tie.spec test-job-requires returns grade-in-requires returns-2)

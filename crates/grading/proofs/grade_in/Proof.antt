@@ -16,7 +16,7 @@ mul-if1 c = omega (arith, c .before .before .before .pre .processors-limit)
 returns : tie.Need-returns
 returns c =
     let s = c .before .before .before .before in
-    grade-length (jobOf (s .args .speeds .now) (s .args .weights .now)) (s .args .plan .now) (omega arith) (c .if1 .taken)
+    grade-length (jobOf (s .args .startup) (s .args .speeds .now) (s .args .weights .now)) (s .args .plan .now) (omega arith) (c .if1 .taken)
 
 slice-aggregate-take-separators : tie.Need-slice-aggregate-take-separators
 slice-aggregate-take-separators c = search needs
@@ -30,7 +30,7 @@ take-separators-requires c κs =
 returns-2 : tie.Need-returns-2
 returns-2 c =
     let s = c .before .before .before .before .before .before .before .before in
-    grade-gap (jobOf (s .args .speeds .now) (s .args .weights .now)) (s .args .plan .now) (c .before .before .before .before .if1 .left) (omega arith) (c .before .before .take-separators .ensures .0) (not-true _ (c .if2 .taken))
+    grade-gap (jobOf (s .args .startup) (s .args .speeds .now) (s .args .weights .now)) (s .args .plan .now) (c .before .before .before .before .if1 .left) (omega arith) (c .before .before .take-separators .ensures .0) (not-true _ (c .if2 .taken))
 
 slice-aggregate-is-partition : tie.Need-slice-aggregate-is-partition
 slice-aggregate-is-partition c = search needs
@@ -45,7 +45,7 @@ returns-3 : tie.Need-returns-3
 returns-3 c =
     let s = c .before .before .before .before .before .before .before .before .before .before .before in
     let t = c .before .before .before .before .before .take-separators .ensures in
-    grade-no-division (jobOf (s .args .speeds .now) (s .args .weights .now)) (s .args .plan .now) (c .before .before .before .before .before .before .before .if1 .left) (t .0) (not-false _ (c .before .before .before .if2 .left)) _ _ (t .1) (omega arith) (c .before .is-partition .ensures)
+    grade-no-division (jobOf (s .args .startup) (s .args .speeds .now) (s .args .weights .now)) (s .args .plan .now) (c .before .before .before .before .before .before .before .if1 .left) (t .0) (not-false _ (c .before .before .before .if2 .left)) _ _ (t .1) (omega arith) (c .before .is-partition .ensures)
     (not-true _ (c .if3 .taken))
 
 slice-aggregate-grade-told : tie.Need-slice-aggregate-grade-told
@@ -58,7 +58,7 @@ grade-told-requires c κs =
       s .pre,
       (
         omega arith,
-        front-division (jobOf (s .args .speeds .now) (s .args .weights .now)) (s .args .plan .now) (c .before .before .before .before .before .before .before .before .if1 .left) (t .0) (not-false _ (c .before .before .before .before .if2 .left)) _ _ (t .1) (c .before .before .is-partition .ensures)
+        front-division (jobOf (s .args .startup) (s .args .speeds .now) (s .args .weights .now)) (s .args .plan .now) (c .before .before .before .before .before .before .before .before .if1 .left) (t .0) (not-false _ (c .before .before .before .before .if2 .left)) _ _ (t .1) (c .before .before .is-partition .ensures)
             (not-false _ (c .before .if3 .left)),
       ),
     )
@@ -67,7 +67,7 @@ returns-4 : tie.Need-returns-4
 returns-4 c =
     let s = c .before .before .before .before .before .before .before .before .before .before .before .before .before .before in
     let t = c .before .before .before .before .before .before .before .before .take-separators .ensures in
-    grade-told (jobOf (s .args .speeds .now) (s .args .weights .now)) (s .args .plan .now) (c .before .before .before .before .before .before .before .before .before .before .if1 .left) (t .0) (not-false _ (c .before .before .before .before .before .before .if2 .left)) _ _ (t .1) (c .before .before .before .before .is-partition .ensures) (not-false _ (c .before .before .before .if3 .left))
+    grade-told (jobOf (s .args .startup) (s .args .speeds .now) (s .args .weights .now)) (s .args .plan .now) (c .before .before .before .before .before .before .before .before .before .before .if1 .left) (t .0) (not-false _ (c .before .before .before .before .before .before .if2 .left)) _ _ (t .1) (c .before .before .before .before .is-partition .ensures) (not-false _ (c .before .before .before .if3 .left))
     (c .before .grade-told .ensures)
 
 pub grade-in-spec : {M : Type 1} → statement M

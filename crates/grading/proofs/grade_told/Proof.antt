@@ -25,7 +25,7 @@ slice-aggregate-tells-all c = search needs
 tells-all-requires : tie.Need-tells-all-requires
 tells-all-requires c κs =
     let s = c .before .before .before .before .before .before .before .before .before in
-    let job : Job = jobOf (s .args .speeds .now) (s .args .weights .now) in
+    let job : Job = jobOf (s .args .startup) (s .args .speeds .now) (s .args .weights .now) in
     (sums-ready {job = job} _ (s .pre .0) (c .before .before .before .prefix-sums .ensures), (s .pre .1 .1, s .pre .1 .0))
 
 same-length : tie.Need-same-length
@@ -34,7 +34,7 @@ same-length c = search needs
 returns : tie.Need-returns
 returns c =
     let s = c .before .before .before .before .before .before .before .before .before .before .before in
-    told-untrue (jobOf (s .args .speeds .now) (s .args .weights .now)) (s .args .separators .now) (s .args .plan .now) (omega arith) (c .before .tells-all .ensures)
+    told-untrue (jobOf (s .args .startup) (s .args .speeds .now) (s .args .weights .now)) (s .args .separators .now) (s .args .plan .now) (omega arith) (c .before .tells-all .ensures)
     (not-true _ (c .if1 .taken))
 
 slice-aggregate-grade-partition : tie.Need-slice-aggregate-grade-partition
@@ -43,7 +43,7 @@ slice-aggregate-grade-partition c = search needs
 grade-partition-requires : tie.Need-grade-partition-requires
 grade-partition-requires c κs =
     let s = c .before .before .before .before .before .before .before .before .before .before .before .before .before in
-    let job : Job = jobOf (s .args .speeds .now) (s .args .weights .now) in
+    let job : Job = jobOf (s .args .startup) (s .args .speeds .now) (s .args .weights .now) in
     (sums-ready {job = job} _ (s .pre .0) (c .before .before .before .before .before .before .before .prefix-sums .ensures), s .pre .1 .1)
 
 same-length-2 : tie.Need-same-length-2
@@ -52,7 +52,7 @@ same-length-2 c = search needs
 returns-2 : tie.Need-returns-2
 returns-2 c =
     let s = c .before .before .before .before .before .before .before .before .before .before .before .before .before .before .before .before in
-    told-true (jobOf (s .args .speeds .now) (s .args .weights .now)) (s .args .separators .now) (s .args .plan .now) (c .before .before .grade-partition .ensures) (c .before .before .before .before .before .before .tells-all .ensures)
+    told-true (jobOf (s .args .startup) (s .args .speeds .now) (s .args .weights .now)) (s .args .separators .now) (s .args .plan .now) (c .before .before .grade-partition .ensures) (c .before .before .before .before .before .before .tells-all .ensures)
     (not-false _ (c .before .before .before .before .before .if1 .left))
 
 pub grade-told-spec : {M : Type 1} → statement M

@@ -16,7 +16,7 @@ use Rattle.halving.proofs.halving_in.Tie as tie
 
 -- The job that the lists make.
 abbrev job-at : tie.Start → Job
-job-at s = jobOf (s .args .speeds .now) (s .args .weights .now)
+job-at s = jobOf (s .args .startup) (s .args .speeds .now) (s .args .weights .now)
 
 slice-write-separators : tie.Need-slice-write-separators
 slice-write-separators c = search needs

@@ -14,10 +14,10 @@ use Rattle.heuristic.proofs.heuristic_in.Statement.{statement}
 use Rattle.heuristic.proofs.heuristic_in.Tie as tie
 
 abbrev Inv-loop : tie.InvT-loop
-Inv-loop speeds weights sums separators₀ all-speed weight last speed₀ past₀ s₀ p₀ separators speed past s p = Placed (jobOf speeds weights) separators₀ separators all-speed weight p speed past s
+Inv-loop startup speeds weights sums separators₀ all-speed weight last speed₀ past₀ s₀ p₀ separators speed past s p = Placed (jobOf startup speeds weights) separators₀ separators all-speed weight p speed past s
 
 abbrev μ-loop : tie.MeasureT-loop
-μ-loop speeds weights sums separators₀ all-speed weight last speed₀ past₀ s₀ p₀ separators speed past s p = length speeds - p
+μ-loop startup speeds weights sums separators₀ all-speed weight last speed₀ past₀ s₀ p₀ separators speed past s p = length speeds - p
 
 total-requires : tie.Need-total-requires Inv-loop μ-loop
 total-requires c κs =
@@ -81,7 +81,7 @@ first-past-requires c κs =
 past-is : (c : tie.After-first-past Inv-loop μ-loop)
     → let s = c .before .before .before .before .before .before .before .before .before .before .before .before in
     let l = c .before .before .before .before .loop in
-    FirstPast (jobOf (s .args .speeds .now) (s .args .weights .now)) (c .before .before .before .before .before .wide .result * (l .speed + c .before .wide2 .result)) (c .first-past .result)
+    FirstPast (jobOf (s .args .startup) (s .args .speeds .now) (s .args .weights .now)) (c .before .before .before .before .before .wide .result * (l .speed + c .before .wide2 .result)) (c .first-past .result)
 past-is c =
     let s = c .before .before .before .before .before .before .before .before .before .before .before .before in
     let v = s .pre .0 .valid in

@@ -23,7 +23,7 @@ part-bound-requires c κs =
 returns : tie.Need-returns
 returns c =
     let s = c .before .before .before .before .before in
-    let job : Job = jobOf (s .args .speeds .now) (s .args .weights .now) in
+    let job : Job = jobOf (s .args .startup) (s .args .speeds .now) (s .args .weights .now) in
     let e : c .part-bound .result ≡ partBound job (s .args .p) (s .args .a) (s .args .j) =
     prefix-bound (s .pre .0 .prefix) (s .args .p) (s .args .a) (s .args .j) (s .pre .1 .0) (s .pre .1 .1) (s .pre .1 .2) refl (c .part-bound .ensures) in
     (e, subst Small (sym e) (part-small (s .pre .0 .valid) (s .args .p) (s .args .a) (s .args .j)))

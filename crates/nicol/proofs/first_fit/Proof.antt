@@ -13,11 +13,11 @@ use Rattle.nicol.proofs.first_fit.Statement.{statement}
 use Rattle.nicol.proofs.first_fit.Tie as tie
 
 abbrev Inv-loop : tie.InvT-loop
-Inv-loop speeds weights sums p a separators₀ low₀ high₀ trials₀ separators low high trials =
-    Halving (jobOf speeds weights) p low high trials × KeptFrom (suc (length speeds)) separators₀ separators
+Inv-loop startup speeds weights sums p a separators₀ low₀ high₀ trials₀ separators low high trials =
+    Halving (jobOf startup speeds weights) p low high trials × KeptFrom (suc (length speeds)) separators₀ separators
 
 abbrev μ-loop : tie.MeasureT-loop
-μ-loop speeds weights sums p a separators₀ low₀ high₀ trials₀ separators low high trials = high - low
+μ-loop startup speeds weights sums p a separators₀ low₀ high₀ trials₀ separators low high trials = high - low
 
 loop-holds : tie.Need-loop-holds Inv-loop μ-loop
 loop-holds c =

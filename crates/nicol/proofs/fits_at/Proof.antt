@@ -15,7 +15,7 @@ use Rattle.nicol.proofs.fits_at.Tie as tie
 
 -- The job that the lists make.
 abbrev job-at : tie.Start → Job
-job-at s = jobOf (s .args .speeds .now) (s .args .weights .now)
+job-at s = jobOf (s .args .startup) (s .args .speeds .now) (s .args .weights .now)
 
 bound-to-requires : tie.Need-bound-to-requires
 bound-to-requires c κs = search needs

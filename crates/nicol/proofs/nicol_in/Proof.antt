@@ -12,15 +12,15 @@ use Rattle.nicol.proofs.nicol_in.Statement.{statement}
 use Rattle.nicol.proofs.nicol_in.Tie as tie
 
 abbrev Inv-loop : tie.InvT-loop
-Inv-loop speeds weights sums separators₀ last least₀ count₀ a₀ p₀ separators least count a p =
-    Searching (jobOf speeds weights) p a count least × KeptFrom (suc (length speeds)) separators₀ separators
+Inv-loop startup speeds weights sums separators₀ last least₀ count₀ a₀ p₀ separators least count a p =
+    Searching (jobOf startup speeds weights) p a count least × KeptFrom (suc (length speeds)) separators₀ separators
 
 abbrev μ-loop : tie.MeasureT-loop
-μ-loop speeds weights sums separators₀ last least₀ count₀ a₀ p₀ separators least count a p = length speeds - p
+μ-loop startup speeds weights sums separators₀ last least₀ count₀ a₀ p₀ separators least count a p = length speeds - p
 
 -- The job that the lists make.
 abbrev job-at : tie.Start Inv-loop μ-loop → Job
-job-at s = jobOf (s .args .speeds .now) (s .args .weights .now)
+job-at s = jobOf (s .args .startup) (s .args .speeds .now) (s .args .weights .now)
 
 sub-last : tie.Need-sub-last Inv-loop μ-loop
 sub-last c = c .before .before .before .before .pre .0 .valid .some-processor

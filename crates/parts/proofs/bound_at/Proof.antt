@@ -49,7 +49,7 @@ part-bound-requires c κs =
 returns : tie.Need-returns
 returns c =
     let s = c .before .before .before .before .before .before .before .before .before .before in
-    let job : Job = jobOf (s .args .speeds .now) (s .args .weights .now) in
+    let job : Job = jobOf (s .args .startup) (s .args .speeds .now) (s .args .weights .now) in
     let i = c .before .before .before .before .index in
     let j = c .before .before .index2 in
     let h = front-part (s .args .separators .now) (s .pre .1 .0) (s .pre .1 .1) (i .ensures) (j .ensures) in

@@ -12,7 +12,7 @@ use Rattle.parts.proofs.ideal_of.Tie as tie
 
 -- The job that the lists make.
 abbrev job-at : tie.Start → Job
-job-at s = jobOf (s .args .speeds .now) (s .args .weights .now)
+job-at s = jobOf (s .args .startup) (s .args .speeds .now) (s .args .weights .now)
 
 mul-wide : tie.Need-mul-wide
 mul-wide c = search needs

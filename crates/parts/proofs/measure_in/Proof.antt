@@ -11,10 +11,10 @@ use Rattle.parts.proofs.measure_in.Statement.{statement}
 use Rattle.parts.proofs.measure_in.Tie as tie
 
 abbrev Inv-loop : tie.InvT-loop
-Inv-loop speeds weights sums separators last greatest₀ p₀ greatest p = Measured (jobOf speeds weights) separators p greatest
+Inv-loop startup speeds weights sums separators last greatest₀ p₀ greatest p = Measured (jobOf startup speeds weights) separators p greatest
 
 abbrev μ-loop : tie.MeasureT-loop
-μ-loop speeds weights sums separators last greatest₀ p₀ greatest p = length speeds - p
+μ-loop startup speeds weights sums separators last greatest₀ p₀ greatest p = length speeds - p
 
 sub-last : tie.Need-sub-last Inv-loop μ-loop
 sub-last c = omega arith
@@ -55,7 +55,7 @@ returns : tie.Need-returns Inv-loop μ-loop
 returns c =
     let s = c .before .before .before .before .before .before .before in
     let e = measured-end (c .before .loop .inv) (omega arith) in
-    (e, e ∙ bottleneck-take (jobOf (s .args .speeds .now) (s .args .weights .now)) (s .args .separators .now) (s .pre .0 .valid .some-processor))
+    (e, e ∙ bottleneck-take (jobOf (s .args .startup) (s .args .speeds .now) (s .args .weights .now)) (s .args .separators .now) (s .pre .0 .valid .some-processor))
 
 pub measure-in-spec : {M : Type 1} → statement M
 measure-in-spec =

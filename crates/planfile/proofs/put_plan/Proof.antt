@@ -10,15 +10,15 @@ use Rattle.planfile.proofs.put_plan.Statement.{statement}
 use Rattle.planfile.proofs.put_plan.Tie as tie
 
 abbrev Inv-loop : tie.InvT-loop
-Inv-loop speeds weights sums separators plan₀ p₀ plan p = PuttingPlan (jobOf speeds weights) separators plan₀ plan p
+Inv-loop startup speeds weights sums separators plan₀ p₀ plan p = PuttingPlan (jobOf startup speeds weights) separators plan₀ plan p
 
 abbrev μ-loop : tie.MeasureT-loop
-μ-loop speeds weights sums separators plan₀ p₀ plan p = length speeds - p
+μ-loop startup speeds weights sums separators plan₀ p₀ plan p = length speeds - p
 
 loop-holds : tie.Need-loop-holds Inv-loop μ-loop
 loop-holds c =
     let s = c .before .before .before .before .before in
-    plan-none (jobOf (s .args .speeds .now) (s .args .weights .now)) (s .args .separators .now) (s .args .plan .now)
+    plan-none (jobOf (s .args .startup) (s .args .speeds .now) (s .args .weights .now)) (s .args .separators .now) (s .args .plan .now)
 
 put-plan-record-requires : tie.Need-put-plan-record-requires Inv-loop μ-loop
 put-plan-record-requires c κs =

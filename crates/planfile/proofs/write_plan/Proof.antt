@@ -14,7 +14,7 @@ use Rattle.planfile.proofs.write_plan.Tie as tie
 
 -- The job that the lists make.
 abbrev job-at : tie.Start → Job
-job-at s = jobOf (s .args .speeds .now) (s .args .weights .now)
+job-at s = jobOf (s .args .startup) (s .args .speeds .now) (s .args .weights .now)
 
 -- Past the tests they are all passed.
 abbrev Passed : tie.Start → Type 0

@@ -14,7 +14,7 @@ use Rattle.planner.proofs.close_plan.Tie as tie
 
 -- The job that the lists make.
 abbrev job-at : tie.Start → Job
-job-at s = jobOf (s .args .speeds .now) (s .args .weights .now)
+job-at s = jobOf (s .args .startup) (s .args .speeds .now) (s .args .weights .now)
 
 close-walk-requires : tie.Need-close-walk-requires
 close-walk-requires c κs =

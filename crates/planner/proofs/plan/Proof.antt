@@ -9,7 +9,7 @@ use Rattle.planner.proofs.plan.Tie as tie
 
 -- The job that the lists make.
 abbrev job-at : tie.Start → Job
-job-at s = jobOf (s .args .speeds .now) (s .args .weights .now)
+job-at s = jobOf (s .args .startup) (s .args .speeds .now) (s .args .weights .now)
 
 choose-requires : tie.Need-choose-requires
 choose-requires c κs = search needs

@@ -16,7 +16,7 @@ use Rattle.planner.proofs.run_method.Tie as tie
 
 -- The job that the lists make.
 abbrev job-at : tie.Start → Job
-job-at s = jobOf (s .args .speeds .now) (s .args .weights .now)
+job-at s = jobOf (s .args .startup) (s .args .speeds .now) (s .args .weights .now)
 
 enum-told : tie.Need-enum-told
 enum-told c = search needs

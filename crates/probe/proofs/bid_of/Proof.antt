@@ -27,7 +27,7 @@ part-bound-requires c κs =
 returns : tie.Need-returns
 returns c =
     let s = c .before .before .before .before .before .before in
-    let job : Job = jobOf (s .args .speeds .now) (s .args .weights .now) in
+    let job : Job = jobOf (s .args .startup) (s .args .speeds .now) (s .args .weights .now) in
     let m = c .before .before .one-more in
     let e : c .part-bound .result ≡ partBound job (s .args .p) (s .args .a) (m .result) =
     prefix-bound (s .pre .0 .prefix) (s .args .p) (s .args .a) (m .result) (s .pre .1 .0) (omega (arith, m .ensures .from, s .pre .1 .1)) (m .ensures .to)

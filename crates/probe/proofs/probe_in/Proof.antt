@@ -9,7 +9,7 @@ use Rattle.probe.proofs.probe_in.Tie as tie
 walk-from-requires : tie.Need-walk-from-requires
 walk-from-requires c κs =
     let s = c .before .before .before .before .before in
-    (s .pre .0, (s .pre .1 .0, (s .pre .1 .1, reached-first (jobOf (s .args .speeds .now) (s .args .weights .now)) (s .args .bound) _)))
+    (s .pre .0, (s .pre .1 .0, (s .pre .1 .1, reached-first (jobOf (s .args .startup) (s .args .speeds .now) (s .args .weights .now)) (s .args .bound) _)))
 
 same-length : tie.Need-same-length
 same-length c = search needs

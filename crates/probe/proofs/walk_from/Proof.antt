@@ -12,11 +12,11 @@ use Rattle.probe.proofs.walk_from.Statement.{statement}
 use Rattle.probe.proofs.walk_from.Tie as tie
 
 abbrev Inv-loop : tie.InvT-loop
-Inv-loop speeds weights sums bound separators₀ last n best₀ a₀ p₀ separators best a p =
-    Walked (jobOf speeds weights) bound separators₀ separators p a best
+Inv-loop startup speeds weights sums bound separators₀ last n best₀ a₀ p₀ separators best a p =
+    Walked (jobOf startup speeds weights) bound separators₀ separators p a best
 
 abbrev μ-loop : tie.MeasureT-loop
-μ-loop speeds weights sums bound separators₀ last n best₀ a₀ p₀ separators best a p = length speeds - p
+μ-loop startup speeds weights sums bound separators₀ last n best₀ a₀ p₀ separators best a p = length speeds - p
 
 sub-last : tie.Need-sub-last Inv-loop μ-loop
 sub-last c = omega arith

@@ -58,7 +58,7 @@ same-length c = search needs
 returns : tie.Need-returns
 returns c =
     let s = c .before .before .before .before .before .before .before .before .before .before in
-    let job : Job = jobOf (s .args .speeds .now) (s .args .weights .now) in
+    let job : Job = jobOf (s .args .startup) (s .args .speeds .now) (s .args .weights .now) in
     let y = c .before .before .before .before .probe-in .ensures in
     let e = sym (c .enum-told .given .1) ∙ y .0 in
     (e, fit-written (s .pre .0 .valid) (s .args .bound) _ (fits-outcome job (s .args .bound) (sym e)) (y .1))

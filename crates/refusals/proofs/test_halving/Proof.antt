@@ -7,14 +7,14 @@ use borrow.Author.Needs.{needs}
 use Rattle.refusals.proofs.test_halving.Statement.{statement}
 use Rattle.refusals.proofs.test_halving.Tie as tie
 
-test-job-requires : tie.Need-test-job-requires
-test-job-requires c κs = search needs
+test-lists-requires : tie.Need-test-lists-requires
+test-lists-requires c κs = search needs
 
 returns : tie.Need-returns
 returns c = search halving-laws
 
 test-row-requires : tie.Need-test-row-requires
-test-row-requires c κs = (job-accepted .0 (sym (c .before .test-job .ensures) ∙ c .if1 .left)) .some-processor
+test-row-requires c κs = (job-accepted .0 (sym (c .before .test-lists .ensures) ∙ c .if1 .left)) .some-processor
 
 add-test-length : tie.Need-add-test-length
 add-test-length c = search needs
@@ -32,7 +32,7 @@ pub test-halving-spec : {M : Type 1} → statement M
 test-halving-spec =
     tie.close
     (tie.spec
-    test-job-requires
+    test-lists-requires
     returns
     test-row-requires
     add-test-length

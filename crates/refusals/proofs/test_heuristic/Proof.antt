@@ -5,8 +5,8 @@ use borrow.Author.Needs.{needs}
 use Rattle.refusals.proofs.test_heuristic.Statement.{statement}
 use Rattle.refusals.proofs.test_heuristic.Tie as tie
 
-test-job-requires : tie.Need-test-job-requires
-test-job-requires c κs = search needs
+test-lists-requires : tie.Need-test-lists-requires
+test-lists-requires c κs = search needs
 
 returns : tie.Need-returns
 returns c = search heuristic-laws
@@ -22,4 +22,4 @@ returns-2 c = search heuristic-laws
 
 pub test-heuristic-spec : {M : Type 1} → statement M
 test-heuristic-spec =
-    tie.close (tie.spec test-job-requires returns add-test-length test-length-requires returns-2)
+    tie.close (tie.spec test-lists-requires returns add-test-length test-length-requires returns-2)

@@ -10,21 +10,32 @@ use borrow.Author.Needs.{needs}
 use Rattle.refusals.proofs.test_write_job.Statement.{statement}
 use Rattle.refusals.proofs.test_write_job.Tie as tie
 
-test-job-requires : tie.Need-test-job-requires
-test-job-requires c κs = search needs
+test-lists-requires : tie.Need-test-lists-requires
+test-lists-requires c κs = search needs
 
 returns : tie.Need-returns
 returns c = search write-job-laws
 
+head-records-requires : tie.Need-head-records-requires
+head-records-requires c κs = search needs
+
 add-test-length : tie.Need-add-test-length
 add-test-length c = search needs
+
+-- What the tests of the job say of its counts.
+add-test-length-2 : tie.Need-add-test-length-2
+unfolding maxProcessors maxTasks
+add-test-length-2 c =
+    let a = c .before .before .before .before .before .args in
+    let v : Valid (jobOf (a .startup) (a .speeds .now) (a .weights .now)) = job-accepted .0 (sym (c .before .before .test-lists .ensures) ∙ c .before .if1 .left) in
+    omega (arith, v .tasks-limit, v .processors-limit, c .head-records .ensures .1)
 
 mul-test-length : tie.Need-mul-test-length
 unfolding maxProcessors maxTasks
 mul-test-length c =
-    let a = c .before .before .before .before .args in
-    let v : Valid (jobOf (a .speeds .now) (a .weights .now)) = job-accepted .0 (sym (c .before .test-job .ensures) ∙ c .if1 .left) in
-    omega (arith, v .tasks-limit, v .processors-limit)
+    let a = c .before .before .before .before .before .args in
+    let v : Valid (jobOf (a .startup) (a .speeds .now) (a .weights .now)) = job-accepted .0 (sym (c .before .before .test-lists .ensures) ∙ c .before .if1 .left) in
+    omega (arith, v .tasks-limit, v .processors-limit, c .head-records .ensures .1)
 
 test-length-requires : tie.Need-test-length-requires
 test-length-requires c κs = search needs
@@ -36,9 +47,11 @@ pub test-write-job-spec : {M : Type 1} → statement M
 test-write-job-spec =
     tie.close
     (tie.spec
-    test-job-requires
+    test-lists-requires
     returns
+    head-records-requires
     add-test-length
+    add-test-length-2
     mul-test-length
     test-length-requires
     returns-2)

@@ -14,7 +14,7 @@ use Rattle.refusals.proofs.test_write_plan.Tie as tie
 -- Past the tests of the job and the list they are all passed.
 abbrev Passed : tie.Start → Type 0
 Passed s =
-    let job = jobOf (s .args .speeds .now) (s .args .weights .now) in
+    let job = jobOf (s .args .startup) (s .args .speeds .now) (s .args .weights .now) in
     Accepted job (heuristicInputs job (length (s .args .separators .now)))
 
 tested : (c : tie.Else1) → Passed (c .before .before .before .before .before)

@@ -11,7 +11,7 @@ use Rattle.planner.proofs.allowance.allowance_of.Tie as tie
 
 -- The job that the lists make.
 abbrev job-at : tie.Start → Job
-job-at s = jobOf (s .args .speeds .now) (s .args .weights .now)
+job-at s = jobOf (s .args .startup) (s .args .speeds .now) (s .args .weights .now)
 
 sub-last : tie.Need-sub-last
 sub-last c = search needs

@@ -10,7 +10,7 @@ use Rattle.planner.proofs.host.plan_read.Tie as tie
 
 -- The job that the lists make.
 abbrev job-at : tie.Start → Job
-job-at s = jobOf (s .args .speeds .now) (s .args .weights .now)
+job-at s = jobOf (s .args .startup) (s .args .speeds .now) (s .args .weights .now)
 
 mul-if1 : tie.Need-mul-if1
 unfolding maxProcessors

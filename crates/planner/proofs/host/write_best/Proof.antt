@@ -15,7 +15,7 @@ use Rattle.planner.proofs.host.write_best.Tie as tie
 
 -- The job that the lists make.
 abbrev job-at : tie.Start → Job
-job-at s = jobOf (s .args .speeds .now) (s .args .weights .now)
+job-at s = jobOf (s .args .startup) (s .args .speeds .now) (s .args .weights .now)
 
 slice-aggregate-plan-in : tie.Need-slice-aggregate-plan-in
 slice-aggregate-plan-in c = search needs

@@ -22,7 +22,7 @@ returns : tie.Need-returns
 returns c =
     let s = c .before .before .before .before .before in
     sym
-    (imbalance-none (jobOf (s .args .speeds .now) (s .args .weights .now)) (s .args .bottleneck)
+    (imbalance-none (jobOf (s .args .startup) (s .args .speeds .now) (s .args .weights .now)) (s .args .bottleneck)
     (sym (s .pre .1 .0) ∙ nought-load (over (s .args .total) (c .before .before .total .result)) (sym (c .before .is-nought .ensures) ∙ c .if1 .taken)))
 
 mul-ideal : tie.Need-mul-ideal
