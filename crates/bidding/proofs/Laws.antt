@@ -8,7 +8,7 @@ use native.Mathlib.Numerals.{add-one}
 use lib.Dec.{T, lit<}
 use Rattle.bound.specs.declared.Bound.{Bound}
 use Rattle.chain.specs.Ranges.{Lendable}
-use Rattle.chain.specs.Job.{Job, Valid, ideal}
+use Rattle.chain.specs.Job.{Second, Job, Valid, ideal}
 use Rattle.chain.specs.Probe.{fits, nextBid}
 use Rattle.chain.specs.Bidding.{bidding}
 use Rattle.chain.specs.declared.Method.the-variants.{Bidding}
@@ -16,6 +16,7 @@ use Rattle.chain.specs.Plan.{BiddingEnds, allowance}
 use Rattle.chain.proofs.Parts.{valid-plannable}
 use Rattle.chain.proofs.Indices.{first-of, below-next}
 use Rattle.chain.proofs.Bidding.{failures-allowed}
+use Rattle.chain.proofs.Demand.{of-second}
 use Rattle.chain.proofs.Ranges.{small-lendable, ideal-lendable, next-bid-small}
 use Rattle.chain.proofs.Counts.{allowance-fits}
 
@@ -31,16 +32,16 @@ bidden-start {job} v e =
     record { is = e; failed = λ j h. absurd (let z : ⊥ = omega arith in z); lendable = subst Lendable (sym e) (ideal-lendable v) }
 
 -- After one more failure there is still room for a trial.
-pub bidden-room : {job : Job} {bound : Bound} {count : ℕ} → Valid job → Bidden job bound count → T (not (fits job bound)) → suc count < allowance Bidding job
+pub bidden-room : {job : Job} {bound : Bound} {count : ℕ} → Valid job → Bidden job bound count → T (not (fits job bound)) → suc count < allowance (Second (job .startup)) Bidding job
 bidden-room {job} {bound} {count} v b t =
-    failures-allowed (valid-plannable v) count
+    failures-allowed (valid-plannable v) (of-second job) count
     (below-next {Q = λ j. T (not (fits job (bidding job j)))} (b .failed) (subst (λ (B : Bound). T (not (fits job B))) (b .is) t))
 
 -- So the count of trials fits 32 bits.
 pub bidden-fits : {job : Job} {bound : Bound} (count : ℕ) → Valid job → Bidden job bound count → count + 1 < 2 ^ 32
 bidden-fits {job} zero v b = lit< tt
 bidden-fits {job} (suc k) v b =
-    omega (arith, failures-allowed (valid-plannable v) k (b .failed), allowance-fits v .1)
+    omega (arith, failures-allowed (valid-plannable v) (of-second job) k (b .failed), allowance-fits (Second (job .startup)) v .1)
 
 pub bidden-next : {job : Job} {bound : Bound} {count : ℕ} (new : Bound) → Valid job → Bidden job bound count → T (not (fits job bound)) → new ≡ nextBid job bound
     → Bidden job new (count + 1)

@@ -18,7 +18,7 @@ use Rattle.chain.specs.Probe.{walk, walked, fits, nextBid, probe}
 use Rattle.chain.specs.Heuristic.{heuristic}
 use Rattle.chain.specs.Halving.{Halvable, halving}
 use Rattle.chain.specs.Plan.{planOf}
-use Rattle.chain.specs.Refusal.{speedsTest, weightsTest, processorsTest, tasksTest, rowTest, lengthTest, boundTest, partitionTest, FirstFailing, jobTests, Inputs, measureInputs, halvingInputs, callTests, refusal}
+use Rattle.chain.specs.Refusal.{startupTest, speedsTest, weightsTest, processorsTest, tasksTest, rowTest, lengthTest, boundTest, partitionTest, FirstFailing, jobTests, Inputs, measureInputs, halvingInputs, callTests, refusal}
 use Rattle.chain.proofs.Tests.{T-true}
 use Rattle.chain.proofs.Refusals.{gives, given-number}
 use Rattle.chain.proofs.Parts.{Proper, valid-proper, valid-plannable}
@@ -67,9 +67,9 @@ module _ (job : Job) (s : List ℕ) where
   measure-number = number-of (boundValues (bottleneck job (take (suc (processors job)) s))) measure-said
 
   -- It is 0, or one of 5 to 9 and 11;
-  pub measure-numbers : List·Memᴰ ((measuredSaid (measureAnswer job s)) .number) (0 ∷ 5 ∷ 6 ∷ 7 ∷ 8 ∷ 9 ∷ 11 ∷ [])
-  unfolding refusal callTests jobTests speedsTest weightsTest processorsTest tasksTest lengthTest partitionTest
-  measure-numbers = given-number (5 ∷ 6 ∷ 7 ∷ 8 ∷ 9 ∷ 11 ∷ []) (callTests job (measureInputs job s)) measure-number tt
+  pub measure-numbers : List·Memᴰ ((measuredSaid (measureAnswer job s)) .number) (0 ∷ 16 ∷ 5 ∷ 6 ∷ 7 ∷ 8 ∷ 9 ∷ 11 ∷ [])
+  unfolding refusal callTests jobTests startupTest speedsTest weightsTest processorsTest tasksTest lengthTest partitionTest
+  measure-numbers = given-number (16 ∷ 5 ∷ 6 ∷ 7 ∷ 8 ∷ 9 ∷ 11 ∷ []) (callTests job (measureInputs job s)) measure-number tt
 
   -- and that of the first test that fails.
   pub measure-gives : {n : ℕ} → n ≢ 0
@@ -120,9 +120,9 @@ module _ (job : Job) (s : List ℕ) where
   heuristic-number = number-of (boundValues (bottleneck job (heuristic job))) heuristic-said
 
   -- 0, or one of 5 to 9; that of the first test that fails.
-  pub heuristic-numbers : List·Memᴰ ((measuredSaid (heuristicAnswer job s)) .number) (0 ∷ 5 ∷ 6 ∷ 7 ∷ 8 ∷ 9 ∷ [])
-  unfolding refusal callTests jobTests speedsTest weightsTest processorsTest tasksTest lengthTest
-  heuristic-numbers = given-number (5 ∷ 6 ∷ 7 ∷ 8 ∷ 9 ∷ []) (callTests job (heuristicInputs job (length s))) heuristic-number tt
+  pub heuristic-numbers : List·Memᴰ ((measuredSaid (heuristicAnswer job s)) .number) (0 ∷ 16 ∷ 5 ∷ 6 ∷ 7 ∷ 8 ∷ 9 ∷ [])
+  unfolding refusal callTests jobTests startupTest speedsTest weightsTest processorsTest tasksTest lengthTest
+  heuristic-numbers = given-number (16 ∷ 5 ∷ 6 ∷ 7 ∷ 8 ∷ 9 ∷ []) (callTests job (heuristicInputs job (length s))) heuristic-number tt
 
   pub heuristic-gives : {n : ℕ} → n ≢ 0
       → ((measuredSaid (heuristicAnswer job s)) .number ≡ n) ↔ FirstFailing (callTests job (heuristicInputs job (length s))) n
@@ -171,9 +171,9 @@ module _ (job : Job) (s : List ℕ) where
   halving-number = number-of (boundValues (bottleneck job (halving job))) halving-said
 
   -- 0, or one of 5 to 9 and 14; that of the first test that fails.
-  pub halving-numbers : List·Memᴰ ((measuredSaid (halvingAnswer job s)) .number) (0 ∷ 5 ∷ 6 ∷ 7 ∷ 8 ∷ 14 ∷ 9 ∷ [])
-  unfolding refusal callTests jobTests speedsTest weightsTest processorsTest tasksTest rowTest lengthTest
-  halving-numbers = given-number (5 ∷ 6 ∷ 7 ∷ 8 ∷ 14 ∷ 9 ∷ []) (callTests job (halvingInputs job (length s))) halving-number tt
+  pub halving-numbers : List·Memᴰ ((measuredSaid (halvingAnswer job s)) .number) (0 ∷ 16 ∷ 5 ∷ 6 ∷ 7 ∷ 8 ∷ 14 ∷ 9 ∷ [])
+  unfolding refusal callTests jobTests startupTest speedsTest weightsTest processorsTest tasksTest rowTest lengthTest
+  halving-numbers = given-number (16 ∷ 5 ∷ 6 ∷ 7 ∷ 8 ∷ 14 ∷ 9 ∷ []) (callTests job (halvingInputs job (length s))) halving-number tt
 
   pub halving-gives : {n : ℕ} → n ≢ 0
       → ((measuredSaid (halvingAnswer job s)) .number ≡ n) ↔ FirstFailing (callTests job (halvingInputs job (length s))) n
@@ -243,9 +243,9 @@ module _ (job : Job) (B : Bound) (s : List ℕ) where
   probe-number = number-of (outcomeValues (probe job B)) probe-said
 
   -- 0, or one of 5 to 10; that of the first test that fails.
-  pub probe-numbers : List·Memᴰ ((probedSaid (probeAnswer job B s)) .number) (0 ∷ 5 ∷ 6 ∷ 7 ∷ 8 ∷ 9 ∷ 10 ∷ [])
-  unfolding refusal callTests jobTests speedsTest weightsTest processorsTest tasksTest lengthTest boundTest
-  probe-numbers = given-number (5 ∷ 6 ∷ 7 ∷ 8 ∷ 9 ∷ 10 ∷ []) (callTests job (probeInputs job B (length s))) probe-number tt
+  pub probe-numbers : List·Memᴰ ((probedSaid (probeAnswer job B s)) .number) (0 ∷ 16 ∷ 5 ∷ 6 ∷ 7 ∷ 8 ∷ 9 ∷ 10 ∷ [])
+  unfolding refusal callTests jobTests startupTest speedsTest weightsTest processorsTest tasksTest lengthTest boundTest
+  probe-numbers = given-number (16 ∷ 5 ∷ 6 ∷ 7 ∷ 8 ∷ 9 ∷ 10 ∷ []) (callTests job (probeInputs job B (length s))) probe-number tt
 
   pub probe-gives : {n : ℕ} → n ≢ 0
       → ((probedSaid (probeAnswer job B s)) .number ≡ n) ↔ FirstFailing (callTests job (probeInputs job B (length s))) n

@@ -119,6 +119,11 @@ module _ {job : Job} (v : Valid job) where
   pub total-weight-limit : totalWeight job ≤ maxLoad
   total-weight-limit = le-trans total-weight-small weights-loads
 
+  -- All weight and the start-up work fit 32 bits.
+  pub startup-total-fits : job .startup + totalWeight job < 2 ^ 32
+  unfolding maxLoad
+  startup-total-fits = omega (arith, total-weight-small, v .startup-limit, loads-fit)
+
   -- No part weighs more than all tasks.
   pub weight-limit : (a b : ℕ) → partWeight job a b ≤ totalWeight job
   weight-limit a b = weight-le-total job a b

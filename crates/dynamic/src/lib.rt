@@ -64,7 +64,7 @@ fn advance(
     let mut at = start.at;
     let mut moves = start.moves;
     loop {
-        let part = part_bound(speed, scratch, at, i);
+        let part = part_bound(startup, speed, scratch, at, i);
         if Bound::at_most(part, entry(scratch, before, at)) {
             return Pointer { at, moves };
         }
@@ -97,7 +97,7 @@ fn value_at(
     if at == 0 {
         return here;
     }
-    let part = part_bound(speed, scratch, at - 1, i);
+    let part = part_bound(startup, speed, scratch, at - 1, i);
     Bound::lesser(here, part)
 }
 
@@ -153,7 +153,7 @@ fn first_row(startup: u32, speeds: &[u32], weights: &[u32], scratch: &mut [u32],
     let speed = speeds[0];
     let mut i = 0;
     while i <= weights.len() {
-        let value = part_bound(speed, scratch, 0, i);
+        let value = part_bound(startup, speed, scratch, 0, i);
         put(scratch, row, i, value);
         i += 1;
     }

@@ -5,7 +5,7 @@ use Prim.Native.String.{String}
 use mathlib.Core.Path.{_≡_, refl}
 use mathlib.Core.List.{List, [], _∷_, _++_}
 use Rattle.bound.specs.Order.{le, greater}
-use Rattle.chain.specs.Limits.{maxTasks, maxWeight, maxProcessors, maxSpeed}
+use Rattle.chain.specs.Limits.{maxTasks, maxWeight, maxStartup, maxProcessors, maxSpeed}
 use Rattle.chain.specs.Lists.{sum, tabulate, all, smallestFrom}
 use Rattle.chain.specs.Job.{Job, jobOf, speedOf, partOf, partWeight, partLoad, partBound, boundAt, bottleneckTo, bottleneck}
 use Rattle.chain.specs.Plan.{spread, onward, partitions}
@@ -26,10 +26,10 @@ abbrev says : Job → List ℕ → String → Type 0
 says job plan t = gradeLine (jobBytes job) plan ≡ text t
 
 abbrev A : Job
-A = jobOf (1 ∷ 3 ∷ []) (1 ∷ 3 ∷ 8 ∷ [])
+A = jobOf 0 (1 ∷ 3 ∷ []) (1 ∷ 3 ∷ 8 ∷ [])
 
 abbrev D : Job
-D = jobOf (1 ∷ 1 ∷ []) (0 ∷ 0 ∷ [])
+D = jobOf 0 (1 ∷ 1 ∷ []) (0 ∷ 0 ∷ [])
 
 -- A record of four fields, each below 256.
 abbrev row : ℕ → ℕ → ℕ → ℕ → List ℕ
@@ -52,5 +52,5 @@ pub lines : says A (row 0 1 1 1 ++ row 1 3 11 3) "best\n"
     × says D (planBytes D (0 ∷ 2 ∷ 2 ∷ [])) "best\n"
     × says D (planBytes D (0 ∷ 0 ∷ 2 ∷ [])) "best\n"
     × (gradeLine (1 ∷ []) [] ≡ text "refused 2\n")
-unfolding le greater maxTasks maxWeight maxProcessors maxSpeed sum tabulate all smallestFrom speedOf partOf partWeight partLoad partBound boundAt bottleneckTo bottleneck spread onward partitions every unbeaten processorsTest tasksTest isPartition separatorsOf planLengthTest joined joinedTest trueAt trueTest firstRefusal planTests fieldBytes fieldAt recordBytes recordsBytes jobBytes byteAt kindAt valueAt isKind taskBefore multipleTest blank formTest orderTest speedTest weightTest recordTests recordsTests valuesOf speedsOf weightsOf fileTests planRecord planBytesTo planBytes gradeOf readGrade gradedOf gradeTests gradeRefusal fileGrade text width decimal field labelled refusalLine intake gradeText planIntake gradeLine
+unfolding le greater maxTasks maxWeight maxStartup maxProcessors maxSpeed sum tabulate all smallestFrom speedOf partOf partWeight partLoad partBound boundAt bottleneckTo bottleneck spread onward partitions every unbeaten processorsTest tasksTest isPartition separatorsOf planLengthTest joined joinedTest trueAt trueTest firstRefusal planTests fieldBytes fieldAt recordBytes recordsBytes jobBytes byteAt kindAt valueAt isKind taskBefore multipleTest blank formTest orderTest speedTest weightTest recordTests recordsTests valuesOf speedsOf weightsOf fileTests planRecord planBytesTo planBytes gradeOf readGrade gradedOf gradeTests gradeRefusal fileGrade text width decimal field labelled refusalLine intake gradeText planIntake gradeLine
 lines = (refl, refl, refl, refl, refl, refl, refl, refl, refl, refl, refl, refl, refl, refl)

@@ -13,7 +13,7 @@ use Rattle.bound.specs.Order.{_≼_, _≺_}
 use Rattle.chain.specs.Job.{Job, Valid, Partition, bottleneck}
 use Rattle.chain.specs.Plan.{planOf}
 use Rattle.chain.specs.Grade.{unbeaten}
-use Rattle.chain.specs.Refusal.{Test, separatorsOf, speedsTest, weightsTest, processorsTest, tasksTest, lengthTest, planLengthTest, joinedTest, trueTest, firstRefusal, FirstFailing, jobTests, planTests, callTests, refusal}
+use Rattle.chain.specs.Refusal.{Test, separatorsOf, startupTest, speedsTest, weightsTest, processorsTest, tasksTest, lengthTest, planLengthTest, joinedTest, trueTest, firstRefusal, FirstFailing, jobTests, planTests, callTests, refusal}
 use Rattle.chain.proofs.Tests.{T-of, T-true}
 use Rattle.chain.proofs.Parts.{valid-proper, valid-plannable}
 use Rattle.chain.proofs.Demand.{plan-of-best}
@@ -62,10 +62,10 @@ module _ (job : Job) (plan : List ℕ) where
   grade-number = number-of ((gradedSaid (readGrade job plan)) .values) grade-said
 
   -- 0, or one of 5 to 8, 12, 11 and 13;
-  pub grade-numbers : List·Memᴰ ((gradedSaid (gradeAnswer job plan)) .number) (0 ∷ 5 ∷ 6 ∷ 7 ∷ 8 ∷ 12 ∷ 11 ∷ 13 ∷ [])
-  unfolding refusal callTests jobTests speedsTest weightsTest processorsTest tasksTest planLengthTest joinedTest trueTest
+  pub grade-numbers : List·Memᴰ ((gradedSaid (gradeAnswer job plan)) .number) (0 ∷ 16 ∷ 5 ∷ 6 ∷ 7 ∷ 8 ∷ 12 ∷ 11 ∷ 13 ∷ [])
+  unfolding refusal callTests jobTests startupTest speedsTest weightsTest processorsTest tasksTest planLengthTest joinedTest trueTest
   grade-numbers =
-      given-number (5 ∷ 6 ∷ 7 ∷ 8 ∷ 12 ∷ 11 ∷ 13 ∷ []) (callTests job (gradeInputs job plan)) grade-number tt
+      given-number (16 ∷ 5 ∷ 6 ∷ 7 ∷ 8 ∷ 12 ∷ 11 ∷ 13 ∷ []) (callTests job (gradeInputs job plan)) grade-number tt
 
   -- that of the first test that fails.
   pub grade-gives : {n : ℕ} → n ≢ 0 → ((gradedSaid (gradeAnswer job plan)) .number ≡ n) ↔ FirstFailing (callTests job (gradeInputs job plan)) n

@@ -99,7 +99,12 @@ fn tells_at(
     requires { λ job. ⌜ p < processors job ⌝ }
     ensures { λ job r. ⌜ r ≡ tellsAt job (now (separators .entry)) (now (plan .entry)) p ⌝ }
 {
-    let load = part_load(sums, index(separators[p]), index(separators[p + 1]));
+    let load = part_load(
+        startup,
+        sums,
+        index(separators[p]),
+        index(separators[p + 1]),
+    );
     let speed = speeds[p];
     let told_load = get_field(plan, PLAN_RECORD * p + 2 * FIELD);
     let told_speed = get_field(plan, PLAN_RECORD * p + 3 * FIELD);

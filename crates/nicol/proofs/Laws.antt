@@ -13,7 +13,7 @@ use Rattle.bound.proofs.Order.{least-next}
 use Rattle.chain.specs.declared.Outcome.the-variants.{Fits, Fails}
 use Rattle.chain.specs.Ranges.{Small, Lendable, Narrow}
 use Rattle.chain.specs.Lists.{sumTo, isFirst, digits}
-use Rattle.chain.specs.Job.{Job, Valid, tasks, last, partBound}
+use Rattle.chain.specs.Job.{First, Job, Valid, tasks, last, partBound}
 use Rattle.chain.specs.Probe.{fits, probe}
 use Rattle.chain.specs.Nicol.{Range, fitsAt, firstFit, startOn, candidateOn, leastCandidate, emptyFits, Comes, nextRange, rangeAfter, single, settled}
 use Rattle.chain.specs.Plan.{TrialsTo, NicolEnds, early, whole, nicolTrials}
@@ -199,8 +199,8 @@ module _ {job : Job} (v : Valid job) {p a count : ℕ} {least : Bound} (w : Sear
       count-fits =
           omega (
             arith,
-            trials-allowed (valid-plannable v) (suc p) (count + k) l (λ q h. comes-sooner (omega arith) (w .comes)) trials-to,
-            nicol-fits v,
+            trials-allowed (valid-plannable v) First (suc p) (count + k) l (λ q h. comes-sooner (omega arith) (w .comes)) trials-to,
+            nicol-fits First v,
           )
 
       -- ends the search where the part is empty,

@@ -47,7 +47,7 @@ fn bound_to(
     ensures { λ job r. ⌜ r ≡ partBound job p a j ⌝ }
     ensures { λ job r. ⌜ Small r ⌝ }
 {
-    part_bound(speeds[p], sums, a, j)
+    part_bound(startup, speeds[p], sums, a, j)
 }
 
 // Inner. A trial of the whole job at the bound of the part from a to j on processor p.

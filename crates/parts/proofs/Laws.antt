@@ -2,11 +2,13 @@
 -- Assumes nothing.
 use Prim.Native.Nat.{ℕ, zero, suc, _+_, _-_, _≤_, _<_, _^_}
 use mathlib.Core.Path.{_≡_, refl, sym, ap, ap₂, subst, _∙_}
+use mathlib.Core.Bool.{Bool, true, false, cond}
 use mathlib.Core.List.{List, [], _∷_, _++_}
 use native.Mathlib.Omega.{arith}
 use native.Mathlib.Numerals.{add-one}
 use native.Mathlib.Nat.{lt-of-le-of-lt}
-use lib.Dec.{lit<}
+use lib.Dec.{ltb, lit<}
+use borrow.Author.Tests.{lt-ltb, le-ltb, ltb-true, ltb-false}
 use lib.ListN.{length, getD, set, length-append, length-set, take, drop}
 use lib.Seq.{getD-set-same, drop-set-lt}
 use Rattle.bound.specs.declared.Bound.{Bound}
@@ -14,13 +16,22 @@ use Rattle.bound.specs.Order.{over}
 use Rattle.chain.specs.Lists.{sum, sumTo, tabulate}
 use Rattle.chain.specs.Job.{Job, Valid, tasks, processors, speedOf, partOf, partWeight, partLoad, totalWeight, totalSpeed, partBound}
 use Rattle.chain.proofs.Sums.{sum-take, sum-is-sumTo, sum-grows}
-use Rattle.chain.proofs.Parts.{weight-split, weight-le-total, load-weight}
+use Rattle.chain.proofs.Parts.{part-none, weight-split, weight-le-total, load-none, load-some}
 use Rattle.chain.proofs.Indices.{length-tabulate, at-tabulate}
 use Rattle.chain.proofs.Extremes.{same-default}
-use Rattle.chain.proofs.Ranges.{total-weight-limit, total-speed-limit, total-speed-fits, loads-fit}
-use Rattle.parts.specs.Prefix.{prefixes, loadBetween, Prefix, Ready}
+use Rattle.chain.proofs.Ranges.{total-weight-limit, startup-total-fits, total-speed-limit, total-speed-fits, loads-fit}
+use Rattle.parts.specs.Prefix.{prefixes, weightBetween, loadBetween, Loadable, Prefix, Ready}
 use Rattle.parts.specs.Rising.{Rising}
 use Rattle.parts.proofs.Front.{Front, front-store, front-end}
+
+-- The load that is read, of a part with tasks and of one without.
+pub between-some : (c : ℕ) (xs : List ℕ) (a b : ℕ) → a < b → {w : ℕ} → w ≡ weightBetween xs a b → c + w ≡ loadBetween c xs a b
+unfolding loadBetween
+between-some c xs a b h e = ap (λ (n : ℕ). c + n) e ∙ sym (ap (λ (t : Bool). cond t (c + weightBetween xs a b) 0) (lt-ltb a b h))
+
+pub between-none : (c : ℕ) (xs : List ℕ) (a b : ℕ) → b ≤ a → 0 ≡ loadBetween c xs a b
+unfolding loadBetween
+between-none c xs a b h = sym (ap (λ (t : Bool). cond t (c + weightBetween xs a b) 0) (le-ltb a b h))
 
 -- The speed of a processor is read off the list of speeds.
 pub speed-read : (job : Job) (p : ℕ) → p < processors job → getD (job .speeds) p 0 ≡ speedOf job p
@@ -28,7 +39,7 @@ unfolding speedOf
 speed-read job p h = same-default (job .speeds) p 0 1 h
 
 module _ {job : Job} {xs : List ℕ} (r : Prefix job xs) where
-  -- Prefix sums grow, and their difference is the weight of the part between, which is its load.
+  -- Prefix sums grow, and their difference is the weight of the part between.
   pub prefix-split : (a b : ℕ) → a ≤ b → b ≤ tasks job → getD xs b 0 ≡ getD xs a 0 + partWeight job a b
   prefix-split a b h k =
       omega (arith, r .sums a (omega arith), r .sums b k, weight-split job 0 a b (omega arith) h)
@@ -39,18 +50,31 @@ module _ {job : Job} {xs : List ℕ} (r : Prefix job xs) where
   pub prefix-rising : Rising xs (tasks job)
   prefix-rising = record { enough = r .enough; up = prefix-grows }
 
-  pub prefix-load : (a b : ℕ) → a ≤ b → b ≤ tasks job → loadBetween xs a b ≡ partLoad job a b
+  pub prefix-weight : (a b : ℕ) → a ≤ b → b ≤ tasks job → weightBetween xs a b ≡ partWeight job a b
+  unfolding weightBetween
+  prefix-weight a b h k = omega (arith, prefix-split a b h k)
+
+  -- With the start-up work of a part that has tasks it is the load.
+  pub prefix-load : (a b : ℕ) → a ≤ b → b ≤ tasks job → loadBetween (job .startup) xs a b ≡ partLoad job a b
   unfolding loadBetween
-  prefix-load a b h k = omega (arith, prefix-split a b h k, load-weight job a b)
+  prefix-load a b h k = go (ltb a b) refl
+    where
+      go : (t : Bool) → ltb a b ≡ t → cond t (job .startup + weightBetween xs a b) 0 ≡ partLoad job a b
+      go true e =
+          let l : a < b = ltb-true a b e in
+          omega (arith, load-some job a b l (omega arith), prefix-weight a b h k)
+      go false e =
+          let l : b ≤ a = ltb-false a b e in
+          sym (load-none job a b (part-none job a b l))
 
   -- So the bound read off them is the part's.
-  pub speed-bound : {e : ℕ} {B : Bound} (p a b : ℕ) → a ≤ b → b ≤ tasks job → e ≡ speedOf job p → B ≡ over (loadBetween xs a b) e
+  pub speed-bound : {e : ℕ} {B : Bound} (p a b : ℕ) → a ≤ b → b ≤ tasks job → e ≡ speedOf job p → B ≡ over (loadBetween (job .startup) xs a b) e
       → B ≡ partBound job p a b
   unfolding partBound
   speed-bound p a b h k e f = f ∙ ap₂ over (prefix-load a b h k) e
 
   pub prefix-bound : {e : ℕ} {B : Bound} (p a b : ℕ) → p < processors job → a ≤ b → b ≤ tasks job → e ≡ getD (job .speeds) p 0
-      → B ≡ over (loadBetween xs a b) e → B ≡ partBound job p a b
+      → B ≡ over (loadBetween (job .startup) xs a b) e → B ≡ partBound job p a b
   prefix-bound p a b l h k e f = speed-bound p a b h k (e ∙ speed-read job p l) f
 
 -- What grows to n grows to any index before it; so the parts up to n can be read.
@@ -59,6 +83,10 @@ rising-to h w = record { enough = omega (arith, w .enough); up = λ i j k l. w .
 
 pub prefix-to : {job : Job} {xs : List ℕ} {b : ℕ} → Ready job xs → b ≤ tasks job → Rising xs b
 prefix-to r h = rising-to h (prefix-rising (r .prefix))
+
+pub loads-to : {job : Job} {xs : List ℕ} {b : ℕ} → Ready job xs → b ≤ tasks job → Loadable (job .startup) xs b
+loads-to {job} {xs} {b} r h =
+    record { rising = prefix-to r h; fits = omega (arith, r .prefix .sums b h, weight-le-total job 0 b, startup-total-fits (r .valid)) }
 
 -- A prefix sum by its list.
 weight-front : (job : Job) (i : ℕ) → sum (take i (job .weights)) ≡ partWeight job 0 i

@@ -7,7 +7,7 @@ ghost use lib.ListN.{length, getD, take, drop};
 ghost use Rattle.bound.specs.Order.{over};
 ghost use Rattle.chain.specs.Lists.{sum};
 ghost use Rattle.chain.specs.Job.{Job, jobOf, processors, ideal, Partition, boundAt, bottleneck};
-ghost use Rattle.parts.specs.Prefix.{prefixes, loadBetween, Ready};
+ghost use Rattle.parts.specs.Prefix.{prefixes, weightBetween, loadBetween, Loadable, Ready};
 ghost use Rattle.parts.specs.Rising.{Rising, near, Spanned, LastAtMost};
 use bound::Bound;
 
@@ -79,23 +79,35 @@ pub fn prefix_sums(weights: &[u32], sums: &mut [u32])
     }
 }
 
-// Inner. The load of the part from a to b.
-pub fn part_load(sums: &[u32], a: usize, b: usize) -> u32
+// Inner. The weight of the part from a to b.
+pub fn part_weight(sums: &[u32], a: usize, b: usize) -> u32
     requires { ⌜ Rising (now sums) b ⌝ }
     requires { ⌜ a ≤ b ⌝ }
-    ensures { λ r. ⌜ r ≡ loadBetween (now (sums .entry)) a b ⌝ }
+    ensures { λ r. ⌜ r ≡ weightBetween (now (sums .entry)) a b ⌝ }
 {
     sums[b] - sums[a]
 }
 
-// Inner. The bound of the part from a to b on a processor of this speed.
-pub fn part_bound(speed: u32, sums: &[u32], a: usize, b: usize) -> Bound
-    requires { ⌜ Rising (now sums) b ⌝ }
+// Inner. The load of the part from a to b: its weight and, where it has tasks, the start-up work.
+pub fn part_load(startup: u32, sums: &[u32], a: usize, b: usize) -> u32
+    requires { ⌜ Loadable startup (now sums) b ⌝ }
     requires { ⌜ a ≤ b ⌝ }
-    ensures { λ r. ⌜ r ≡ over (loadBetween (now (sums .entry)) a b) speed ⌝ }
+    ensures { λ r. ⌜ r ≡ loadBetween startup (now (sums .entry)) a b ⌝ }
+{
+    if a < b {
+        return startup + part_weight(sums, a, b);
+    }
+    0
+}
+
+// Inner. The bound of the part from a to b on a processor of this speed.
+pub fn part_bound(startup: u32, speed: u32, sums: &[u32], a: usize, b: usize) -> Bound
+    requires { ⌜ Loadable startup (now sums) b ⌝ }
+    requires { ⌜ a ≤ b ⌝ }
+    ensures { λ r. ⌜ r ≡ over (loadBetween startup (now (sums .entry)) a b) speed ⌝ }
 {
     Bound {
-        load: wide(part_load(sums, a, b)),
+        load: wide(part_load(startup, sums, a, b)),
         speed: wide(speed),
     }
 }
@@ -131,7 +143,7 @@ fn bound_at(
 {
     let a = index(separators[p]);
     let b = index(separators[p + 1]);
-    part_bound(speeds[p], sums, a, b)
+    part_bound(startup, speeds[p], sums, a, b)
 }
 
 // Inner. The bottleneck of the partition in front of the list.

@@ -1,14 +1,14 @@
 -- What a caller may read off the answer of writing a plan file, and off the bytes that are written.
 -- Assumes nothing.
-use Prim.Native.Nat.{ℕ, _+_, _*_, _≤_}
+use Prim.Native.Nat.{ℕ, suc, _+_, _*_, _≤_}
 use mathlib.Core.Path.{_≡_, ap, _∙_}
 use mathlib.Core.List.{List, [], _∷_, _++_, List·Memᴰ}
 use mathlib.Core.Logic.{_≢_, _↔_}
 use native.Mathlib.Omega.{arith}
-use lib.ListN.{length, drop, List·getD-append}
+use lib.ListN.{length, take, drop, List·getD-append}
 use Rattle.chain.specs.Lists.{sumTo}
-use Rattle.chain.specs.Job.{Job, Valid, processors, totalWeight, Partition}
-use Rattle.chain.specs.Refusal.{speedsTest, weightsTest, processorsTest, tasksTest, lengthTest, partitionTest, FirstFailing, jobTests, callTests, refusal}
+use Rattle.chain.specs.Job.{Job, Valid, processors, totalWeight, Partition, busy}
+use Rattle.chain.specs.Refusal.{startupTest, speedsTest, weightsTest, processorsTest, tasksTest, lengthTest, partitionTest, FirstFailing, jobTests, callTests, refusal}
 use Rattle.chain.proofs.Parts.{loads-add-up}
 use Rattle.chain.proofs.Refusals.{gives, given-number}
 use Rattle.chain.proofs.Sums.{sum-same-below}
@@ -33,11 +33,11 @@ module _ (job : Job) (s : List ℕ) (lent : ℕ) where
   pub write-plan-number : (writtenSaid (writePlanAnswer job s lent)) .number ≡ refusal job (writePlanInputs job s lent)
   write-plan-number = number-of (planNeeded job ∷ []) write-plan-said
 
-  -- 0, or one of 5 to 9 and 11;
-  pub write-plan-numbers : List·Memᴰ ((writtenSaid (writePlanAnswer job s lent)) .number) (0 ∷ 5 ∷ 6 ∷ 7 ∷ 8 ∷ 9 ∷ 11 ∷ [])
-  unfolding refusal callTests jobTests speedsTest weightsTest processorsTest tasksTest lengthTest partitionTest
+  -- 0, 16, or one of 5 to 9 and 11;
+  pub write-plan-numbers : List·Memᴰ ((writtenSaid (writePlanAnswer job s lent)) .number) (0 ∷ 16 ∷ 5 ∷ 6 ∷ 7 ∷ 8 ∷ 9 ∷ 11 ∷ [])
+  unfolding refusal callTests jobTests startupTest speedsTest weightsTest processorsTest tasksTest lengthTest partitionTest
   write-plan-numbers =
-      given-number (5 ∷ 6 ∷ 7 ∷ 8 ∷ 9 ∷ 11 ∷ []) (callTests job (writePlanInputs job s lent)) write-plan-number tt
+      given-number (16 ∷ 5 ∷ 6 ∷ 7 ∷ 8 ∷ 9 ∷ 11 ∷ []) (callTests job (writePlanInputs job s lent)) write-plan-number tt
 
   -- that of the first test that fails.
   pub write-plan-gives : {n : ℕ} → n ≢ 0
@@ -45,14 +45,14 @@ module _ (job : Job) (s : List ℕ) (lent : ℕ) where
   unfolding refusal
   write-plan-gives h = gives (callTests job (writePlanInputs job s lent)) write-plan-number h
 
--- Scope 7.8: "The loads of a plan file add up to Wtot." As they are read from its bytes,
+-- Scope 17.7: "The loads of a plan file add up to Wtot and c for each machine that has tiles." As they are read from its bytes,
 pub file-loads-add-up : {job : Job} {s : List ℕ} → Valid job → Partition job s
-    → sumTo (λ p. fieldAt (planBytes job s) (16 * p + 8)) (processors job) ≡ totalWeight job
+    → sumTo (λ p. fieldAt (planBytes job s) (16 * p + 8)) (processors job) ≡ totalWeight job + job .startup * busy job s
 file-loads-add-up {job} v w = sum-same-below (processors job) (λ p h. (plan-reads v w p h) .load) ∙ loads-add-up w
 
 -- from a lent buffer with the file in front,
 pub lent-loads-add-up : {job : Job} {s : List ℕ} {number : ℕ} (plan : List ℕ) → Valid job → Partition job s → number ≡ 0
-    → sumTo (λ p. fieldAt (lentAfter number (planBytes job s) plan) (16 * p + 8)) (processors job) ≡ totalWeight job
+    → sumTo (λ p. fieldAt (lentAfter number (planBytes job s) plan) (16 * p + 8)) (processors job) ≡ totalWeight job + job .startup * busy job s
 lent-loads-add-up {job} {s} plan v w e =
     sum-same-below (processors job)
     (λ p h.
@@ -66,6 +66,6 @@ lent-loads-add-up {job} {s} plan v w e =
 
 -- and from the buffer that writing a plan leaves where nothing is refused.
 pub written-loads-add-up : (job : Job) (s plan : List ℕ) → refusal job (writePlanInputs job s (length plan)) ≡ 0
-    → sumTo (λ p. fieldAt (writePlanBytes job s plan) (16 * p + 8)) (processors job) ≡ totalWeight job
+    → sumTo (λ p. fieldAt (writePlanBytes job s plan) (16 * p + 8)) (processors job) ≡ totalWeight job + job .startup * busy job (take (suc (processors job)) s)
 unfolding writePlanBytes
 written-loads-add-up job s plan e = let a = accepted e in lent-loads-add-up plan (a .valid) (a .divisions .0) e

@@ -43,7 +43,7 @@ fn put_plan_record(
     let b = separators[p + 1];
     put_field(a, place, plan);
     put_field(b, place + FIELD, plan);
-    let load = part_load(sums, index(a), index(b));
+    let load = part_load(startup, sums, index(a), index(b));
     put_field(load, place + 2 * FIELD, plan);
     put_field(speeds[p], place + 3 * FIELD, plan);
 }

@@ -8,7 +8,7 @@ use native.Mathlib.Omega.{arith}
 use lib.ListN.{length, drop}
 use Rattle.chain.specs.Lists.{sumTo}
 use Rattle.chain.specs.Job.{Job, Valid, processors, totalWeight}
-use Rattle.chain.specs.Refusal.{methodTest, speedsTest, weightsTest, processorsTest, tasksTest, lengthTest, FirstFailing, jobTests, callTests, refusal}
+use Rattle.chain.specs.Refusal.{methodTest, startupTest, speedsTest, weightsTest, processorsTest, tasksTest, lengthTest, FirstFailing, jobTests, callTests, refusal}
 use Rattle.chain.specs.Plan.{planOf}
 use Rattle.chain.proofs.Demand.{plan-of-best}
 use Rattle.chain.proofs.Parts.{valid-plannable}
@@ -29,9 +29,9 @@ use Rattle.planner.specs.HostCall.{hostFileTests, hostTests, hostAnswer,
 
 -- Planning: 0, or one of 1 and 5 to 9; that of the first test that fails.
 module _ (job : Job) (m : ℕ) (s t : List ℕ) where
-  pub plan-numbers : List·Memᴰ ((plannedSaid (planAnswer job m s t)) .number) (0 ∷ 1 ∷ 5 ∷ 6 ∷ 7 ∷ 8 ∷ 9 ∷ [])
-  unfolding planRefusal refusal callTests jobTests methodTest speedsTest weightsTest processorsTest tasksTest lengthTest
-  plan-numbers = given-number (1 ∷ 5 ∷ 6 ∷ 7 ∷ 8 ∷ 9 ∷ []) (callTests job (planInputs job m (length s) (length t))) (plan-number job m s t) tt
+  pub plan-numbers : List·Memᴰ ((plannedSaid (planAnswer job m s t)) .number) (0 ∷ 1 ∷ 16 ∷ 5 ∷ 6 ∷ 7 ∷ 8 ∷ 9 ∷ [])
+  unfolding planRefusal refusal callTests jobTests methodTest startupTest speedsTest weightsTest processorsTest tasksTest lengthTest
+  plan-numbers = given-number (1 ∷ 16 ∷ 5 ∷ 6 ∷ 7 ∷ 8 ∷ 9 ∷ []) (callTests job (planInputs job m (length s) (length t))) (plan-number job m s t) tt
 
   pub plan-gives : {n : ℕ} → n ≢ 0
       → ((plannedSaid (planAnswer job m s t)) .number ≡ n) ↔ FirstFailing (callTests job (planInputs job m (length s) (length t))) n

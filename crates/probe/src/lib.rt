@@ -17,7 +17,7 @@ use parts::last_at_most;
 use parts::narrow;
 use parts::narrow_load;
 use parts::part_bound;
-use parts::part_load;
+use parts::part_weight;
 use parts::wide;
 
 // Inner. The last entry at most the cap from a to n, whatever the hint. It takes time in the logarithm of its distance from a, and
@@ -74,10 +74,15 @@ pub fn part_end(
 {
     let n = weights.len();
     let limit = most_load(bound, speeds[p]);
-    if wide(part_load(sums, a, n)) <= limit {
+    let least = wide(startup);
+    if limit < least {
+        return a; // not even the start-up work is within the bound
+    }
+    let room = limit - least;
+    if wide(part_weight(sums, a, n)) <= room {
         return n;
     }
-    last_from(sums, a, n, raised(sums[a], limit), hint)
+    last_from(sums, a, n, raised(sums[a], room), hint)
 }
 
 // Inner. The index after i, and n after n.
@@ -106,7 +111,7 @@ pub fn bid_of(
     ensures { λ job r. ⌜ Narrow r ⌝ }
 {
     let next = one_more(end, weights.len());
-    part_bound(speeds[p], sums, a, next)
+    part_bound(startup, speeds[p], sums, a, next)
 }
 
 // Inner. The bound of all that remains from a on, on processor p.
@@ -125,7 +130,7 @@ pub fn rest_of(
     ensures { λ job r. ⌜ r ≡ offer job p a (tasks job) ⌝ }
     ensures { λ job r. ⌜ Narrow r ⌝ }
 {
-    part_bound(speeds[p], sums, a, weights.len())
+    part_bound(startup, speeds[p], sums, a, weights.len())
 }
 
 // Where a walk stands: before the part of a processor, with that part's start and the least bid of the processors before it.

@@ -7,7 +7,7 @@ use borrow.Author.Needs.{needs}
 use lib.ListN.{length}
 use Rattle.chain.specs.declared.Method.the-variants.{Bidding}
 use Rattle.chain.specs.Plan.{allowance}
-use Rattle.chain.specs.Job.{Job, jobOf}
+use Rattle.chain.specs.Job.{Second, Job, jobOf}
 use Rattle.chain.specs.Probe.{walk}
 use Rattle.parts.specs.Kept.{KeptFrom}
 use Rattle.parts.proofs.Front.{kept-start, kept-written, kept-is}
@@ -24,7 +24,7 @@ Inv-loop startup speeds weights sums separators₀ bound₀ point₀ failures₀
     Bidden (jobOf startup speeds weights) bound failures × (KeptFrom (suc (length speeds)) separators₀ separators × Reached (jobOf startup speeds weights) bound separators point)
 
 abbrev μ-loop : tie.MeasureT-loop
-μ-loop startup speeds weights sums separators₀ bound₀ point₀ failures₀ separators bound point failures = allowance Bidding (jobOf startup speeds weights) - failures
+μ-loop startup speeds weights sums separators₀ bound₀ point₀ failures₀ separators bound point failures = allowance (Second startup) Bidding (jobOf startup speeds weights) - failures
 
 -- The job that the lists make.
 abbrev job-at : tie.Start Inv-loop μ-loop → Job
@@ -52,8 +52,8 @@ walk-from-requires c κs =
 enum-told : tie.Need-enum-told Inv-loop μ-loop
 enum-told c = search needs
 
-add-t13 : tie.Need-add-t13 Inv-loop μ-loop
-add-t13 c = omega (arith, bidden-fits (c .before .before .before .before .before .before .loop .failures) (c .before .before .before .before .before .before .before .before .before .before .before .before .pre .0 .valid) (c .before .before .before .before .before .before .loop .inv .0))
+add-t14 : tie.Need-add-t14 Inv-loop μ-loop
+add-t14 c = omega (arith, bidden-fits (c .before .before .before .before .before .before .loop .failures) (c .before .before .before .before .before .before .before .before .before .before .before .before .pre .0 .valid) (c .before .before .before .before .before .before .loop .inv .0))
 
 same-length : tie.Need-same-length Inv-loop μ-loop
 same-length c = search needs
@@ -115,7 +115,7 @@ bidding-in-spec =
     loop-holds
     walk-from-requires
     enum-told
-    add-t13
+    add-t14
     same-length
     returns
     enum-known-answer

@@ -81,8 +81,8 @@ loop-again c =
       omega (arith, c .before .before .before .before .before .before .before .before .loop .inv .2, r .ensures .1 .same),
     )
 
-add-t20 : tie.Need-add-t20 Inv-loop μ-loop
-add-t20 c = omega (arith, rounds-fit (c .before .before .loop .rounds) (c .before .before .before .before .before .before .before .before .before .before .before .before .before .pre .0 .valid) (c .before .before .loop .inv .0))
+add-t21 : tie.Need-add-t21 Inv-loop μ-loop
+add-t21 c = omega (arith, rounds-fit (c .before .before .loop .rounds) (c .before .before .before .before .before .before .before .before .before .before .before .before .before .pre .0 .valid) (c .before .before .loop .inv .0))
 
 same-length : tie.Need-same-length Inv-loop μ-loop
 same-length c =
@@ -121,6 +121,6 @@ bisect-spec =
     add-rounds
     loop-less
     loop-again
-    add-t20
+    add-t21
     same-length
     returns)

@@ -11,7 +11,7 @@ use Rattle.chain.proofs.Parts.{valid-proper}
 use Rattle.chain.proofs.Ranges.{offer-small, small-products}
 use Rattle.chain.proofs.Table.{stops, crossing-le}
 use Rattle.chain.proofs.Within.{offer-part}
-use Rattle.parts.proofs.Laws.{prefix-to, speed-bound}
+use Rattle.parts.proofs.Laws.{loads-to, speed-bound}
 use Rattle.dynamic.proofs.Crossing.{table-small, tested, small-same}
 use Rattle.dynamic.proofs.Laws.{Moving, moving-start, moving-before, moving-turn, moving-stop}
 use Rattle.dynamic.proofs.advance.Statement.{statement}
@@ -35,7 +35,7 @@ at-le c =
 part-bound-requires : tie.Need-part-bound-requires Inv-loop μ-loop
 part-bound-requires c κs =
     let s = c .before .before .before .before in
-    (prefix-to (s .pre .0 .ready) (s .pre .1 .1 .0), at-le c)
+    (loads-to (s .pre .0 .ready) (s .pre .1 .1 .0), at-le c)
 
 entry-requires : tie.Need-entry-requires Inv-loop μ-loop
 entry-requires c κs = omega (arith, c .before .before .before .before .before .pre .0 .inside, at-le (c .before))

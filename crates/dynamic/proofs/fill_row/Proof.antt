@@ -6,7 +6,7 @@ use native.Mathlib.Omega.{arith}
 use lib.ListN.{length, getD}
 use Rattle.chain.specs.Job.{Job, jobOf, speedOf}
 use Rattle.chain.specs.Dynamic.{crossing}
-use Rattle.chain.proofs.Ranges.{small-fits}
+use Rattle.chain.proofs.Ranges.{index-fits, small-fits}
 use Rattle.dynamic.specs.Rows.{RowReady}
 use Rattle.dynamic.proofs.Crossing.{table-small, small-same, next-speed}
 use Rattle.dynamic.proofs.Laws.{Filling, filling-start, filling-turn, filling-end, writing-ready, passed-le}
@@ -69,7 +69,7 @@ put-requires c κs =
     (omega (arith, l .loop .inv .writing .kept .same, s .pre .1 .0 .b-high, s .pre .1 .0 .enough), small-fits (small-same (c .before .value-at .ensures) (table-small (s .pre .0 .ready .valid) (suc (s .args .p)) (l .loop .i))))
 
 add-i : tie.Need-add-i Inv-loop μ-loop
-add-i c = omega arith
+add-i c = omega (arith, index-fits (start (c .before .before .before .before .before .before .before .before .before) .pre .0 .ready .valid) (c .before .before .before .before .before .before .before .before .loop-test .taken))
 
 loop-less : tie.Need-loop-less Inv-loop μ-loop
 loop-less c = omega arith

@@ -12,7 +12,7 @@ use Rattle.chain.specs.Dynamic.{tableValue}
 use Rattle.chain.proofs.Ranges.{offer-small, small-fits}
 use Rattle.parts.specs.Prefix.{loadBetween}
 use Rattle.chain.proofs.Within.{offer-part}
-use Rattle.parts.proofs.Laws.{prefix-to, prefix-bound}
+use Rattle.parts.proofs.Laws.{loads-to, prefix-bound}
 use Rattle.dynamic.specs.Rows.{Kept}
 use Rattle.dynamic.proofs.Crossing.{small-same}
 use Rattle.dynamic.proofs.Scratch.{kept-ready}
@@ -40,7 +40,7 @@ shared-slice-read-speed c = omega (arith, c .before .before .before .before .pre
 
 -- The part that is entered: the row so far leaves the prefix sums as they were.
 first-part : (s : tie.Start Inv-loop μ-loop) {xs : List ℕ} {i : ℕ} {B : Bound} → Kept (s .args .row) (2 * suc (length (s .args .weights .now))) (s .args .scratch .now) xs
-    → i ≤ length (s .args .weights .now) → B ≡ over (loadBetween xs 0 i) (getD (s .args .speeds .now) 0 0)
+    → i ≤ length (s .args .weights .now) → B ≡ over (loadBetween (s .args .startup) xs 0 i) (getD (s .args .speeds .now) 0 0)
     → B ≡ offer (job-at s) 0 0 i
 first-part s {xs} {i} k h e =
     prefix-bound (kept-ready k (s .pre .1 .0) (s .pre .0) .prefix) 0 0 i (s .pre .0 .valid .some-processor) (omega arith) h refl e
@@ -49,7 +49,7 @@ first-part s {xs} {i} k h e =
 part-bound-requires : tie.Need-part-bound-requires Inv-loop μ-loop
 part-bound-requires c κs =
     let s = c .before .before .before .before .before .before .before in
-    (prefix-to (kept-ready (c .before .before .loop .inv .kept) (s .pre .1 .0) (s .pre .0)) (omega arith), omega arith)
+    (loads-to (kept-ready (c .before .before .loop .inv .kept) (s .pre .1 .0) (s .pre .0)) (omega arith), omega arith)
 
 put-requires : tie.Need-put-requires Inv-loop μ-loop
 put-requires c κs =

@@ -10,7 +10,7 @@ use Rattle.chain.proofs.Ranges.{offer-small, small-products}
 use Rattle.chain.proofs.Parts.{valid-proper}
 use Rattle.chain.proofs.Table.{start-first, crossing-le, value-first, value-later}
 use Rattle.chain.proofs.Within.{offer-part}
-use Rattle.parts.proofs.Laws.{prefix-to, speed-bound}
+use Rattle.parts.proofs.Laws.{loads-to, speed-bound}
 use Rattle.dynamic.proofs.Crossing.{table-small, small-same}
 use borrow.Author.Needs.{needs}
 use Rattle.dynamic.proofs.value_at.Statement.{statement}
@@ -49,7 +49,7 @@ sub-part-bound c = search needs
 part-bound-requires : tie.Need-part-bound-requires
 part-bound-requires c κs =
     let s = c .before .before .before .before .before in
-    (prefix-to (s .pre .0 .ready) (s .pre .1 .1 .0), omega (arith, at-le s))
+    (loads-to (s .pre .0 .ready) (s .pre .1 .1 .0), omega (arith, at-le s))
 
 -- The part before the crossing.
 module _ (c : tie.After-part-bound) where

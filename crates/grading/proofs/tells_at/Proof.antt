@@ -3,7 +3,7 @@
 use mathlib.Core.Path.{_∙_}
 use native.Mathlib.Omega.{arith}
 use Rattle.chain.specs.Job.{Job, jobOf}
-use Rattle.parts.proofs.Laws.{speed-read, prefix-to, prefix-load}
+use Rattle.parts.proofs.Laws.{speed-read, loads-to, prefix-load}
 use Rattle.parts.proofs.Measure.{front-length, front-part}
 use Rattle.grading.proofs.Laws.{load-read, tells-read}
 use borrow.Author.Needs.{needs}
@@ -39,7 +39,7 @@ part-load-requires : tie.Need-part-load-requires
 part-load-requires c κs =
     let s = c .before .before .before .before .before .before .before .before .before in
     let h = front-part (s .args .separators .now) (s .pre .1 .0) (s .pre .1 .1 .1) (c .before .before .index .ensures) (c .index2 .ensures) in
-    (prefix-to (s .pre .0) (h .1), h .0)
+    (loads-to (s .pre .0) (h .1), h .0)
 
 mul-speed : tie.Need-mul-speed
 mul-speed c = search needs

@@ -4,7 +4,7 @@ use mathlib.Core.Path.{_≡_, refl, sym, subst}
 use Rattle.chain.specs.Ranges.{Small}
 use Rattle.chain.specs.Job.{Job, jobOf, partBound}
 use Rattle.chain.proofs.Ranges.{part-small}
-use Rattle.parts.proofs.Laws.{prefix-to, prefix-bound}
+use Rattle.parts.proofs.Laws.{loads-to, prefix-bound}
 use borrow.Author.Needs.{needs}
 use Rattle.nicol.proofs.bound_to.Statement.{statement}
 use Rattle.nicol.proofs.bound_to.Tie as tie
@@ -18,7 +18,7 @@ shared-slice-read-part-bound c = search needs
 part-bound-requires : tie.Need-part-bound-requires
 part-bound-requires c κs =
     let s = c .before .before .before .before in
-    (prefix-to (s .pre .0) (s .pre .1 .2), s .pre .1 .1)
+    (loads-to (s .pre .0) (s .pre .1 .2), s .pre .1 .1)
 
 returns : tie.Need-returns
 returns c =

@@ -3,6 +3,7 @@
 use Prim.Native.Nat.{suc, _-_}
 use native.Mathlib.Omega.{arith}
 use lib.ListN.{length}
+use Rattle.chain.specs.Limits.{maxProcessors}
 use Rattle.chain.specs.Job.{Job, jobOf}
 use Rattle.chain.proofs.Ranges.{small-narrow, narrow-products}
 use Rattle.parts.specs.Kept.{KeptFrom}
@@ -74,7 +75,8 @@ sub-a c =
     omega (arith, c .before .before .if1 .left, end-after (s .pre .0 .valid) (l .inv .0) (c .before .before .before .before .before .before .before .before .loop-test .taken) (r .ensures .0))
 
 add-p : tie.Need-add-p Inv-loop μ-loop
-add-p c = omega arith
+unfolding maxProcessors
+add-p c = omega (arith, c .before .before .before .before .before .before .before .before .loop-test .taken, c .before .before .before .before .before .before .before .before .before .before .before .before .before .before .pre .0 .valid .processors-limit)
 
 loop-less : tie.Need-loop-less Inv-loop μ-loop
 loop-less c = omega arith

@@ -3,7 +3,7 @@
 use mathlib.Core.Path.{refl}
 use native.Mathlib.Omega.{arith}
 use Rattle.chain.specs.Job.{Job, jobOf}
-use Rattle.parts.proofs.Laws.{prefix-to, prefix-bound}
+use Rattle.parts.proofs.Laws.{loads-to, prefix-bound}
 use Rattle.parts.proofs.Measure.{front-length, front-part, bound-read}
 use borrow.Author.Needs.{needs}
 use Rattle.parts.proofs.bound_at.Statement.{statement}
@@ -44,7 +44,7 @@ part-bound-requires : tie.Need-part-bound-requires
 part-bound-requires c κs =
     let s = c .before .before .before .before .before .before .before .before .before in
     let h = front-part (s .args .separators .now) (s .pre .1 .0) (s .pre .1 .1) (c .before .before .before .index .ensures) (c .before .index2 .ensures) in
-    (prefix-to (s .pre .0) (h .1), h .0)
+    (loads-to (s .pre .0) (h .1), h .0)
 
 returns : tie.Need-returns
 returns c =

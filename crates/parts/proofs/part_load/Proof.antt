@@ -1,40 +1,28 @@
--- `part_load` meets its contract: the entries grow, so the difference is one.
+-- `part_load` meets its contract: the start-up work counts where the part has tasks.
 -- Assumes nothing.
-use mathlib.Core.Path.{refl}
 use native.Mathlib.Omega.{arith}
-use Rattle.parts.specs.Prefix.{loadBetween}
+use Rattle.parts.specs.Prefix.{weightBetween}
+use Rattle.parts.proofs.Laws.{between-some, between-none}
 use borrow.Author.Needs.{needs}
 use Rattle.parts.proofs.part_load.Statement.{statement}
 use Rattle.parts.proofs.part_load.Tie as tie
 
-mul-result : tie.Need-mul-result
-mul-result c = search needs
+part-weight-requires : tie.Need-part-weight-requires
+part-weight-requires c κs = let s = c .before .before in (s .pre .0 .rising, s .pre .1)
 
-shared-slice-read-result : tie.Need-shared-slice-read-result
-shared-slice-read-result c = search needs
-
-mul-result-2 : tie.Need-mul-result-2
-mul-result-2 c = search needs
-
-shared-slice-read-result-2 : tie.Need-shared-slice-read-result-2
-shared-slice-read-result-2 c = search needs
-
-sub-result : tie.Need-sub-result
-sub-result c =
-    let s = c .before .before in
-    s .pre .0 .up (s .args .a) (s .args .b) (s .pre .1) (omega arith)
+add-result : tie.Need-add-result
+unfolding weightBetween
+add-result c = let s = c .before .before .before in omega (arith, c .part-weight .ensures, s .pre .0 .fits)
 
 returns : tie.Need-returns
-unfolding loadBetween
-returns c = refl
+returns c =
+    let a = c .before .before .before .args in
+    between-some (a .startup) (a .sums .now) (a .a) (a .b) (c .before .if1 .taken) (c .part-weight .ensures)
+
+returns-2 : tie.Need-returns-2
+returns-2 c =
+    let a = c .before .before .args in
+    between-none (a .startup) (a .sums .now) (a .a) (a .b) (c .if1 .left)
 
 pub part-load-spec : {M : Type 1} → statement M
-part-load-spec =
-    tie.close
-    (tie.spec
-    mul-result
-    shared-slice-read-result
-    mul-result-2
-    shared-slice-read-result-2
-    sub-result
-    returns)
+part-load-spec = tie.close (tie.spec part-weight-requires add-result returns returns-2)

@@ -4,7 +4,7 @@ use mathlib.Core.Path.{ap₂, _∙_}
 use native.Mathlib.Omega.{arith}
 use lib.ListN.{getD}
 use Rattle.chain.specs.Job.{Job, jobOf, partLoad}
-use Rattle.parts.proofs.Laws.{speed-read, prefix-to, prefix-load}
+use Rattle.parts.proofs.Laws.{speed-read, loads-to, prefix-load}
 use Rattle.parts.proofs.Measure.{front-length, front-part}
 use Rattle.planfile.proofs.Records.{record-put}
 use borrow.Author.Needs.{needs}
@@ -52,7 +52,7 @@ part-load-requires : tie.Need-part-load-requires
 part-load-requires c κs =
     let s = c .before .before .before .before .before .before .before .before .before .before .before .before .before .before .before .before .before in
     let h = front-part (s .args .separators .now) (s .pre .1 .0) (s .pre .1 .1 .0) (c .before .index .ensures) (c .index2 .ensures) in
-    (prefix-to (s .pre .0) (h .1), h .0)
+    (loads-to (s .pre .0) (h .1), h .0)
 
 mul-put-field : tie.Need-mul-put-field
 mul-put-field c = search needs

@@ -54,9 +54,9 @@ put-plan-requires c κs =
     let t = tested e in
     (sums-ready {job = job} _ (t .valid) (sums .prefix-sums .ensures), (t .divisions .0, t .lists .1 .0))
 
-mul-t16 : tie.Need-mul-t16
+mul-t17 : tie.Need-mul-t17
 unfolding maxProcessors
-mul-t16 c =
+mul-t17 c =
     let e = c .before .before .before .before .before .before .before .before in
     omega (arith, (tested e) .valid .processors-limit)
 
@@ -79,6 +79,6 @@ write-plan-spec =
     prefix-sums-requires
     slice-aggregate-put-plan
     put-plan-requires
-    mul-t16
+    mul-t17
     same-length
     returns-2)

@@ -3,7 +3,7 @@
 use mathlib.Core.Path.{_≡_, refl}
 use native.Mathlib.Omega.{arith}
 use Rattle.chain.specs.Job.{Job, jobOf, partBound}
-use Rattle.parts.proofs.Laws.{prefix-to, prefix-bound}
+use Rattle.parts.proofs.Laws.{loads-to, prefix-bound}
 use Rattle.probe.proofs.Bids.{part-narrow, bid-stops}
 use borrow.Author.Needs.{needs}
 use Rattle.probe.proofs.bid_of.Statement.{statement}
@@ -22,7 +22,7 @@ part-bound-requires : tie.Need-part-bound-requires
 part-bound-requires c κs =
     let s = c .before .before .before .before .before in
     let m = c .before .one-more .ensures in
-    (prefix-to (s .pre .0) (omega (arith, m .to)), omega (arith, m .from, s .pre .1 .1))
+    (loads-to (s .pre .0) (omega (arith, m .to)), omega (arith, m .from, s .pre .1 .1))
 
 returns : tie.Need-returns
 returns c =

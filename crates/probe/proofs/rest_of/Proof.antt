@@ -4,7 +4,7 @@ use mathlib.Core.Path.{_≡_, refl, sym, _∙_}
 use native.Mathlib.Omega.{arith}
 use Rattle.chain.specs.Job.{Job, jobOf, tasks, partBound}
 use Rattle.chain.proofs.Within.{offer-part}
-use Rattle.parts.proofs.Laws.{prefix-to, prefix-bound}
+use Rattle.parts.proofs.Laws.{loads-to, prefix-bound}
 use Rattle.probe.proofs.Bids.{part-narrow}
 use borrow.Author.Needs.{needs}
 use Rattle.probe.proofs.rest_of.Statement.{statement}
@@ -19,7 +19,7 @@ shared-slice-read-part-bound c = search needs
 part-bound-requires : tie.Need-part-bound-requires
 part-bound-requires c κs =
     let s = c .before .before .before .before in
-    (prefix-to (s .pre .0) (omega arith), s .pre .1 .1)
+    (loads-to (s .pre .0) (omega arith), s .pre .1 .1)
 
 returns : tie.Need-returns
 returns c =
