@@ -10,12 +10,12 @@ use lib.Dec.{T, eqb, eqb→eq}
 use lib.ListN.{length, take, drop}
 use lib.Seq.{drop-at}
 use Rattle.bound.specs.declared.Bound.{Bound}
-use Rattle.bound.specs.Order.{over, plus, _≼_, _≺_}
-use Rattle.chain.specs.Job.{Job, Valid, Partition, Within, processors, last, partLoad, totalWeight, heaviest, slowest, ideal, at, bottleneck}
+use Rattle.bound.specs.Order.{plus, _≼_, _≺_}
+use Rattle.chain.specs.Job.{Job, Valid, Partition, Within, processors, last, partLoad, totalWeight, heaviest, ideal, at, bottleneck}
 use Rattle.chain.specs.declared.Outcome.{Outcome}
 use Rattle.chain.specs.declared.Outcome.the-variants.{Fits, Fails}
 use Rattle.chain.specs.Probe.{walk, walked, fits, nextBid, probe}
-use Rattle.chain.specs.Heuristic.{heuristic}
+use Rattle.chain.specs.Heuristic.{margin, heuristic}
 use Rattle.chain.specs.Halving.{Halvable, halving}
 use Rattle.chain.specs.Plan.{planOf}
 use Rattle.chain.specs.Refusal.{startupTest, speedsTest, weightsTest, processorsTest, tasksTest, rowTest, lengthTest, boundTest, partitionTest, FirstFailing, jobTests, Inputs, measureInputs, halvingInputs, callTests, refusal}
@@ -66,7 +66,7 @@ module _ (job : Job) (s : List ℕ) where
   pub measure-number : (measuredSaid (measureAnswer job s)) .number ≡ refusal job (measureInputs job s)
   measure-number = number-of (boundValues (bottleneck job (take (suc (processors job)) s))) measure-said
 
-  -- It is 0, or one of 5 to 9 and 11;
+  -- It is 0, 16, or one of 5 to 9 and 11;
   pub measure-numbers : List·Memᴰ ((measuredSaid (measureAnswer job s)) .number) (0 ∷ 16 ∷ 5 ∷ 6 ∷ 7 ∷ 8 ∷ 9 ∷ 11 ∷ [])
   unfolding refusal callTests jobTests startupTest speedsTest weightsTest processorsTest tasksTest lengthTest partitionTest
   measure-numbers = given-number (16 ∷ 5 ∷ 6 ∷ 7 ∷ 8 ∷ 9 ∷ 11 ∷ []) (callTests job (measureInputs job s)) measure-number tt
@@ -119,7 +119,7 @@ module _ (job : Job) (s : List ℕ) where
   pub heuristic-number : (measuredSaid (heuristicAnswer job s)) .number ≡ refusal job (heuristicInputs job (length s))
   heuristic-number = number-of (boundValues (bottleneck job (heuristic job))) heuristic-said
 
-  -- 0, or one of 5 to 9; that of the first test that fails.
+  -- 0, 16, or one of 5 to 9; that of the first test that fails.
   pub heuristic-numbers : List·Memᴰ ((measuredSaid (heuristicAnswer job s)) .number) (0 ∷ 16 ∷ 5 ∷ 6 ∷ 7 ∷ 8 ∷ 9 ∷ [])
   unfolding refusal callTests jobTests startupTest speedsTest weightsTest processorsTest tasksTest lengthTest
   heuristic-numbers = given-number (16 ∷ 5 ∷ 6 ∷ 7 ∷ 8 ∷ 9 ∷ []) (callTests job (heuristicInputs job (length s))) heuristic-number tt
@@ -134,11 +134,11 @@ module _ (job : Job) (s : List ℕ) where
   unfolding heuristicWrites
   heuristic-keeps h = lent-refused h (heuristic job) s
 
-  -- The list then begins with a partition whose bottleneck is given; it is within heaviest/slowest of the ideal.
+  -- The list then begins with a partition whose bottleneck is given; it is within (heaviest + c)/slowest of the ideal.
   pub record Guess (C : Bound) : Type 0 where
     pub partition : Partition job (take (suc (processors job)) (heuristicWrites job s))
     pub measured : C ≡ bottleneck job (take (suc (processors job)) (heuristicWrites job s))
-    pub close : C ≼ plus (ideal job) (over (heaviest job) (slowest job))
+    pub close : C ≼ plus (ideal job) (margin job)
     pub behind : drop (suc (processors job)) (heuristicWrites job s) ≡ drop (suc (processors job)) s
 
   pub heuristic-promise : {C : Bound} → heuristicAnswer job s ≡ Bottleneck C → Guess C
@@ -147,7 +147,7 @@ module _ (job : Job) (s : List ℕ) where
       record {
         partition = subst (Partition job) (sym (w .front pa)) pa;
         measured = w .measured ∙ ap (bottleneck job) (sym (w .front pa));
-        close = subst (λ (B : Bound). B ≼ plus (ideal job) (over (heaviest job) (slowest job))) (sym (w .measured)) (heuristic-bound (valid-proper v));
+        close = subst (λ (B : Bound). B ≼ plus (ideal job) (margin job)) (sym (w .measured)) (heuristic-bound (valid-proper v));
         behind = w .behind pa;
       }
     where
@@ -170,7 +170,7 @@ module _ (job : Job) (s : List ℕ) where
   pub halving-number : (measuredSaid (halvingAnswer job s)) .number ≡ refusal job (halvingInputs job (length s))
   halving-number = number-of (boundValues (bottleneck job (halving job))) halving-said
 
-  -- 0, or one of 5 to 9 and 14; that of the first test that fails.
+  -- 0, 16, or one of 5 to 9 and 14; that of the first test that fails.
   pub halving-numbers : List·Memᴰ ((measuredSaid (halvingAnswer job s)) .number) (0 ∷ 16 ∷ 5 ∷ 6 ∷ 7 ∷ 8 ∷ 14 ∷ 9 ∷ [])
   unfolding refusal callTests jobTests startupTest speedsTest weightsTest processorsTest tasksTest rowTest lengthTest
   halving-numbers = given-number (16 ∷ 5 ∷ 6 ∷ 7 ∷ 8 ∷ 14 ∷ 9 ∷ []) (callTests job (halvingInputs job (length s))) halving-number tt
@@ -185,14 +185,14 @@ module _ (job : Job) (s : List ℕ) where
   unfolding halvingWrites
   halving-keeps h = lent-refused h (halving job) s
 
-  -- The list then begins with the halved row, a partition, whose bottleneck is given: P times its load is at most Wtot + heaviest × (P − 1), and
+  -- The list then begins with the halved row, a partition, whose bottleneck is given: P times its load is at most Wtot + heaviest × (P − 1) + c × P, and
   -- it is the greatest load; no plan has a greater bottleneck; one processor takes all.
   pub record Splits (C : Bound) : Type 0 where
     pub row : Halvable (job .speeds)
     pub front : take (suc (processors job)) (halvingWrites job s) ≡ halving job
     pub partition : Partition job (halving job)
     pub measured : C ≡ bottleneck job (halving job)
-    pub light : processors job * C .load ≤ totalWeight job + heaviest job * last job
+    pub light : processors job * C .load ≤ totalWeight job + heaviest job * last job + job .startup * processors job
     pub greatest : (p : ℕ) → p < processors job → partLoad job (at (halving job) p) (at (halving job) (suc p)) ≤ C .load
     pub least : bottleneck job (planOf job) ≼ C
     pub behind : drop (suc (processors job)) (halvingWrites job s) ≡ drop (suc (processors job)) s
@@ -205,7 +205,7 @@ module _ (job : Job) (s : List ℕ) where
         front = w .front pa;
         partition = pa;
         measured = w .measured;
-        light = subst (λ (B : Bound). processors job * B .load ≤ totalWeight job + heaviest job * last job) (sym (w .measured)) (halving-bound job row (valid-proper v));
+        light = subst (λ (B : Bound). processors job * B .load ≤ totalWeight job + heaviest job * last job + job .startup * processors job) (sym (w .measured)) (halving-bound job row (valid-proper v));
         greatest = λ p h.
             subst (λ (B : Bound). partLoad job (at (halving job) p) (at (halving job) (suc p)) ≤ B .load) (sym (w .measured))
             (halving-greatest job row (valid-proper v) p h);
@@ -242,7 +242,7 @@ module _ (job : Job) (B : Bound) (s : List ℕ) where
   pub probe-number : (probedSaid (probeAnswer job B s)) .number ≡ refusal job (probeInputs job B (length s))
   probe-number = number-of (outcomeValues (probe job B)) probe-said
 
-  -- 0, or one of 5 to 10; that of the first test that fails.
+  -- 0, 16, or one of 5 to 10; that of the first test that fails.
   pub probe-numbers : List·Memᴰ ((probedSaid (probeAnswer job B s)) .number) (0 ∷ 16 ∷ 5 ∷ 6 ∷ 7 ∷ 8 ∷ 9 ∷ 10 ∷ [])
   unfolding refusal callTests jobTests startupTest speedsTest weightsTest processorsTest tasksTest lengthTest boundTest
   probe-numbers = given-number (16 ∷ 5 ∷ 6 ∷ 7 ∷ 8 ∷ 9 ∷ 10 ∷ []) (callTests job (probeInputs job B (length s))) probe-number tt

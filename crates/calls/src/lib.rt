@@ -5,6 +5,7 @@ ghost use Prim.Native.Nat.{suc, _<_};
 ghost use mathlib.Core.Path.{_≡_};
 ghost use mathlib.Core.List.{_++_};
 ghost use lib.ListN.{length, take, drop};
+ghost use Rattle.chain.specs.Job as counts;
 ghost use Rattle.chain.specs.Job.{Job, jobOf, Valid, processors, Partition, bottleneck};
 ghost use Rattle.chain.specs.Probe as trial;
 ghost use Rattle.chain.specs.Heuristic as quick;
@@ -20,6 +21,7 @@ use parts::measure_in;
 use parts::prefix_sums;
 use probe::walked_in;
 use refusals::MAX_TASKS;
+use refusals::effective;
 use refusals::test_halving;
 use refusals::test_heuristic;
 use refusals::test_measure;
@@ -50,8 +52,8 @@ fn measure_tested(startup: u32, speeds: &[u32], weights: &[u32], separators: &[u
     measure_in(startup, speeds, weights, &sums, separators)
 }
 
-// Measures a partition: its bottleneck, or the refusal: 5, 6, 7, 8, 9 or 11, in this order. Entries past P + 1 are ignored.
-pub fn measure(startup: u32, speeds: &[u32], weights: &[u32], separators: &[u32]) -> Measured
+// Inner. Measures a partition with the start-up work that counts.
+fn measure_with(startup: u32, speeds: &[u32], weights: &[u32], separators: &[u32]) -> Measured
     ensures { λ r.
         let job = jobOf startup (now (speeds .entry)) (now (weights .entry)) in
         ⌜ r ≡ measureAnswer job (now (separators .entry)) ⌝ }
@@ -61,6 +63,21 @@ pub fn measure(startup: u32, speeds: &[u32], weights: &[u32], separators: &[u32]
         return Measured::Refused(number);
     }
     Measured::Bottleneck(measure_tested(startup, speeds, weights, separators))
+}
+
+// Measures a partition: its bottleneck, or the refusal: 16, 5, 6, 7, 8, 9 or 11, in this order. Entries past P + 1 are ignored.
+pub fn measure(
+    second: bool,
+    startup: u32,
+    speeds: &[u32],
+    weights: &[u32],
+    separators: &[u32],
+) -> Measured
+    ensures { λ r.
+        let job = jobOf (counts.effective second startup) (now (speeds .entry)) (now (weights .entry)) in
+        ⌜ r ≡ measureAnswer job (now (separators .entry)) ⌝ }
+{
+    measure_with(effective(second, startup), speeds, weights, separators)
 }
 
 // Inner. The probe at the bound: writes how far each processor gets, P + 1 separators, whether it fits or not.
@@ -84,9 +101,8 @@ fn probe_tested(
     walked_in(startup, speeds, weights, &sums, bound, separators)
 }
 
-// The probe at a lent bound: whether it fits, or the refusal: 5, 6, 7, 8, 9 or 10, in this order. It writes the P + 1 separators,
-// whether it fits or fails; a refusal writes nothing. Later entries stay.
-pub fn probe(
+// Inner. The probe at a lent bound with the start-up work that counts.
+fn probe_with(
     startup: u32,
     speeds: &[u32],
     weights: &[u32],
@@ -107,6 +123,32 @@ pub fn probe(
     Probed::Answered(probe_tested(startup, speeds, weights, bound, separators))
 }
 
+// The probe at a lent bound: whether it fits, or the refusal: 16, 5, 6, 7, 8, 9 or 10, in this order. It writes the P + 1 separators,
+// whether it fits or fails; a refusal writes nothing. Later entries stay.
+pub fn probe(
+    second: bool,
+    startup: u32,
+    speeds: &[u32],
+    weights: &[u32],
+    bound: Bound,
+    separators: &mut [u32],
+) -> Probed
+    ensures answer { λ r.
+        let job = jobOf (counts.effective second startup) (now (speeds .entry)) (now (weights .entry)) in
+        ⌜ r ≡ probeAnswer job bound (now (separators .entry)) ⌝ }
+    ensures separators { λ _.
+        let job = jobOf (counts.effective second startup) (now (speeds .entry)) (now (weights .entry)) in
+        ⌜ now (separators .exit) ≡ probeWrites job bound (now (separators .entry)) ⌝ }
+{
+    probe_with(
+        effective(second, startup),
+        speeds,
+        weights,
+        bound,
+        separators,
+    )
+}
+
 // Inner. Writes the heuristic's separators and gives their bottleneck.
 fn heuristic_tested(startup: u32, speeds: &[u32], weights: &[u32], separators: &mut [u32]) -> Bound
     ghost { Job }
@@ -122,9 +164,8 @@ fn heuristic_tested(startup: u32, speeds: &[u32], weights: &[u32], separators: &
     measure_in(startup, speeds, weights, &sums, separators)
 }
 
-// The heuristic: its bottleneck, or the refusal: 5, 6, 7, 8 or 9, in this order. It writes the P + 1 separators, a refusal
-// writes nothing. Later entries stay.
-pub fn heuristic(startup: u32, speeds: &[u32], weights: &[u32], separators: &mut [u32]) -> Measured
+// Inner. The heuristic with the start-up work that counts.
+fn heuristic_with(startup: u32, speeds: &[u32], weights: &[u32], separators: &mut [u32]) -> Measured
     ensures answer { λ r.
         let job = jobOf startup (now (speeds .entry)) (now (weights .entry)) in
         ⌜ r ≡ heuristicAnswer job (now (separators .entry)) ⌝ }
@@ -137,6 +178,25 @@ pub fn heuristic(startup: u32, speeds: &[u32], weights: &[u32], separators: &mut
         return Measured::Refused(number);
     }
     Measured::Bottleneck(heuristic_tested(startup, speeds, weights, separators))
+}
+
+// The heuristic: its bottleneck, or the refusal: 16, 5, 6, 7, 8 or 9, in this order. It writes the P + 1 separators, a refusal
+// writes nothing. Later entries stay.
+pub fn heuristic(
+    second: bool,
+    startup: u32,
+    speeds: &[u32],
+    weights: &[u32],
+    separators: &mut [u32],
+) -> Measured
+    ensures answer { λ r.
+        let job = jobOf (counts.effective second startup) (now (speeds .entry)) (now (weights .entry)) in
+        ⌜ r ≡ heuristicAnswer job (now (separators .entry)) ⌝ }
+    ensures separators { λ _.
+        let job = jobOf (counts.effective second startup) (now (speeds .entry)) (now (weights .entry)) in
+        ⌜ now (separators .exit) ≡ heuristicWrites job (now (separators .entry)) ⌝ }
+{
+    heuristic_with(effective(second, startup), speeds, weights, separators)
 }
 
 // Inner. Writes the separators of the halved row and gives their bottleneck.
@@ -155,9 +215,8 @@ fn halving_tested(startup: u32, speeds: &[u32], weights: &[u32], separators: &mu
     measure_in(startup, speeds, weights, &sums, separators)
 }
 
-// Halving the row: its bottleneck, or the refusal: 5, 6, 7, 8, 14 or 9, in this order. It writes the P + 1 separators, a refusal
-// writes nothing. Later entries stay.
-pub fn halving(startup: u32, speeds: &[u32], weights: &[u32], separators: &mut [u32]) -> Measured
+// Inner. Halving the row with the start-up work that counts.
+fn halving_with(startup: u32, speeds: &[u32], weights: &[u32], separators: &mut [u32]) -> Measured
     ensures answer { λ r.
         let job = jobOf startup (now (speeds .entry)) (now (weights .entry)) in
         ⌜ r ≡ halvingAnswer job (now (separators .entry)) ⌝ }
@@ -170,4 +229,23 @@ pub fn halving(startup: u32, speeds: &[u32], weights: &[u32], separators: &mut [
         return Measured::Refused(number);
     }
     Measured::Bottleneck(halving_tested(startup, speeds, weights, separators))
+}
+
+// Halving the row: its bottleneck, or the refusal: 16, 5, 6, 7, 8, 14 or 9, in this order. It writes the P + 1 separators, a refusal
+// writes nothing. Later entries stay.
+pub fn halving(
+    second: bool,
+    startup: u32,
+    speeds: &[u32],
+    weights: &[u32],
+    separators: &mut [u32],
+) -> Measured
+    ensures answer { λ r.
+        let job = jobOf (counts.effective second startup) (now (speeds .entry)) (now (weights .entry)) in
+        ⌜ r ≡ halvingAnswer job (now (separators .entry)) ⌝ }
+    ensures separators { λ _.
+        let job = jobOf (counts.effective second startup) (now (speeds .entry)) (now (weights .entry)) in
+        ⌜ now (separators .exit) ≡ halvingWrites job (now (separators .entry)) ⌝ }
+{
+    halving_with(effective(second, startup), speeds, weights, separators)
 }

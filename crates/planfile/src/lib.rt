@@ -3,6 +3,7 @@ ghost use Prim.Native.Nat.{suc, _+_, _*_, _≤_, _<_};
 ghost use mathlib.Core.Path.{_≡_};
 ghost use mathlib.Core.List.{_++_};
 ghost use lib.ListN.{length, take, drop};
+ghost use Rattle.chain.specs.Job as counts;
 ghost use Rattle.chain.specs.Job.{Job, jobOf, processors, Partition};
 ghost use Rattle.refusals.specs.Inputs.{planRecordSize, planNeeded};
 ghost use Rattle.parts.specs.Prefix.{Ready};
@@ -16,6 +17,7 @@ use parts::prefix_sums;
 use refusals::MAX_TASKS;
 use refusals::PLAN_RECORD;
 use refusals::Written;
+use refusals::effective;
 use refusals::test_write_plan;
 
 // Inner. The record of processor p at its place.
@@ -72,8 +74,9 @@ pub fn put_plan(
     }
 }
 
-// Writes a plan file: the count of its bytes, or the refusal: 5, 6, 7, 8, 9 or 11, in this order. Later bytes stay.
-pub fn write_plan(
+// Inner. Writes a plan file with the start-up work that counts: the count of its bytes, or the refusal: 16, 5, 6, 7, 8, 9 or 11, in this
+// order. Later bytes stay.
+fn write_plan_with(
     startup: u32,
     speeds: &[u32],
     weights: &[u32],
@@ -95,4 +98,29 @@ pub fn write_plan(
     prefix_sums(weights, &mut sums);
     put_plan(startup, speeds, weights, &sums, separators, plan);
     Written::Bytes(PLAN_RECORD * speeds.len())
+}
+
+// Writes a plan file: the count of its bytes, or the refusal: 16, 5, 6, 7, 8, 9 or 11, in this order. Later bytes stay.
+pub fn write_plan(
+    second: bool,
+    startup: u32,
+    speeds: &[u32],
+    weights: &[u32],
+    separators: &[u32],
+    plan: &mut [u8],
+) -> Written
+    ensures answer { λ r.
+        let job = jobOf (counts.effective second startup) (now (speeds .entry)) (now (weights .entry)) in
+        ⌜ r ≡ writePlanAnswer job (now (separators .entry)) (length (now (plan .entry))) ⌝ }
+    ensures bytes { λ _.
+        let job = jobOf (counts.effective second startup) (now (speeds .entry)) (now (weights .entry)) in
+        ⌜ now (plan .exit) ≡ writePlanBytes job (now (separators .entry)) (now (plan .entry)) ⌝ }
+{
+    write_plan_with(
+        effective(second, startup),
+        speeds,
+        weights,
+        separators,
+        plan,
+    )
 }

@@ -1,36 +1,21 @@
--- `heuristic` meets its contract: the tests, then the separators and their bottleneck.
+-- `heuristic` meets its contract: with the start-up work that counts.
 -- Assumes nothing.
-use Rattle.chain.specs.Job.{jobOf}
-use Rattle.refusals.proofs.Accepted.{passed}
-use Rattle.calls.proofs.Ends.{heuristic-refused, heuristic-accepted}
 use borrow.Author.Needs.{needs}
 use Rattle.calls.proofs.heuristic.Statement.{statement}
 use Rattle.calls.proofs.heuristic.Tie as tie
 
-test-heuristic-requires : tie.Need-test-heuristic-requires
-test-heuristic-requires c κs = search needs
+effective-requires : tie.Need-effective-requires
+effective-requires c κs = search needs
 
-returns : tie.Need-returns
-returns c =
-    let a = c .before .before .before .before .before .args in
-    heuristic-refused (jobOf (a .startup) (a .speeds .now) (a .weights .now)) (a .separators .now) (c .before .test-heuristic .ensures) (c .if1 .taken)
-
-heuristic-tested-requires : tie.Need-heuristic-tested-requires
-heuristic-tested-requires c κs =
-    let e = c .before in
-    let a = passed (e .before .test-heuristic .ensures) (e .if1 .left) in (a .valid, a .lists .0)
+heuristic-with-requires : tie.Need-heuristic-with-requires
+heuristic-with-requires c κs = search needs
 
 same-length : tie.Need-same-length
 same-length c = search needs
 
-returns-2 : tie.Need-returns-2
-returns-2 c =
-    let e = c .before .before .before .before in
-    let a = e .before .before .before .before .before .args in
-    let found = c .before .before .heuristic-tested .ensures in
-    heuristic-accepted (jobOf (a .startup) (a .speeds .now) (a .weights .now)) (a .separators .now) (e .before .test-heuristic .ensures) (e .if1 .left) (found .0) (found .1)
+returns : tie.Need-returns
+returns c = rw (← c .before .before .before .before .effective .ensures) (c .before .before .heuristic-with .ensures)
 
 pub heuristic-spec : {M : Type 1} → statement M
 heuristic-spec =
-    tie.close
-    (tie.spec test-heuristic-requires returns heuristic-tested-requires same-length returns-2)
+    tie.close (tie.spec effective-requires heuristic-with-requires same-length returns)

@@ -1,23 +1,17 @@
--- `measure` meets its contract: the tests, then the bottleneck.
+-- `measure` meets its contract: with the start-up work that counts.
 -- Assumes nothing.
-use Rattle.refusals.proofs.Accepted.{passed}
-use Rattle.calls.proofs.Ends.{measure-ends}
 use borrow.Author.Needs.{needs}
 use Rattle.calls.proofs.measure.Statement.{statement}
 use Rattle.calls.proofs.measure.Tie as tie
 
-test-measure-requires : tie.Need-test-measure-requires
-test-measure-requires c κs = search needs
+effective-requires : tie.Need-effective-requires
+effective-requires c κs = search needs
+
+measure-with-requires : tie.Need-measure-with-requires
+measure-with-requires c κs = search needs
 
 returns : tie.Need-returns
-returns c = search measure-ends
-
-measure-tested-requires : tie.Need-measure-tested-requires
-measure-tested-requires c κs =
-    let a = passed (c .before .test-measure .ensures) (c .if1 .left) in (a .valid, a .divisions .0)
-
-returns-2 : tie.Need-returns-2
-returns-2 c = search measure-ends
+returns c = rw (← c .before .effective .ensures) (c .measure-with .ensures)
 
 pub measure-spec : {M : Type 1} → statement M
-measure-spec = tie.close (tie.spec test-measure-requires returns measure-tested-requires returns-2)
+measure-spec = tie.close (tie.spec effective-requires measure-with-requires returns)
