@@ -6,12 +6,16 @@ use mathlib.Core.Bool.{Bool, true, false}
 use mathlib.Core.List.{List, [], _∷_}
 use lib.ListN.{replicate}
 use Rattle.chain.specs.Limits.{maxTasks, maxWeight, maxStartup, maxProcessors, maxSpeed, maxBoundLoad, maxBoundSpeed}
-use Rattle.chain.specs.Job.{jobOf}
+use Rattle.chain.specs.Job.{startupOf, editionOf, effective, jobOf}
 use Rattle.chain.specs.Refusal.{eachBetween, startupTest, speedsTest, weightsTest, processorsTest, tasksTest, boundTest, firstRefusal, jobTests}
 
 -- The job of these speeds and weights gives this number.
 abbrev gives : List ℕ → List ℕ → ℕ → Type 0
 gives es ws n = firstRefusal (jobTests (jobOf 0 es ws)) ≡ n
+
+-- The same with the edition and the start-up work as a call takes them.
+abbrev gives-with : Bool → ℕ → List ℕ → List ℕ → ℕ → Type 0
+gives-with second c es ws n = firstRefusal (jobTests (jobOf (effective second c) es ws)) ≡ n
 
 -- Scope 11.4: "Speed 10,000 is taken; speeds 0 and 10,001 are refused with 5." Scope 11.5: "Weight 1,000,000 is taken; weight 1,000,001 is
 -- refused with 6."
@@ -29,7 +33,14 @@ pub counts-limited :
 unfolding firstRefusal jobTests startupTest speedsTest weightsTest processorsTest tasksTest eachBetween maxTasks maxWeight maxStartup maxProcessors maxSpeed
 counts-limited = (refl, refl, refl, refl, refl, refl, refl)
 
--- Scope 8.4: "In lists all speeds are tested before all weights."
+-- Scope 17.5: "c = 1,000,000 is taken; 1,000,001 is refused with 16, before all else of a job by lists." In the first edition no c is.
+pub startup-limited :
+    gives-with true 1000000 (1 ∷ []) [] 0 × gives-with true 1000001 (1 ∷ []) [] 16 × gives-with true 1000001 (0 ∷ []) (1000001 ∷ []) 16
+    × gives-with false 1000001 (1 ∷ []) [] 0 × gives-with false 4294967295 (0 ∷ []) [] 5
+unfolding editionOf startupOf firstRefusal jobTests startupTest speedsTest weightsTest processorsTest tasksTest eachBetween maxTasks maxWeight maxStartup maxProcessors maxSpeed
+startup-limited = (refl, refl, refl, refl, refl)
+
+-- Scope 8.4: "then all speeds, then all weights"
 pub speeds-first : gives (0 ∷ []) (1000001 ∷ []) 5 × gives [] (1000001 ∷ []) 6
 unfolding firstRefusal jobTests startupTest speedsTest weightsTest processorsTest tasksTest eachBetween maxTasks maxWeight maxStartup maxProcessors maxSpeed
 speeds-first = (refl, refl)

@@ -1,4 +1,4 @@
--- The worked jobs of the scope, sections 11 and 16, as one table, and what it means that a row holds.
+-- The worked jobs of the scope, sections 11, 16 and 17, as one table, and what it means that a row holds.
 use Prim.Native.Nat.{ℕ, zero, suc, _+_, _*_}
 use mathlib.Core.Bool.{Bool, true, false, not, _&&_}
 use mathlib.Core.List.{List, [], _∷_}
@@ -113,7 +113,8 @@ holds (refused job s n) = eqb (refusal job (measureInputs job s)) n
 holds (best job s) = isPartition job s && unbeaten job s
 holds (beaten job s) = isPartition job s && not (unbeaten job s)
 holds (halved job s B) = eqb (refusal job (halvingInputs job (length s))) 0 && sameList (halving job) s && samePair (bottleneck job s) B
-holds (heavy job) = eqb (processors job * (bottleneck job (halving job)) .load) (totalWeight job + heaviest job * last job)
+holds (heavy job) =
+    eqb (processors job * (bottleneck job (halving job)) .load) (totalWeight job + heaviest job * last job + job .startup * processors job)
 holds (unhalved job lent n) = eqb (refusal job (halvingInputs job lent)) n
 holds (filed job rows n) = eqb (firstRefusal (planTests job (recordsIn job rows))) n
 
@@ -240,4 +241,52 @@ halvedJobs =
     ∷ unhalved (jobOf 0 (1 ∷ 2 ∷ []) (replicate 2049 0)) 3 8
     ∷ unhalved (jobOf 0 (1 ∷ 2 ∷ []) (1000001 ∷ [])) 3 6
     ∷ unhalved (jobOf 0 (1 ∷ 0 ∷ []) []) 3 5
+    ∷ []
+
+abbrev pub jobM : Job
+jobM = jobOf 2 (1 ∷ 3 ∷ []) (1 ∷ 3 ∷ 8 ∷ [])
+
+abbrev pub jobN : Job
+jobN = jobOf 3 (1 ∷ 4 ∷ []) (1 ∷ 4 ∷ 4 ∷ [])
+
+abbrev pub jobO : Job
+jobO = jobOf 5 (1 ∷ 1 ∷ []) (0 ∷ 0 ∷ [])
+
+abbrev pub jobQ : Job
+jobQ = jobOf 4 (3 ∷ []) (5 ∷ 2 ∷ [])
+
+-- The jobs M to Q of the scope's section 17, of the second edition. M is A with c = 2: its plan, its quick plan, a division measured, trials,
+-- one of them at a bound that leaves no machine but the last room for a tile, and its plan files, one with the weights for the loads. Of N,
+-- c = 3, only the second machine has tiles; without c both have; c is not in the load of the empty share. O has weights 0 and c = 5.
+-- No tiles, on two machines and on one. Q is a single machine, with c = 4 and with c = 0. D with c = 0: as in the first edition. Halved
+-- rows with c, one whose P × load is all that is allowed. 1,000,000 is taken, 1,000,001 refused with 16, before 5 and 7 too.
+unfoldable pub startedJobs : List Row
+startedJobs =
+    planned (Second 2) jobM (0 ∷ 1 ∷ 3 ∷ []) (over 13 3) 445 (four 2 2 2 2) (four 3 4 8 2)
+    ∷ quick jobM (0 ∷ 2 ∷ 3 ∷ []) (over 6 1)
+    ∷ measures jobM (0 ∷ 3 ∷ 3 ∷ []) (over 14 1)
+    ∷ failsWith jobM (over 3 1) (over 13 3) (0 ∷ 1 ∷ 2 ∷ [])
+    ∷ failsWith jobM (over 1 1) (over 3 1) (0 ∷ 0 ∷ 1 ∷ [])
+    ∷ failsWith jobM (over 0 1) (over 3 1) (0 ∷ 0 ∷ 0 ∷ [])
+    ∷ fitsWith jobM (over 13 3) (0 ∷ 1 ∷ 3 ∷ [])
+    ∷ filed jobM (fieldsOf 0 1 3 1 ∷ fieldsOf 1 3 13 3 ∷ []) 0
+    ∷ filed jobM (fieldsOf 0 1 1 1 ∷ fieldsOf 1 3 11 3 ∷ []) 13
+    ∷ planned (Second 3) jobN (0 ∷ 0 ∷ 3 ∷ []) (over 12 4) 667 (four 1 2 2 2) (four 3 4 8 2)
+    ∷ best jobN (0 ∷ 0 ∷ 3 ∷ [])
+    ∷ beaten jobN (0 ∷ 1 ∷ 3 ∷ [])
+    ∷ best (jobOf 0 (1 ∷ 4 ∷ []) (1 ∷ 4 ∷ 4 ∷ [])) (0 ∷ 1 ∷ 3 ∷ [])
+    ∷ filed jobN (fieldsOf 0 0 0 1 ∷ fieldsOf 0 3 12 4 ∷ []) 0
+    ∷ filed jobN (fieldsOf 0 0 3 1 ∷ fieldsOf 0 3 12 4 ∷ []) 13
+    ∷ planned (Second 5) jobO (0 ∷ 2 ∷ 2 ∷ []) (over 5 1) 0 (four 1 2 1 2) (four 2 3 4 2)
+    ∷ planned (Second 9) (jobOf 9 (7 ∷ 2 ∷ []) []) (0 ∷ 0 ∷ 0 ∷ []) (over 0 7) 0 (four 0 1 1 0) (four 0 1 9 0)
+    ∷ planned (Second 9) (jobOf 9 (7 ∷ []) []) (0 ∷ 0 ∷ []) (over 0 7) 0 (four 0 1 1 0) (four 0 2 7 0)
+    ∷ planned (Second 4) jobQ (0 ∷ 2 ∷ []) (over 11 3) 572 (four 0 2 1 0) (four 0 2 6 0)
+    ∷ planned (Second 0) (jobOf 0 (3 ∷ []) (5 ∷ 2 ∷ [])) (0 ∷ 2 ∷ []) (over 7 3) 0 (four 0 1 1 0) (four 0 2 5 0)
+    ∷ planned (Second 0) jobD (0 ∷ 2 ∷ 2 ∷ []) (over 0 1) 0 (four 0 1 1 2) (four 2 3 1 2)
+    ∷ halved (jobOf 4 (1 ∷ 1 ∷ []) (1 ∷ 2 ∷ 1 ∷ [])) (0 ∷ 1 ∷ 3 ∷ []) (over 7 1)
+    ∷ heavy (jobOf 5 (1 ∷ 1 ∷ 1 ∷ 1 ∷ []) (6 ∷ []))
+    ∷ measures (jobOf 1000000 (1 ∷ []) (0 ∷ [])) (0 ∷ 1 ∷ []) (over 1000000 1)
+    ∷ refused (jobOf 1000001 (1 ∷ []) (0 ∷ [])) (0 ∷ 1 ∷ []) 16
+    ∷ refused (jobOf 1000001 (0 ∷ []) (0 ∷ [])) (0 ∷ 1 ∷ []) 16
+    ∷ refused (jobOf 1000001 [] []) (0 ∷ []) 16
     ∷ []
