@@ -6,7 +6,7 @@ use Rattle.bound.specs.Order.{le, pick, greater, lesser}
 use Rattle.chain.specs.Lists.{sumTo, smallestFrom}
 use Rattle.chain.specs.Job.{Job, tasks, last, offer}
 
--- Scope 5.6: "max(B(p−1,j), W(j+1,i)/ep)", for the row before, given as a function of j, and processor p.
+-- Scope 5.6: "max(B(p−1,j), L(j+1,i)/ep)", for the row before, given as a function of j, and processor p.
 unfoldable pub candidate : Job → (ℕ → Bound) → ℕ → ℕ → ℕ → Bound
 candidate job before p i j = greater (before j) (offer job p j i)
 
@@ -14,7 +14,7 @@ candidate job before p i j = greater (before j) (offer job p j i)
 unfoldable pub startOf : Job → ℕ → ℕ → ℕ
 startOf job p i = 0
 
--- Scope 5.5: "the crossing of (p,i) is the smallest j ≤ i with W(j+1,i)/ep at most B(p−1,j)"
+-- Scope 5.5: "the crossing of (p,i) is the smallest j ≤ i with L(j+1,i)/ep at most B(p−1,j)"
 unfoldable pub crossingOf : Job → (ℕ → Bound) → ℕ → ℕ → ℕ
 crossingOf job before p i =
     let a = startOf job p i in
@@ -25,7 +25,7 @@ crossingOf job before p i =
 unfoldable pub lesserAt : (ℕ → Bound) → ℕ → ℕ → Bound
 lesserAt f a c = pick (ltb a c) (lesser (f c) (f (c - 1))) (f c)
 
--- Scope 5.4: "B(1,i) = W(1,i)/e1." Scope 5.6: "B(p,i) is the lesser of max(B(p−1,j), W(j+1,i)/ep)"
+-- Scope 5.4: "B(1,i) = L(1,i)/e1." Scope 5.6: "B(p,i) is the lesser of max(B(p−1,j), L(j+1,i)/ep)"
 unfoldable pub tableValue : Job → ℕ → ℕ → Bound
 tableValue job zero i = offer job 0 0 i
 tableValue job (suc p) i =

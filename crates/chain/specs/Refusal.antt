@@ -112,7 +112,8 @@ unfoldable pub trueTest : Job → PlanRecords → Test
 trueTest job plan = test 13 (all (trueAt job plan) (processors job))
 
 -- The number of the first test that fails, 0 where all pass. Scope 8.2: "The tests are made in the order of the numbers, but 14
--- directly after 8 and 12 before 11, each call making those of the inputs that it takes."
+-- directly after 8, 12 before 11, 15 directly after 4, and 16 directly after 6 or, in lists, directly before 5, each call making those of the
+-- inputs that it takes."
 unfoldable pub firstRefusal : List Test → ℕ
 firstRefusal [] = 0
 firstRefusal (t ∷ ts) = cond (t .passes) (firstRefusal ts) (t .number)
