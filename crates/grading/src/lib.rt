@@ -5,6 +5,7 @@ ghost use mathlib.Core.Bool.{_&&_};
 ghost use mathlib.Core.List.{_++_};
 ghost use lib.Dec.{eqb};
 ghost use lib.ListN.{length, take, drop};
+ghost use Rattle.chain.specs.Job as counts;
 ghost use Rattle.chain.specs.Job.{Job, jobOf, processors, Valid, Partition};
 ghost use Rattle.chain.specs.Refusal.{separatorsOf, joined};
 ghost use Rattle.refusals.specs.Inputs.{planNeeded};
@@ -26,9 +27,10 @@ use parts::prefix_sums;
 use refusals::MAX_PROCESSORS;
 use refusals::MAX_TASKS;
 use refusals::PLAN_RECORD;
+use refusals::effective;
 use refusals::is_partition;
-use refusals::test_job;
 use refusals::test_length;
+use refusals::test_lists;
 
 // The bytes of a grade.
 const GRADE: usize = 1;
@@ -202,17 +204,26 @@ fn grade_in(startup: u32, speeds: &[u32], weights: &[u32], plan: &[u8]) -> Grade
     grade_told(startup, speeds, weights, plan, &mut separators)
 }
 
-// Grades a plan file beside the lists of its job: best, valid, or the refusal: 5, 6, 7, 8, 12, 11 or 13, in this order.
-pub fn grade(startup: u32, speeds: &[u32], weights: &[u32], plan: &[u8]) -> Graded
+// Inner. Grades a plan file beside the lists of its job, with the start-up work that counts.
+fn grade_with(startup: u32, speeds: &[u32], weights: &[u32], plan: &[u8]) -> Graded
     ensures { λ r.
         let job = jobOf startup (now (speeds .entry)) (now (weights .entry)) in
         ⌜ r ≡ gradeAnswer job (now (plan .entry)) ⌝ }
 {
-    let number = test_job(startup, speeds, weights);
+    let number = test_lists(startup, speeds, weights);
     if number != 0 {
         return Graded::Refused(number);
     }
     grade_in(startup, speeds, weights, plan)
+}
+
+// Grades a plan file beside the lists of its job: best, valid, or the refusal: 16, 5, 6, 7, 8, 12, 11 or 13, in this order.
+pub fn grade(second: bool, startup: u32, speeds: &[u32], weights: &[u32], plan: &[u8]) -> Graded
+    ensures { λ r.
+        let job = jobOf (counts.effective second startup) (now (speeds .entry)) (now (weights .entry)) in
+        ⌜ r ≡ gradeAnswer job (now (plan .entry)) ⌝ }
+{
+    grade_with(effective(second, startup), speeds, weights, plan)
 }
 
 // Inner. The test of the buffer for the grade, of which so many bytes are lent, and the grade.
@@ -229,8 +240,8 @@ fn grade_read(startup: u32, speeds: &[u32], weights: &[u32], plan: &[u8], lent: 
     grade_in(startup, speeds, weights, plan)
 }
 
-// Inner. Grades a plan file beside its job file, so many bytes being lent for the grade: best, valid, or the refusal: 2 to 8 on the
-// job file, then 9, 12, 11 or 13, in this order.
+// Inner. Grades a plan file beside its job file, so many bytes being lent for the grade: best, valid, or the refusal: 2 to 8, 15
+// and 16 on the job file, then 9, 12, 11 or 13, in this order.
 pub fn grade_files(job: &[u8], plan: &[u8], lent: usize) -> Graded
     ensures { λ r. ⌜ r ≡ lentGrade (now (job .entry)) (now (plan .entry)) lent ⌝ }
 {
@@ -239,9 +250,18 @@ pub fn grade_files(job: &[u8], plan: &[u8], lent: usize) -> Graded
     let answer = read_job(job, &mut speeds, &mut weights);
     match answer {
         JobRead::Refused(number) => Graded::Refused(number),
-        JobRead::Read { processors, tasks } => {
-            grade_read(&speeds[..processors], &weights[..tasks], plan, lent)
-        }
+        JobRead::Read {
+            second,
+            startup,
+            processors,
+            tasks,
+        } => grade_read(
+            startup,
+            &speeds[..processors],
+            &weights[..tasks],
+            plan,
+            lent,
+        ),
     }
 }
 

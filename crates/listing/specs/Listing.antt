@@ -7,11 +7,11 @@ use lib.ListN.{take}
 use Rattle.chain.specs.declared.Method.{Method}
 use Rattle.chain.specs.declared.Method.the-variants.{Table, Bidding, Bisection, Nicol}
 use Rattle.chain.specs.Limits.{maxProcessors, maxTasks}
-use Rattle.chain.specs.Job.{Job, tasks, processors, totalWeight}
+use Rattle.chain.specs.Job.{Edition, Job, tasks, processors, totalWeight}
 use Rattle.chain.specs.Plan.{planOf}
 use Rattle.refusals.specs.Inputs.{recordSize}
 use Rattle.refusals.specs.Methods.{numberOf}
-use Rattle.jobs.specs.Parse.{jobIn, fileRefusal}
+use Rattle.jobs.specs.Parse.{editionIn, jobIn, fileRefusal}
 use Rattle.planner.specs.declared.Figures.{Figures}
 use Rattle.planner.specs.Answers.{planFigures}
 use Rattle.texts.specs.Text.{text, decimal, field, labelled, refusalLine}
@@ -36,23 +36,24 @@ figuresText method f =
 unfoldable pub planLine : ℕ → Figures → List ℕ → List ℕ
 planLine method f separators = figuresText method f ++ fields separators ++ text "\n"
 
--- The line of a method: its plan of the job.
-unfoldable pub methodLine : Method → Job → List ℕ
-methodLine method job = planLine (numberOf method) (planFigures method job) (planOf job)
+-- The line of a method: its plan of the job, which is of this edition.
+unfoldable pub methodLine : Edition → Method → Job → List ℕ
+methodLine edition method job = planLine (numberOf method) (planFigures edition method job) (planOf job)
 
 -- Scope 9.3: "Then there is a line for each method, in the order of their numbers".
-unfoldable pub jobListing : Job → List ℕ
-jobListing job =
-    countsLine job ++ methodLine Table job ++ methodLine Bidding job ++ methodLine Bisection job ++ methodLine Nicol job
+unfoldable pub jobListing : Edition → Job → List ℕ
+jobListing edition job =
+    countsLine job ++ methodLine edition Table job ++ methodLine edition Bidding job ++ methodLine edition Bisection job
+    ++ methodLine edition Nicol job
 
 -- By the number that the file is refused with: the listing of its job, or that number. Reading is all that can be refused: a job
 -- that was read is planned by every method (`read-planned`).
 unfoldable pub listingOf : ℕ → List ℕ → List ℕ
-listingOf number file = cond (eqb number 0) (jobListing (jobIn file)) (refusalLine number)
+listingOf number file = cond (eqb number 0) (jobListing (editionIn file) (jobIn file)) (refusalLine number)
 
--- Scope 9.6: "at most one record more than the longest job has": with so many machines at most,
+-- Scope 9.6: "at most one record more than the longest job has", which is of the second edition: with so many machines at most,
 abbrev pub intakeFor : ℕ → ℕ
-intakeFor limit = recordSize * (limit + maxTasks + 1)
+intakeFor limit = recordSize * (limit + maxTasks + 2)
 
 -- and with ours.
 unfoldable pub intake : ℕ

@@ -3,7 +3,7 @@
 ghost use Prim.Native.Nat.{_+_, _*_, _≤_, _<_};
 ghost use mathlib.Core.Path.{_≡_};
 ghost use lib.ListN.{length};
-ghost use Rattle.chain.specs.Job.{Job, jobOf, Valid, processors};
+ghost use Rattle.chain.specs.Job.{editionOf, Job, jobOf, Valid, processors};
 ghost use Rattle.jobs.specs.Parse.{fileRefusal};
 ghost use Rattle.listing.specs.Listing as says;
 ghost use Rattle.texts.specs.Room.{fieldRoom, Put};
@@ -33,7 +33,7 @@ use texts::put_refusal_line;
 use texts::put_text;
 
 // One record more than the longest job: a longer file is judged by that much.
-pub const INTAKE: usize = RECORD * (MAX_PROCESSORS + MAX_TASKS + 1);
+pub const INTAKE: usize = RECORD * (MAX_PROCESSORS + MAX_TASKS + 2);
 
 // Room for each: the line of a plan, the first line, the listing.
 const PLAN_ROOM: usize = 6 * FIELD_ROOM + FIELD_ROOM * SEPARATORS;
@@ -92,6 +92,7 @@ fn put_plan_line(
 // Inner. Plans by the method and puts its line. A job within the limits is planned: nothing is refused here.
 fn list_method(
     method: Method,
+    second: bool,
     startup: u32,
     speeds: &[u32],
     weights: &[u32],
@@ -102,7 +103,7 @@ fn list_method(
     requires { λ job. ⌜ jobOf startup (now speeds) (now weights) ≡ job ⌝ }
     requires { λ job. ⌜ Valid job ⌝ }
     requires { λ job. ⌜ at + planRoom (processors job + 1) ≤ length (now out) ⌝ }
-    ensures { λ job r. ⌜ Put (methodLine method job) at (now (out .entry)) (now (out .exit)) r ⌝ }
+    ensures { λ job r. ⌜ Put (methodLine (editionOf second startup) method job) at (now (out .entry)) (now (out .exit)) r ⌝ }
     ensures { λ job r. ⌜ r ≤ at + planRoom (processors job + 1) ⌝ }
 {
     let mut separators = [0u32; SEPARATORS];
@@ -136,19 +137,27 @@ fn put_counts_line(startup: u32, speeds: &[u32], weights: &[u32], out: &mut [u8]
 }
 
 // Inner. Puts the listing of a job within the limits.
-fn list_job(startup: u32, speeds: &[u32], weights: &[u32], out: &mut [u8]) -> usize
+fn list_job(second: bool, startup: u32, speeds: &[u32], weights: &[u32], out: &mut [u8]) -> usize
     ghost { Job }
     requires { λ job. ⌜ jobOf startup (now speeds) (now weights) ≡ job ⌝ }
     requires { λ job. ⌜ Valid job ⌝ }
     requires { λ job. ⌜ listingRoom ≤ length (now out) ⌝ }
-    ensures { λ job r. ⌜ Put (jobListing job) 0 (now (out .entry)) (now (out .exit)) r ⌝ }
+    ensures { λ job r. ⌜ Put (jobListing (editionOf second startup) job) 0 (now (out .entry)) (now (out .exit)) r ⌝ }
     ensures { λ job r. ⌜ r ≤ listingRoom ⌝ }
 {
     let mut next = put_counts_line(startup, speeds, weights, out);
-    next = list_method(Method::Table, startup, speeds, weights, next, out);
-    next = list_method(Method::Bidding, startup, speeds, weights, next, out);
-    next = list_method(Method::Bisection, startup, speeds, weights, next, out);
-    list_method(Method::Nicol, startup, speeds, weights, next, out)
+    next = list_method(Method::Table, second, startup, speeds, weights, next, out);
+    next = list_method(Method::Bidding, second, startup, speeds, weights, next, out);
+    next = list_method(
+        Method::Bisection,
+        second,
+        startup,
+        speeds,
+        weights,
+        next,
+        out,
+    );
+    list_method(Method::Nicol, second, startup, speeds, weights, next, out)
 }
 
 // Inner. Puts the listing of a job file, or the line of its refusal.
@@ -163,9 +172,18 @@ fn list_file(file: &[u8], out: &mut [u8]) -> usize
     let mut weights = [0u32; MAX_TASKS];
     let read = read_job(file, &mut speeds, &mut weights);
     match read {
-        JobRead::Read { processors, tasks } => {
-            list_job(&speeds[..processors], &weights[..tasks], out)
-        }
+        JobRead::Read {
+            second,
+            startup,
+            processors,
+            tasks,
+        } => list_job(
+            second,
+            startup,
+            &speeds[..processors],
+            &weights[..tasks],
+            out,
+        ),
         JobRead::Refused(number) => put_refusal_line(number, out),
     }
 }

@@ -165,10 +165,8 @@ pub fn measure_in(
     let mut greatest = bound_at(startup, speeds, weights, sums, separators, 0);
     let mut p = 1;
     while p <= last {
-        greatest = Bound::greater(
-            greatest,
-            bound_at(startup, speeds, weights, sums, separators, p),
-        );
+        let here = bound_at(startup, speeds, weights, sums, separators, p);
+        greatest = Bound::greater(greatest, here);
         p += 1;
     }
     greatest

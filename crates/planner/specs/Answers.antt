@@ -7,7 +7,7 @@ use mathlib.Core.Logic.{_≢_}
 use lib.Dec.{eqb}
 use lib.ListN.{length}
 use Rattle.chain.specs.declared.Method.{Method}
-use Rattle.chain.specs.Job.{Job, bottleneck}
+use Rattle.chain.specs.Job.{Edition, Job, bottleneck}
 use Rattle.chain.specs.Plan.{planOf, allowance, countBy, imbalance}
 use Rattle.chain.specs.Refusal.{refusal}
 use Rattle.refusals.specs.declared.Chosen.{Chosen}
@@ -36,36 +36,37 @@ planRefusal job m separators scratch = refusal job (planInputs job m separators 
 unfoldable pub listsRefusal : Job → ℕ → ℕ → ℕ
 listsRefusal job separators scratch = refusal job (planLists job separators scratch)
 
--- Scope 6.1: "A plan carries its separators, its count, its allowance, the bottleneck of its separators and its imbalance."
-unfoldable pub planFigures : Method → Job → Figures
-planFigures method job =
+-- Scope 6.1: "A plan carries its separators, its count, its allowance, the bottleneck of its separators and its imbalance." Of a job of this
+-- edition.
+unfoldable pub planFigures : Edition → Method → Job → Figures
+planFigures edition method job =
     let B = bottleneck job (planOf job) in
-    record { count = countBy method job; allowance = allowance method job; bottleneck = B; imbalance = imbalance job B }
+    record { count = countBy method job; allowance = allowance edition method job; bottleneck = B; imbalance = imbalance job B }
 
 -- The answer by the number of the refusal: the figures, or that number.
 unfoldable pub plannedOf : ℕ → Figures → Planned
 plannedOf number figures = cond (eqb number 0) (Accepted figures) (Refused number)
 
 -- The answer by a method that is known, and the separators then. The lists s of separators and t of work numbers are lent.
-unfoldable pub methodAnswer : Job → Method → List ℕ → List ℕ → Planned
-methodAnswer job method s t = plannedOf (listsRefusal job (length s) (length t)) (planFigures method job)
+unfoldable pub methodAnswer : Edition → Job → Method → List ℕ → List ℕ → Planned
+methodAnswer edition job method s t = plannedOf (listsRefusal job (length s) (length t)) (planFigures edition method job)
 
 unfoldable pub methodWrites : Job → List ℕ → List ℕ → List ℕ
 methodWrites job s t = lentAfter (listsRefusal job (length s) (length t)) (planOf job) s
 
 -- The answer by what the method's number stands for, and the number of the refusal.
-unfoldable pub chosenAnswer : Job → Chosen → ℕ → Planned
-chosenAnswer job (Known method) number = plannedOf number (planFigures method job)
-chosenAnswer job Unknown number = Refused number
+unfoldable pub chosenAnswer : Edition → Job → Chosen → ℕ → Planned
+chosenAnswer edition job (Known method) number = plannedOf number (planFigures edition method job)
+chosenAnswer edition job Unknown number = Refused number
 
 -- What it says where nothing refuses it. (An unknown method is refused.)
-abbrev pub chosenValues : Job → Chosen → List ℕ
-chosenValues job (Known method) = figureValues (planFigures method job)
-chosenValues job Unknown = []
+abbrev pub chosenValues : Edition → Job → Chosen → List ℕ
+chosenValues edition job (Known method) = figureValues (planFigures edition method job)
+chosenValues edition job Unknown = []
 
 -- The whole answer, by the number m of the method, and the separators then.
-unfoldable pub planAnswer : Job → ℕ → List ℕ → List ℕ → Planned
-planAnswer job m s t = chosenAnswer job (chosenOf m) (planRefusal job m (length s) (length t))
+unfoldable pub planAnswer : Edition → Job → ℕ → List ℕ → List ℕ → Planned
+planAnswer edition job m s t = chosenAnswer edition job (chosenOf m) (planRefusal job m (length s) (length t))
 
 unfoldable pub planWrites : Job → ℕ → List ℕ → List ℕ → List ℕ
 planWrites job m s t = lentAfter (planRefusal job m (length s) (length t)) (planOf job) s

@@ -1,9 +1,11 @@
 // The allowance of a method. All functions here are inner.
-ghost use Prim.Native.Nat.{_≤_, _<_};
+ghost use Prim.Native.Nat.{_+_, _≤_, _<_, _^_};
+ghost use mathlib.Core.Bool.{cond, _&&_};
+ghost use lib.Dec.{eqb};
 ghost use mathlib.Core.Path.{_≡_};
 ghost use lib.ListN.{length};
 ghost use Rattle.chain.specs.Lists.{greatestOf, digits};
-ghost use Rattle.chain.specs.Job.{Job, jobOf, Valid, slowestOf};
+ghost use Rattle.chain.specs.Job.{editionOf, Job, jobOf, Valid, slowestOf};
 ghost use Rattle.chain.specs.Plan.{difference, allowance};
 use chain::Method;
 use parts::wide;
@@ -41,7 +43,7 @@ fn least_of(values: &[u32]) -> u32
     least
 }
 
-// D, the heaviest weight times the fastest speed squared over the slowest speed. Inner.
+// D, the heaviest weight and the start-up work, times the fastest speed squared, over the slowest speed. Inner.
 fn difference_of(startup: u32, speeds: &[u32], weights: &[u32]) -> u64
     ghost { Job }
     requires { λ job. ⌜ jobOf startup (now speeds) (now weights) ≡ job ⌝ }
@@ -51,7 +53,8 @@ fn difference_of(startup: u32, speeds: &[u32], weights: &[u32]) -> u64
     let heaviest = wide(greatest_of(weights));
     let fastest = wide(greatest_of(speeds));
     let slowest = wide(least_of(speeds));
-    heaviest * (fastest * fastest) / slowest
+    let breadth = heaviest + wide(startup);
+    breadth * (fastest * fastest) / slowest
 }
 
 // How many binary digits a number has, 0 having none: those of the 64 that are not leading zeros.
@@ -62,18 +65,38 @@ fn digits_of(n: u64) -> u32
     64 - u64::leading_zeros(n)
 }
 
+// The allowance of bidding: 2 in the second edition where the last processor is number 0, else one more than `most`, which is
+// (P − 1) × N. Inner.
+fn bidding_allowance(second: bool, last: usize, most: usize) -> u32
+    requires { ⌜ most + 1 < 2 ^ 32 ⌝ }
+    ensures { λ r. ⌜ r ≡ cond (second && eqb last 0) 2 (most + 1) ⌝ }
+{
+    if second {
+        if last == 0 {
+            return 2;
+        }
+    }
+    (most + 1) as u32
+}
+
 // The allowance of a method. Inner: the job is within the limits.
-pub fn allowance_of(method: Method, startup: u32, speeds: &[u32], weights: &[u32]) -> u32
+pub fn allowance_of(
+    method: Method,
+    second: bool,
+    startup: u32,
+    speeds: &[u32],
+    weights: &[u32],
+) -> u32
     ghost { Job }
     requires { λ job. ⌜ jobOf startup (now speeds) (now weights) ≡ job ⌝ }
     requires { λ job. ⌜ Valid job ⌝ }
-    ensures { λ job r. ⌜ r ≡ allowance method job ⌝ }
+    ensures { λ job r. ⌜ r ≡ allowance (editionOf second startup) method job ⌝ }
 {
     let last = speeds.len() - 1;
     let most = last * weights.len();
     match method {
         Method::Table => most as u32,
-        Method::Bidding => (most + 1) as u32,
+        Method::Bidding => bidding_allowance(second, last, most),
         Method::Bisection => 1 + digits_of(difference_of(startup, speeds, weights)),
         Method::Nicol => last as u32 * digits_of(weights.len() as u64),
     }

@@ -21,7 +21,14 @@ use refusals::PLAN_RECORD;
 use refusals::choose;
 
 // Inner. Plans a tested job and writes its plan file to the front of the buffer.
-fn write_best(method: Method, startup: u32, speeds: &[u32], weights: &[u32], plan: &mut [u8])
+fn write_best(
+    method: Method,
+    second: bool,
+    startup: u32,
+    speeds: &[u32],
+    weights: &[u32],
+    plan: &mut [u8],
+)
     ghost { Job }
     requires { λ job. ⌜ jobOf startup (now speeds) (now weights) ≡ job ⌝ }
     requires { λ job. ⌜ Valid job ⌝ }
@@ -32,6 +39,7 @@ fn write_best(method: Method, startup: u32, speeds: &[u32], weights: &[u32], pla
     let mut scratch = [0u32; super::SCRATCH];
     super::plan_in(
         method,
+        second,
         startup,
         speeds,
         weights,
@@ -42,7 +50,14 @@ fn write_best(method: Method, startup: u32, speeds: &[u32], weights: &[u32], pla
 }
 
 // Inner. The test of the buffer, and the plan.
-fn plan_read(method: Method, startup: u32, speeds: &[u32], weights: &[u32], plan: &mut [u8]) -> u32
+fn plan_read(
+    method: Method,
+    second: bool,
+    startup: u32,
+    speeds: &[u32],
+    weights: &[u32],
+    plan: &mut [u8],
+) -> u32
     ghost { Job }
     requires { λ job. ⌜ jobOf startup (now speeds) (now weights) ≡ job ⌝ }
     requires { λ job. ⌜ Valid job ⌝ }
@@ -51,11 +66,11 @@ fn plan_read(method: Method, startup: u32, speeds: &[u32], weights: &[u32], plan
     if plan.len() < PLAN_RECORD * speeds.len() {
         return 9;
     }
-    write_best(method, startup, speeds, weights, plan);
+    write_best(method, second, startup, speeds, weights, plan);
     0
 }
 
-// Plans the job file by a method that is known: 0, or the refusal: 2 to 8 on the file, then 9.
+// Plans the job file by a method that is known: 0, or the refusal: 2 to 8, 15 and 16 on the file, then 9.
 fn plan_file(method: Method, job: &[u8], plan: &mut [u8]) -> u32
     ensures answer { λ r. ⌜ r ≡ fileAnswer (now (job .entry)) (length (now (plan .entry))) ⌝ }
     ensures bytes { λ _. ⌜ now (plan .exit) ≡ fileWrites (now (job .entry)) (now (plan .entry)) ⌝ }
@@ -65,13 +80,23 @@ fn plan_file(method: Method, job: &[u8], plan: &mut [u8]) -> u32
     let answer = read_job(job, &mut speeds, &mut weights);
     match answer {
         JobRead::Refused(number) => number,
-        JobRead::Read { processors, tasks } => {
-            plan_read(method, &speeds[..processors], &weights[..tasks], plan)
-        }
+        JobRead::Read {
+            second,
+            startup,
+            processors,
+            tasks,
+        } => plan_read(
+            method,
+            second,
+            startup,
+            &speeds[..processors],
+            &weights[..tasks],
+            plan,
+        ),
     }
 }
 
-// Plans the job file by the method with this number and writes its plan file: 0, or the refusal: 1, then 2 to 8 on the file, then 9.
+// Plans the job file by the method with this number and writes its plan file: 0, or the refusal: 1, then 2 to 8, 15 and 16 on the file, then 9.
 // In C: uint32_t plan_job(const uint8_t *job, size_t job_len, uint32_t method, uint8_t *plan, size_t plan_len).
 #[no_mangle]
 pub extern "C" fn plan_job(job: &[u8], method: u32, plan: &mut [u8]) -> u32
@@ -85,8 +110,8 @@ pub extern "C" fn plan_job(job: &[u8], method: u32, plan: &mut [u8]) -> u32
     }
 }
 
-// Grades the plan file beside its job file, 1 best, 2 valid, in the buffer's first byte: 0, or the refusal: 2 to 8 on the job file,
-// then 9, 12, 11 or 13.
+// Grades the plan file beside its job file, 1 best, 2 valid, in the buffer's first byte: 0, or the refusal: 2 to 8, 15
+// and 16 on the job file, then 9, 12, 11 or 13.
 // In C: uint32_t grade_plan(const uint8_t *job, size_t job_len, const uint8_t *plan, size_t plan_len, uint8_t *grade, size_t grade_len).
 #[no_mangle]
 pub extern "C" fn grade_plan(job: &[u8], plan: &[u8], grade: &mut [u8]) -> u32

@@ -4,7 +4,8 @@ ghost use mathlib.Core.Path.{_≡_};
 ghost use mathlib.Core.List.{_++_};
 ghost use lib.ListN.{length, drop};
 ghost use Rattle.chain.specs.Ranges.{Lendable};
-ghost use Rattle.chain.specs.Job.{Job, jobOf, processors, Valid};
+ghost use Rattle.chain.specs.Job as counts;
+ghost use Rattle.chain.specs.Job.{startupOf, editionOf, Job, jobOf, processors, Valid};
 ghost use Rattle.chain.specs.Plan.{MethodEnds, planOf};
 ghost use Rattle.chain.specs.Probe.{walk};
 ghost use Rattle.refusals.specs.Inputs.{scratchNeeded};
@@ -37,6 +38,7 @@ use refusals::MAX_PROCESSORS;
 use refusals::MAX_TASKS;
 use refusals::SCRATCH_LISTS;
 use refusals::choose;
+use refusals::effective;
 use refusals::test_plan;
 
 // The most separators and work numbers that any plan takes.
@@ -108,6 +110,7 @@ fn close_walk(
 // Inner. The closing walk, and the figures of the plan.
 fn close_plan(
     method: Method,
+    second: bool,
     startup: u32,
     speeds: &[u32],
     weights: &[u32],
@@ -121,7 +124,7 @@ fn close_plan(
     requires { λ job. ⌜ processors job < length (now separators) ⌝ }
     requires { λ job. ⌜ MethodEnds method job (found .count) (found .bound) ⌝ }
     requires { λ job. ⌜ Lendable (found .bound) ⌝ }
-    ensures { λ job r. ⌜ r ≡ planFigures method job ⌝ }
+    ensures { λ job r. ⌜ r ≡ planFigures (editionOf second startup) method job ⌝ }
     ensures { λ job _. ⌜ now (separators .exit) ≡ planOf job ++ drop (suc (processors job)) (now (separators .entry)) ⌝ }
 {
     let bound = found.bound;
@@ -129,7 +132,7 @@ fn close_plan(
     close_walk(startup, speeds, weights, sums, bound, separators);
     let bottleneck = measure_in(startup, speeds, weights, sums, separators);
     let total = wide(sums[weights.len()]);
-    let allowance = allowance_of(method, startup, speeds, weights);
+    let allowance = allowance_of(method, second, startup, speeds, weights);
     let imbalance = imbalance_of(startup, speeds, weights, total, bottleneck);
     Figures {
         count,
@@ -142,6 +145,7 @@ fn close_plan(
 // Inner. Plans a job that has been tested.
 pub fn plan_in(
     method: Method,
+    second: bool,
     startup: u32,
     speeds: &[u32],
     weights: &[u32],
@@ -152,19 +156,29 @@ pub fn plan_in(
     requires { λ job. ⌜ jobOf startup (now speeds) (now weights) ≡ job ⌝ }
     requires { λ job. ⌜ Valid job ⌝ }
     requires { λ job. ⌜ (processors job < length (now separators)) × (scratchNeeded job ≤ length (now scratch)) ⌝ }
-    ensures { λ job r. ⌜ r ≡ planFigures method job ⌝ }
+    ensures { λ job r. ⌜ r ≡ planFigures (editionOf second startup) method job ⌝ }
     ensures { λ job _. ⌜ now (separators .exit) ≡ planOf job ++ drop (suc (processors job)) (now (separators .entry)) ⌝ }
     ensures { λ job _. ⌜ KeptFrom (scratchNeeded job) (now (scratch .entry)) (now (scratch .exit)) ⌝ }
     ensures { λ job _. ⌜ Ready job (now (scratch .exit)) ⌝ }
 {
     prefix_sums(weights, scratch);
     let found = run_method(method, startup, speeds, weights, separators, scratch);
-    close_plan(method, startup, speeds, weights, scratch, found, separators)
+    close_plan(
+        method,
+        second,
+        startup,
+        speeds,
+        weights,
+        scratch,
+        found,
+        separators,
+    )
 }
 
-// Plans a job by a method that is known: the plan, or the refusal: 5, 6, 7, 8 or 9, in this order.
+// Plans a job by a method that is known: the plan, or the refusal: 16, 5, 6, 7, 8 or 9, in this order.
 fn plan_by(
     method: Method,
+    second: bool,
     startup: u32,
     speeds: &[u32],
     weights: &[u32],
@@ -173,7 +187,7 @@ fn plan_by(
 ) -> Planned
     ensures answer { λ r.
         let job = jobOf startup (now (speeds .entry)) (now (weights .entry)) in
-        ⌜ r ≡ methodAnswer job method (now (separators .entry)) (now (scratch .entry)) ⌝ }
+        ⌜ r ≡ methodAnswer (editionOf second startup) job method (now (separators .entry)) (now (scratch .entry)) ⌝ }
     ensures separators { λ _.
         let job = jobOf startup (now (speeds .entry)) (now (weights .entry)) in
         ⌜ now (separators .exit) ≡ methodWrites job (now (separators .entry)) (now (scratch .entry)) ⌝ }
@@ -186,13 +200,21 @@ fn plan_by(
     if tested != 0 {
         return Planned::Refused(tested);
     }
-    Planned::Accepted(plan_in(method, startup, speeds, weights, separators, scratch))
+    Planned::Accepted(plan_in(
+        method,
+        second,
+        startup,
+        speeds,
+        weights,
+        separators,
+        scratch,
+    ))
 }
 
-// Plans a job by the method with this number: the first P + 1 separators become the plan's, or the refusal: 1, 5, 6, 7, 8 or 9, in
-// this order.
-pub fn plan(
+// Inner. Plans a job by the method with this number, with the start-up work that counts.
+fn plan_with(
     method: u32,
+    second: bool,
     startup: u32,
     speeds: &[u32],
     weights: &[u32],
@@ -201,7 +223,7 @@ pub fn plan(
 ) -> Planned
     ensures answer { λ r.
         let job = jobOf startup (now (speeds .entry)) (now (weights .entry)) in
-        ⌜ r ≡ planAnswer job method (now (separators .entry)) (now (scratch .entry)) ⌝ }
+        ⌜ r ≡ planAnswer (editionOf second startup) job method (now (separators .entry)) (now (scratch .entry)) ⌝ }
     ensures separators { λ _.
         let job = jobOf startup (now (speeds .entry)) (now (weights .entry)) in
         ⌜ now (separators .exit) ≡ planWrites job method (now (separators .entry)) (now (scratch .entry)) ⌝ }
@@ -213,6 +235,43 @@ pub fn plan(
     let chosen = choose(method);
     match chosen {
         Chosen::Unknown => Planned::Refused(1),
-        Chosen::Known(known) => plan_by(known, startup, speeds, weights, separators, scratch),
+        Chosen::Known(known) => {
+            plan_by(known, second, startup, speeds, weights, separators, scratch)
+        }
     }
+}
+
+// Plans a job by the method with this number: the first P + 1 separators become the plan's, or the refusal: 1, 16, 5, 6, 7, 8 or 9, in
+// this order.
+pub fn plan(
+    method: u32,
+    second: bool,
+    startup: u32,
+    speeds: &[u32],
+    weights: &[u32],
+    separators: &mut [u32],
+    scratch: &mut [u32],
+) -> Planned
+    ensures answer { λ r.
+        let edition = editionOf second startup in
+        let job = jobOf (startupOf edition) (now (speeds .entry)) (now (weights .entry)) in
+        ⌜ r ≡ planAnswer edition job method (now (separators .entry)) (now (scratch .entry)) ⌝ }
+    ensures separators { λ _.
+        let job = jobOf (counts.effective second startup) (now (speeds .entry)) (now (weights .entry)) in
+        ⌜ now (separators .exit) ≡ planWrites job method (now (separators .entry)) (now (scratch .entry)) ⌝ }
+    ensures scratch { λ _.
+        let job = jobOf (counts.effective second startup) (now (speeds .entry)) (now (weights .entry)) in
+        let number = planRefusal job method (length (now (separators .entry))) (length (now (scratch .entry))) in
+        ⌜ ScratchAfter number job (now (scratch .entry)) (now (scratch .exit)) ⌝ }
+{
+    let counted = effective(second, startup);
+    plan_with(
+        method,
+        second,
+        counted,
+        speeds,
+        weights,
+        separators,
+        scratch,
+    )
 }
