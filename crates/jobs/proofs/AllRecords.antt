@@ -2,7 +2,7 @@
 -- Assumes nothing.
 use Prim.Native.Nat.{ℕ, zero, suc, _+_, _%_, _≤_, _<_}
 use mathlib.Core.Path.{_≡_, refl, sym, ap, ap₂, _∙_}
-use mathlib.Core.Bool.{Bool, cond}
+use mathlib.Core.Bool.{Bool, true, false, cond}
 use mathlib.Core.List.{List, [], _∷_, _++_, append-nil}
 use mathlib.Core.Logic.{_≢_, _⊎_, inl, inr}
 use native.Mathlib.Omega.{arith}
@@ -11,9 +11,10 @@ use native.Mathlib.Numerals.{add-one}
 use lib.Dec.{eqb}
 use lib.ListN.{length, length-append}
 use borrow.Author.Tests.{eq-eqb, ne-eqb}
+use Rattle.chain.specs.Job.{startupOf, editionOf}
 use Rattle.chain.specs.Refusal.{firstRefusal}
-use Rattle.jobs.specs.JobFile.{processorKind, taskKind}
-use Rattle.jobs.specs.Parse.{recordCount, kindAt, valueAt, isKind, multipleTest, formTest, orderTest, speedTest, weightTest, recordTests, recordsTests, valuesOf, speedsOf, weightsOf}
+use Rattle.jobs.specs.JobFile.{processorKind, taskKind, startupKind}
+use Rattle.jobs.specs.Parse.{recordCount, byteAt, kindAt, valueAt, isKind, multipleTest, formTest, orderTest, placeTest, speedTest, weightTest, workTest, recordTests, recordsTests, valuesOf, secondIn, startupIn, speedsOf, weightsOf}
 use Rattle.jobs.specs.Answers.{answerOf}
 use Rattle.jobs.specs.Inner.{recordsRefusal}
 use Rattle.jobs.specs.declared.JobRead.{JobRead}
@@ -24,9 +25,11 @@ use Rattle.jobs.proofs.OneRecord.{other-kind}
 module _ (file : List ℕ) where
   -- Numbers above 0.
   pub record-numbered : (i : ℕ) → Numbered (recordTests file i)
-  unfolding recordTests formTest orderTest speedTest weightTest
+  unfolding recordTests formTest orderTest placeTest speedTest weightTest workTest
   record-numbered i =
-      numbered-cons (omega arith) (numbered-cons (omega arith) (numbered-cons (omega arith) (numbered-cons (omega arith) numbered-nil)))
+      numbered-cons (omega arith)
+      (numbered-cons (omega arith)
+      (numbered-cons (omega arith) (numbered-cons (omega arith) (numbered-cons (omega arith) (numbered-cons (omega arith) numbered-nil)))))
 
   pub records-numbered : (n : ℕ) → Numbered (recordsTests file n)
   unfolding recordsTests
@@ -64,19 +67,23 @@ module _ (file : List ℕ) where
   values-same kind n h =
       ap (λ (b : Bool). valuesOf kind file n ++ cond b (valueAt file n ∷ []) []) (ne-eqb (kindAt file n) kind h) ∙ append-nil (valuesOf kind file n)
 
-  -- A record that passes is of one kind or the other.
-  pub kind-cases : (n : ℕ) → firstRefusal (recordTests file n) ≡ 0 → (kindAt file n ≡ processorKind) ⊎ (kindAt file n ≡ taskKind)
+  -- A record that passes is of one of the three kinds.
+  pub kind-cases : (n : ℕ) → firstRefusal (recordTests file n) ≡ 0
+      → (kindAt file n ≡ processorKind) ⊎ ((kindAt file n ≡ taskKind) ⊎ (kindAt file n ≡ startupKind))
   kind-cases n e =
       elim (ℕ-discrete (kindAt file n) processorKind) [
         | yes p ↦ inl p
-        | no p ↦ elim (ℕ-discrete (kindAt file n) taskKind) [ yes q ↦ inr q | no q ↦ absurd (let z : ⊥ = omega (arith, other-kind file n refl p q, e) in z) ]
+        | no p ↦ elim (ℕ-discrete (kindAt file n) taskKind) [
+          | yes q ↦ inr (inl q)
+          | no q ↦ elim (ℕ-discrete (kindAt file n) startupKind) [ yes r ↦ inr (inr r) | no r ↦ absurd (let z : ⊥ = omega (arith, other-kind file n refl p q r, e) in z) ]
+        ]
       ]
 
 -- The loop over the records: the first i pass, and are counted.
 pub record Tested (file : List ℕ) (processors tasks i : ℕ) : Type 0 where
   pub multiple : length file % 8 ≡ 0
   pub below : i ≤ recordCount file
-  pub counted : processors + tasks ≡ i
+  pub counted : processors + tasks ≤ i
   pub processors-are : processors ≡ length (valuesOf processorKind file i)
   pub tasks-are : tasks ≡ length (valuesOf taskKind file i)
   pub passed : firstRefusal (recordsTests file i) ≡ 0
@@ -85,7 +92,7 @@ module _ {file : List ℕ} where
   pub tested-none : length file % 8 ≡ 0 → Tested file 0 0 0
   unfolding valuesOf recordsTests firstRefusal
   tested-none e =
-      record { multiple = e; below = omega arith; counted = refl; processors-are = refl; tasks-are = refl; passed = refl }
+      record { multiple = e; below = omega arith; counted = omega arith; processors-are = refl; tasks-are = refl; passed = refl }
 
   module _ {processors tasks i : ℕ} (t : Tested file processors tasks i) (h : i < recordCount file) {found : ℕ} (f : found ≡ firstRefusal (recordTests file i)) where
     next-passed : found ≡ 0 → firstRefusal (recordsTests file (i + 1)) ≡ 0
@@ -110,19 +117,27 @@ module _ {file : List ℕ} where
           passed = next-passed z;
         }
 
-    pub tested-task : found ≡ 0 → {k : ℕ} → k ≡ kindAt file i → k ≢ 1 → {p n : ℕ} → p ≡ processors → n ≡ tasks + 1 → Tested file p n (i + 1)
+    pub tested-task : found ≡ 0 → {k : ℕ} → k ≡ kindAt file i → k ≡ 2 → {p n : ℕ} → p ≡ processors → n ≡ tasks + 1 → Tested file p n (i + 1)
     tested-task z kind e c d =
         record {
           multiple = t .multiple;
           below = omega arith;
           counted = omega (arith, t .counted);
           processors-are = omega (arith, t .processors-are, stays 1 (omega arith));
-          tasks-are = omega (arith, t .tasks-are, grows 2 two);
+          tasks-are = omega (arith, t .tasks-are, grows 2 (omega arith));
           passed = next-passed z;
         }
-      where
-        two : kindAt file i ≡ 2
-        two = elim (kind-cases file i (sym f ∙ z)) [ inl p ↦ absurd (e (kind ∙ p)) | inr q ↦ q ]
+
+    pub tested-neither : found ≡ 0 → {k : ℕ} → k ≡ kindAt file i → k ≢ 1 → k ≢ 2 → {p n : ℕ} → p ≡ processors → n ≡ tasks → Tested file p n (i + 1)
+    tested-neither z kind e f c d =
+        record {
+          multiple = t .multiple;
+          below = omega arith;
+          counted = omega (arith, t .counted);
+          processors-are = omega (arith, t .processors-are, stays 1 (omega arith));
+          tasks-are = omega (arith, t .tasks-are, stays 2 (omega arith));
+          passed = next-passed z;
+        }
 
 -- What testing the records answers.
 module _ (file : List ℕ) where
@@ -134,17 +149,22 @@ module _ (file : List ℕ) where
   unfolding recordsRefusal multipleTest
   multiple-passes e = passes 2 (recordsTests file (recordCount file)) (eq-eqb (length file % 8) 0 e)
 
+  -- The answer to an accepted file.
+  abbrev said : JobRead
+  said = JobRead.Read (secondIn file) (startupIn file) (length (speedsOf file)) (length (weightsOf file))
+
   pub answer-refused : {n m : ℕ} → m ≡ n → n ≢ 0 → JobRead.Refused n ≡ answerOf m file
   unfolding answerOf
   answer-refused {n} {m} e h =
-      sym (ap (λ (k : ℕ). cond (eqb k 0) (JobRead.Read (length (speedsOf file)) (length (weightsOf file))) (JobRead.Refused k)) e
-      ∙ ap (λ (b : Bool). cond b (JobRead.Read (length (speedsOf file)) (length (weightsOf file))) (JobRead.Refused n)) (ne-eqb n 0 h))
+      sym (ap (λ (k : ℕ). cond (eqb k 0) said (JobRead.Refused k)) e
+      ∙ ap (λ (b : Bool). cond b said (JobRead.Refused n)) (ne-eqb n 0 h))
 
-  pub answer-read : {m p t : ℕ} → m ≡ 0 → p ≡ length (speedsOf file) → t ≡ length (weightsOf file) → JobRead.Read p t ≡ answerOf m file
+  pub answer-read : {m c p t : ℕ} {s : Bool} → m ≡ 0 → s ≡ secondIn file → c ≡ startupIn file → p ≡ length (speedsOf file) → t ≡ length (weightsOf file)
+      → JobRead.Read s c p t ≡ answerOf m file
   unfolding answerOf
-  answer-read e d f =
-      ap₂ JobRead.Read d f
-      ∙ sym (ap (λ (k : ℕ). cond (eqb k 0) (JobRead.Read (length (speedsOf file)) (length (weightsOf file))) (JobRead.Refused k)) e)
+  answer-read {p = p} {t = t} e a b d f =
+      ap₂ (λ (s : Bool) (c : ℕ). JobRead.Read s c p t) a b ∙ ap₂ (JobRead.Read (secondIn file) (startupIn file)) d f
+      ∙ sym (ap (λ (k : ℕ). cond (eqb k 0) said (JobRead.Refused k)) e)
 
   pub tested-refused : {processors tasks i : ℕ} → Tested file processors tasks i → i < recordCount file → {found : ℕ}
       → found ≡ firstRefusal (recordTests file i) → found ≢ 0 → JobRead.Refused found ≡ answerOf (recordsRefusal file) file
@@ -153,12 +173,37 @@ module _ (file : List ℕ) where
       here : firstRefusal (recordsTests file (suc i)) ≡ found
       here = records-next file i (t .passed) ∙ sym f
 
-  pub tested-all : {processors tasks i : ℕ} → Tested file processors tasks i → recordCount file ≤ i → JobRead.Read processors tasks ≡ answerOf (recordsRefusal file) file
+  pub tested-all : {processors tasks i : ℕ} → Tested file processors tasks i → recordCount file ≤ i → {r : JobRead}
+      → r ≡ JobRead.Read (secondIn file) (startupIn file) processors tasks → r ≡ answerOf (recordsRefusal file) file
   unfolding speedsOf weightsOf
-  tested-all {processors} {tasks} {i} t h =
-      answer-read (multiple-passes (t .multiple) ∙ ap (λ (n : ℕ). firstRefusal (recordsTests file n)) end ∙ t .passed)
+  tested-all {processors} {tasks} {i} t h e =
+      e ∙ answer-read (multiple-passes (t .multiple) ∙ ap (λ (n : ℕ). firstRefusal (recordsTests file n)) end ∙ t .passed) refl refl
       (t .processors-are ∙ ap (λ (n : ℕ). length (valuesOf processorKind file n)) (sym end))
       (t .tasks-are ∙ ap (λ (n : ℕ). length (valuesOf taskKind file n)) (sym end))
     where
       end : recordCount file ≡ i
       end = omega (arith, t .below)
+
+-- The edition and the start-up work that a file is read with: no byte, a first record of another kind, one of kind 3.
+module _ (file : List ℕ) (p t : ℕ) where
+  as-first : secondIn file ≡ false → JobRead.Read false 0 p t ≡ JobRead.Read (secondIn file) (startupIn file) p t
+  unfolding editionOf startupOf
+  as-first e = sym (ap (λ (b : Bool). JobRead.Read b (startupOf (editionOf b (valueAt file 0))) p t) e)
+
+  pub as-other : {k : ℕ} → k ≡ kindAt file 0 → k ≢ 3 → JobRead.Read false 0 p t ≡ JobRead.Read (secondIn file) (startupIn file) p t
+  unfolding secondIn isKind
+  as-other e h = as-first (ne-eqb (kindAt file 0) 3 (λ z. h (e ∙ z)))
+
+  pub as-second : {k v : ℕ} → k ≡ kindAt file 0 → k ≡ 3 → v ≡ valueAt file 0 → JobRead.Read true v p t ≡ JobRead.Read (secondIn file) (startupIn file) p t
+  unfolding secondIn isKind editionOf startupOf
+  as-second e h f =
+      ap (λ (c : ℕ). JobRead.Read true c p t) f
+      ∙ sym (ap (λ (b : Bool). JobRead.Read b (startupOf (editionOf b (valueAt file 0))) p t) (eq-eqb (kindAt file 0) 3 (sym e ∙ h)))
+
+pub as-none : (file : List ℕ) (p t : ℕ) → length file ≤ 0 → JobRead.Read false 0 p t ≡ JobRead.Read (secondIn file) (startupIn file) p t
+unfolding kindAt byteAt
+as-none [] p t h = as-other [] p t refl (omega arith)
+as-none (x ∷ file) p t h = absurd (let z : ⊥ = omega arith in z)
+
+-- For `search`: at each return the law that its tests meet.
+pub ruleset as-laws = (as-none, as-other, as-second)

@@ -1,17 +1,19 @@
 -- A record's bytes, both ways: what its places hold makes its bytes, and its bytes are what its places hold.
 -- Assumes nothing.
 use Prim.Native.Nat.{ℕ, zero, suc, _+_, _*_, _≤_, _<_, _^_}
-use mathlib.Core.Path.{_≡_, refl, sym, ap, ap₂, _∙_}
+use mathlib.Core.Path.{_≡_, refl, sym, ap, ap₂, subst, _∙_}
 use mathlib.Core.Bool.{Bool, true, false, _&&_}
-use mathlib.Core.List.{List, [], _∷_, _++_, append-assoc}
+use mathlib.Core.List.{List, [], _∷_, _++_, append-assoc, append-nil}
 use native.Mathlib.Omega.{arith}
 use lib.Dec.{eqb}
 use lib.ListN.{length, getD, take, drop, length-drop, List·getD-append}
 use lib.Seq.{take-add, getD-take, getD-drop, getD-append-add, length-take-le, ext-getD}
 use borrow.Author.Tests.{eq-eqb, eqb-true}
+use Rattle.chain.specs.Job.{Edition, First, Second}
 use Rattle.fields.specs.Field.{Bytes}
 use Rattle.fields.proofs.Laws.{field-digits, field-held}
-use Rattle.jobs.specs.JobFile.{recordBytes, recordsBytes}
+use Rattle.refusals.specs.Inputs.{headRecords}
+use Rattle.jobs.specs.JobFile.{startupKind, recordBytes, recordsBytes, editionBytes}
 use Rattle.jobs.specs.Parse.{byteAt, kindAt, valueAt, blank}
 use Rattle.jobs.proofs.Records.{length-record, length-records}
 
@@ -113,3 +115,28 @@ module _ (kind : ℕ) where
       record {
         bytes = λ j l. ap (λ (n : ℕ). getD (recordsBytes kind vs ++ rest) n 0) (let e : 8 * (length vs + i) + j ≡ length (recordsBytes kind vs) + (8 * i + j) = omega (arith, length-records kind vs) in e) ∙ getD-append-add (recordsBytes kind vs) rest (8 * i + j) 0 ∙ h .bytes j l;
       }
+
+-- The record in front is a run of its own: of the start-up work, or of nothing.
+unfoldable headValues : Edition → List ℕ
+headValues First = []
+headValues (Second c) = c ∷ []
+
+head-length : (edition : Edition) → length (headValues edition) ≡ headRecords edition
+unfolding headValues headRecords
+head-length First = refl
+head-length (Second c) = refl
+
+head-run : (edition : Edition) → editionBytes edition ≡ recordsBytes startupKind (headValues edition)
+unfolding editionBytes headValues recordsBytes
+head-run First = refl
+head-run (Second c) = sym (append-nil (recordBytes startupKind c))
+
+pub front-record : (c : ℕ) (rest : List ℕ) → Holds (editionBytes (Second c) ++ rest) 0 startupKind c
+unfolding headValues
+front-record c rest =
+    subst (λ (l : List ℕ). Holds (l ++ rest) 0 startupKind c) (sym (head-run (Second c))) (run-record startupKind (c ∷ []) rest 0 (omega arith))
+
+pub after-front : (edition : Edition) (rest : List ℕ) (i k v : ℕ) → Holds rest i k v → Holds (editionBytes edition ++ rest) (headRecords edition + i) k v
+after-front edition rest i k v h =
+    subst (λ (n : ℕ). Holds (editionBytes edition ++ rest) (n + i) k v) (head-length edition)
+    (subst (λ (l : List ℕ). Holds (l ++ rest) (length (headValues edition) + i) k v) (sym (head-run edition)) (after-run startupKind (headValues edition) rest i k v h))

@@ -4,23 +4,23 @@ use Prim.Native.Nat.{ℕ, zero, suc}
 use mathlib.Core.List.{List, [], _∷_, List·Memᴰ}
 use lib.Dec.{T}
 use lib.ListN.{length}
-use Rattle.chain.specs.Job.{Job}
-use Rattle.chain.specs.Refusal.{speedsTest, weightsTest, processorsTest, tasksTest, lengthTest, jobTests, callTests, refusal}
+use Rattle.chain.specs.Job.{Edition, Job}
+use Rattle.chain.specs.Refusal.{startupTest, speedsTest, weightsTest, processorsTest, tasksTest, lengthTest, jobTests, callTests, refusal}
 use Rattle.chain.proofs.Refusals.{numbersIn, numbers-append, given-number}
 use Rattle.refusals.specs.Inputs.{writeInputs}
 use Rattle.refusals.specs.Answers.{writtenSaid}
-use Rattle.jobs.specs.Parse.{recordCount, multipleTest, formTest, orderTest, speedTest, weightTest, recordTests, recordsTests, speedsOf, weightsOf, fileTests}
+use Rattle.jobs.specs.Parse.{recordCount, multipleTest, formTest, orderTest, placeTest, speedTest, weightTest, workTest, recordTests, recordsTests, speedsOf, weightsOf, fileTests}
 use Rattle.jobs.specs.Answers.{readSaid, readTests, readRefusal, readAnswer, writeAnswer}
 use Rattle.jobs.proofs.Calls.{read-number, write-number}
 
--- 2 to 9.
+-- 2 to 9, with 15 beside 4 and 16 beside 6.
 abbrev pub fromTwo : List ℕ
-fromTwo = 2 ∷ 3 ∷ 4 ∷ 5 ∷ 6 ∷ 7 ∷ 8 ∷ 9 ∷ []
+fromTwo = 2 ∷ 3 ∷ 4 ∷ 15 ∷ 5 ∷ 6 ∷ 16 ∷ 7 ∷ 8 ∷ 9 ∷ []
 
 -- The tests of a file have these numbers.
 module _ (file : List ℕ) where
   records-in : (n : ℕ) → T (numbersIn fromTwo (recordsTests file n))
-  unfolding recordsTests recordTests formTest orderTest speedTest weightTest
+  unfolding recordsTests recordTests formTest orderTest placeTest speedTest weightTest workTest
   records-in zero = tt
   records-in (suc n) = numbers-append fromTwo (recordsTests file n) (recordTests file n) (records-in n) tt
 
@@ -30,15 +30,17 @@ module _ (file : List ℕ) where
       numbers-append fromTwo (recordsTests file (recordCount file)) (processorsTest (speedsOf file) ∷ tasksTest (weightsOf file) ∷ [])
       (records-in (recordCount file)) tt
 
--- Reading: 0, or one of 2 to 9.
+-- Reading: 0, or one of those.
 pub read-numbers : (file : List ℕ) (lentSpeeds lentWeights : ℕ)
-    → List·Memᴰ ((readSaid (readAnswer file lentSpeeds lentWeights)) .number) (0 ∷ 2 ∷ 3 ∷ 4 ∷ 5 ∷ 6 ∷ 7 ∷ 8 ∷ 9 ∷ [])
+    → List·Memᴰ ((readSaid (readAnswer file lentSpeeds lentWeights)) .number) (0 ∷ 2 ∷ 3 ∷ 4 ∷ 15 ∷ 5 ∷ 6 ∷ 16 ∷ 7 ∷ 8 ∷ 9 ∷ [])
 unfolding readRefusal readTests lengthTest
 read-numbers file a b =
     given-number fromTwo (readTests file a b) (read-number file a b)
     (numbers-append fromTwo (fileTests file) (lengthTest (length (weightsOf file)) b ∷ lengthTest (length (speedsOf file)) a ∷ []) (file-in file) tt)
 
--- Writing: 0, or one of 5 to 9.
-pub write-numbers : (job : Job) (lent : ℕ) → List·Memᴰ ((writtenSaid (writeAnswer job lent)) .number) (0 ∷ 5 ∷ 6 ∷ 7 ∷ 8 ∷ 9 ∷ [])
-unfolding refusal callTests jobTests speedsTest weightsTest processorsTest tasksTest lengthTest
-write-numbers job lent = given-number (5 ∷ 6 ∷ 7 ∷ 8 ∷ 9 ∷ []) (callTests job (writeInputs job lent)) (write-number job lent) tt
+-- Writing: 0, 16, or one of 5 to 9.
+pub write-numbers : (edition : Edition) (job : Job) (lent : ℕ)
+    → List·Memᴰ ((writtenSaid (writeAnswer edition job lent)) .number) (0 ∷ 16 ∷ 5 ∷ 6 ∷ 7 ∷ 8 ∷ 9 ∷ [])
+unfolding refusal callTests jobTests startupTest speedsTest weightsTest processorsTest tasksTest lengthTest
+write-numbers edition job lent =
+    given-number (16 ∷ 5 ∷ 6 ∷ 7 ∷ 8 ∷ 9 ∷ []) (callTests job (writeInputs edition job lent)) (write-number edition job lent) tt

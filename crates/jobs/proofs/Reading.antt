@@ -2,8 +2,9 @@
 -- Assumes nothing.
 use Prim.Native.Nat.{ℕ, _+_, _%_, _≤_, _<_}
 use mathlib.Core.Path.{_≡_, refl, sym, ap, ap₂, _∙_}
+use mathlib.Core.Bool.{Bool}
 use mathlib.Core.List.{List, [], _∷_, _++_, append-assoc}
-use mathlib.Core.Logic.{_≢_}
+use mathlib.Core.Logic.{_≢_, _⊎_, inl, inr}
 use native.Mathlib.Omega.{arith}
 use native.Mathlib.Decide.{ℕ-discrete}
 use lib.Dec.{leb}
@@ -12,19 +13,22 @@ use borrow.Author.Tests.{le-leb, lt-leb}
 use Rattle.chain.specs.Limits.{maxProcessors, maxTasks}
 use Rattle.chain.specs.Lists.{tabulate}
 use Rattle.chain.specs.Refusal.{Test, test, between, processorsTest, tasksTest, lengthTest, firstRefusal}
+use Rattle.chain.specs.Job.{Edition, editionOf}
+use Rattle.refusals.specs.Inputs.{headRecords}
 use Rattle.refusals.specs.Answers.{lentAfter}
-use Rattle.jobs.specs.Parse.{recordCount, valueAt, multipleTest, recordsTests, speedsOf, weightsOf, fileTests, fileRefusal}
+use Rattle.jobs.specs.Parse.{recordCount, valueAt, multipleTest, recordsTests, secondIn, editionIn, startupIn, speedsOf, weightsOf, fileTests, fileRefusal}
 use Rattle.jobs.specs.Answers.{answerOf, readTests, readRefusal, readAnswer, readSpeeds, readWeights}
 use Rattle.jobs.specs.Inner.{recordsRefusal, Counted, Reads}
 use Rattle.jobs.specs.declared.JobRead.{JobRead}
 use Rattle.chain.proofs.Refusals.{Numbered, numbered-nil, numbered-cons, first-refusal-append, first-refusal-before}
 use Rattle.refusals.proofs.Steps.{fails, passes, passed-all}
 use Rattle.jobs.proofs.AllRecords.{records-numbered, multiple-fails, multiple-passes, answer-refused, answer-read}
-use Rattle.jobs.proofs.Passed.{Placed, placed}
+use Rattle.jobs.proofs.Passed.{NoFront, Front, front, kind-some, Placed, placed}
 use Rattle.refusals.proofs.Lent.{lent-refused, lent-accepted}
+use Rattle.refusals.proofs.Editions.{edition-effective}
 
 module _ (file : List ℕ) where
-  -- The tests 2 to 6.
+  -- The tests of the length and of the records.
   early : List Test
   early = multipleTest file ∷ recordsTests file (recordCount file)
 
@@ -40,7 +44,7 @@ module _ (file : List ℕ) where
   unfolding counts processorsTest tasksTest
   counts-numbered = numbered-cons (omega arith) (numbered-cons (omega arith) numbered-nil)
 
-  -- Counted by 2 to 6, a file has a length that is a multiple of 8, and records that pass.
+  -- Accepted by them, a file has a length that is a multiple of 8, and records that pass.
   pub accepted-multiple : recordsRefusal file ≡ 0 → length file % 8 ≡ 0
   accepted-multiple e =
       elim (ℕ-discrete (length file % 8) 0) [ yes z ↦ z | no z ↦ absurd (let w : ⊥ = omega (arith, multiple-fails file z, e) in w) ]
@@ -48,7 +52,7 @@ module _ (file : List ℕ) where
   pub accepted-records : recordsRefusal file ≡ 0 → firstRefusal (recordsTests file (recordCount file)) ≡ 0
   accepted-records e = sym (multiple-passes file (accepted-multiple e)) ∙ e
 
-  -- Tests that follow 2 to 6, and then 7 and 8.
+  -- Tests that follow those, and then 7 and 8.
   later : List Test → List Test
   later L = early ++ (counts ++ L)
 
@@ -60,7 +64,7 @@ module _ (file : List ℕ) where
   unfolding later early recordsRefusal
   to-counts L e = first-refusal-append early (counts ++ L) early-numbered e
 
-  module _ {p t n : ℕ} (a : Counted file p t) (f : n ≡ firstRefusal (test 7 (between 1 maxProcessors p) ∷ test 8 (leb t maxTasks) ∷ [])) where
+  module _ {second : Bool} {startup p t n : ℕ} (a : Counted file second startup p t) (f : n ≡ firstRefusal (test 7 (between 1 maxProcessors p) ∷ test 8 (leb t maxTasks) ∷ [])) where
     counted : n ≡ firstRefusal counts
     unfolding counts processorsTest tasksTest
     counted = f ∙ ap₂ (λ (p t : ℕ). firstRefusal (test 7 (between 1 maxProcessors p) ∷ test 8 (leb t maxTasks) ∷ [])) (a .speeds) (a .weights)
@@ -71,51 +75,75 @@ module _ (file : List ℕ) where
     to-lent : (L : List Test) → n ≡ 0 → firstRefusal (later L) ≡ firstRefusal L
     to-lent L z = to-counts L (a .records) ∙ first-refusal-append counts L counts-numbered (sym counted ∙ z)
 
-  pub accepted-counts : recordsRefusal file ≡ 0 → Counted file (length (speedsOf file)) (length (weightsOf file))
+  -- Every record in front is one of the file's.
+  pub head-below : length file % 8 ≡ 0 → headRecords (editionIn file) ≤ recordCount file
+  head-below m = go (front file)
+    where
+      go : NoFront file ⊎ Front file → headRecords (editionIn file) ≤ recordCount file
+      go (inl f) = omega (arith, f .head)
+      go (inr f) = omega (arith, f .head, kind-some file (f .kind))
+
+  pub accepted-placed : recordsRefusal file ≡ 0 → Placed file (recordCount file)
+  accepted-placed e = placed file (recordCount file) (head-below (accepted-multiple e)) (accepted-records e)
+
+  pub accepted-counts : recordsRefusal file ≡ 0 → Counted file (secondIn file) (startupIn file) (length (speedsOf file)) (length (weightsOf file))
   unfolding speedsOf weightsOf
   accepted-counts e =
-      record { records = e; speeds = refl; weights = refl; together = (placed file (recordCount file) (accepted-records e)) .together }
+      record { records = e; second-in = refl; startup-in = refl; speeds = refl; weights = refl; together = (accepted-placed e) .together }
 
-  -- What an answer says of the tests 2 to 6.
-  pub read-accepted : {p t : ℕ} {r : JobRead} → r ≡ answerOf (recordsRefusal file) file → r ≡ JobRead.Read p t → Counted file p t
-  read-accepted {p} {t} {r} d e = elim (ℕ-discrete (recordsRefusal file) 0) [ yes z ↦ same z (d ∙ sym (answer-read file z refl refl)) | no z ↦ absurd (other (d ∙ sym (answer-refused file refl z))) ]
+  -- What an answer says of the tests of the length and of the records.
+  pub read-accepted : {second : Bool} {startup p t : ℕ} {r : JobRead} → r ≡ answerOf (recordsRefusal file) file → r ≡ JobRead.Read second startup p t
+      → Counted file second startup p t
+  read-accepted {second} {startup} {p} {t} {r} d e = elim (ℕ-discrete (recordsRefusal file) 0) [ yes z ↦ same z (d ∙ sym (answer-read file z refl refl refl refl)) | no z ↦ absurd (other (d ∙ sym (answer-refused file refl z))) ]
     where
-      same : recordsRefusal file ≡ 0 → r ≡ JobRead.Read (length (speedsOf file)) (length (weightsOf file)) → Counted file p t
+      same : recordsRefusal file ≡ 0 → r ≡ JobRead.Read (secondIn file) (startupIn file) (length (speedsOf file)) (length (weightsOf file))
+          → Counted file second startup p t
       same z f =
+          let a : second ≡ secondIn file = cc in
+          let b : startup ≡ startupIn file = cc in
           let x : p ≡ length (speedsOf file) = cc in
           let y : t ≡ length (weightsOf file) = cc in
-          record { records = z; speeds = x; weights = y; together = omega (arith, (accepted-counts z) .together) }
+          record { records = z; second-in = a; startup-in = b; speeds = x; weights = y; together = omega (arith, x, y, (accepted-counts z) .together) }
 
       other : r ≡ JobRead.Refused (recordsRefusal file) → ⊥
       other f = let w : _≡_ {A = ℕ} 0 1 = cc in omega arith
 
   by-answer : {n : ℕ} {r : JobRead} → r ≡ answerOf (recordsRefusal file) file → r ≡ JobRead.Refused n → (recordsRefusal file ≡ n) × (n ≢ 0)
-  by-answer {n} {r} d e = elim (ℕ-discrete (recordsRefusal file) 0) [ yes z ↦ absurd (other (d ∙ sym (answer-read file z refl refl))) | no z ↦ same z (d ∙ sym (answer-refused file refl z)) ]
+  by-answer {n} {r} d e = elim (ℕ-discrete (recordsRefusal file) 0) [ yes z ↦ absurd (other (d ∙ sym (answer-read file z refl refl refl refl))) | no z ↦ same z (d ∙ sym (answer-refused file refl z)) ]
     where
       same : recordsRefusal file ≢ 0 → r ≡ JobRead.Refused (recordsRefusal file) → (recordsRefusal file ≡ n) × (n ≢ 0)
       same z f = let x : recordsRefusal file ≡ n = cc in (x, λ w. z (x ∙ w))
 
-      other : r ≡ JobRead.Read (length (speedsOf file)) (length (weightsOf file)) → ⊥
+      other : r ≡ JobRead.Read (secondIn file) (startupIn file) (length (speedsOf file)) (length (weightsOf file)) → ⊥
       other f = let w : _≡_ {A = ℕ} 0 1 = cc in omega arith
 
-  -- An accepted file holds the speeds from record 0 on, and the weights from record P on.
-  module _ {p t : ℕ} (a : Counted file p t) where
+  -- An accepted file holds the speeds behind the record in front, and the weights behind them: h records stand in front.
+  module _ {second : Bool} {startup p t : ℕ} (a : Counted file second startup p t) where
     held : Placed file (recordCount file)
-    held = placed file (recordCount file) (accepted-records (a .records))
+    held = accepted-placed (a .records)
 
-    speeds-from : (es : List ℕ) → tabulate (λ j. valueAt file (0 + j)) p ++ drop p es ≡ speedsOf file ++ drop (length (speedsOf file)) es
-    unfolding speedsOf
-    speeds-from es =
-        ap (λ (p : ℕ). tabulate (λ j. valueAt file (0 + j)) p ++ drop p es) (a .speeds)
-        ∙ ap (λ (l : List ℕ). l ++ drop (length (speedsOf file)) es) (held .speeds)
+    -- The edition that was read is the file's.
+    pub counted-edition : editionOf second startup ≡ editionIn file
+    counted-edition = ap₂ editionOf (a .second-in) (a .startup-in) ∙ edition-effective (secondIn file) (valueAt file 0)
 
-    weights-from : (ws : List ℕ) → tabulate (λ j. valueAt file (p + j)) t ++ drop t ws ≡ weightsOf file ++ drop (length (weightsOf file)) ws
-    unfolding speedsOf weightsOf
-    weights-from ws =
-        ap₂ (λ (p t : ℕ). tabulate (λ j. valueAt file (p + j)) t ++ drop t ws) (a .speeds) (a .weights)
-        ∙ ap (λ (l : List ℕ). l ++ drop (length (weightsOf file)) ws) (held .weights)
+    module _ {h : ℕ} (e : h ≡ headRecords (editionOf second startup)) where
+      pub counted-head : h ≡ headRecords (editionIn file)
+      counted-head = e ∙ ap headRecords counted-edition
 
-  -- The file's own tests: 2 to 6 decide where they fail, 7 and 8 otherwise.
+      speeds-from : (es : List ℕ) → tabulate (λ j. valueAt file (h + j)) p ++ drop p es ≡ speedsOf file ++ drop (length (speedsOf file)) es
+      unfolding speedsOf
+      speeds-from es =
+          ap₂ (λ (h p : ℕ). tabulate (λ j. valueAt file (h + j)) p ++ drop p es) counted-head (a .speeds)
+          ∙ ap (λ (l : List ℕ). l ++ drop (length (speedsOf file)) es) (held .speeds)
+
+      weights-from : (ws : List ℕ) → tabulate (λ j. valueAt file (h + p + j)) t ++ drop t ws ≡ weightsOf file ++ drop (length (weightsOf file)) ws
+      unfolding speedsOf weightsOf
+      weights-from ws =
+          ap₂ (λ (h p : ℕ). tabulate (λ j. valueAt file (h + p + j)) t ++ drop t ws) counted-head (a .speeds)
+          ∙ ap (λ (t : ℕ). tabulate (λ j. valueAt file (headRecords (editionIn file) + length (speedsOf file) + j)) t ++ drop t ws) (a .weights)
+          ∙ ap (λ (l : List ℕ). l ++ drop (length (weightsOf file)) ws) (held .weights)
+
+  -- The file's own tests: those of the length and the records decide where they fail, 7 and 8 otherwise.
   file-is : fileRefusal file ≡ firstRefusal (later [])
   unfolding fileRefusal fileTests later early counts
   file-is = refl
@@ -149,7 +177,7 @@ module _ (file : List ℕ) where
           into-weights = sym (ap (λ (k : ℕ). lentAfter k (weightsOf file) ws) e ∙ lent-refused h (weightsOf file) ws);
         }
 
-    -- 2 to 6.
+    -- The length and the records.
     pub read-refused : {n : ℕ} {r : JobRead} → r ≡ answerOf (recordsRefusal file) file → r ≡ JobRead.Refused n
         → (JobRead.Refused n ≡ readAnswer file (length es) (length ws)) × ((es ≡ readSpeeds file es ws) × (ws ≡ readWeights file es ws))
     read-refused {n} d e =
@@ -157,7 +185,7 @@ module _ (file : List ℕ) where
         let w : Reads file es ws (JobRead.Refused n) es ws = refused (read-is (length es) (length ws) ∙ by-early (lent (length es) (length ws)) (λ z. b .1 (sym (b .0) ∙ z)) ∙ b .0) (b .1) in
         (w .answers, (w .into-speeds, w .into-weights))
 
-    module _ {p t n : ℕ} (a : Counted file p t) (f : n ≡ firstRefusal (test 7 (between 1 maxProcessors p) ∷ test 8 (leb t maxTasks) ∷ [])) where
+    module _ {second : Bool} {startup p t n : ℕ} (a : Counted file second startup p t) (f : n ≡ firstRefusal (test 7 (between 1 maxProcessors p) ∷ test 8 (leb t maxTasks) ∷ [])) where
       -- 7 and 8.
       pub read-counts : n ≢ 0 → Reads file es ws (JobRead.Refused n) es ws
       read-counts h = refused (read-is (length es) (length ws) ∙ by-counts a f (lent (length es) (length ws)) h) h
@@ -185,16 +213,16 @@ module _ (file : List ℕ) where
       read-short-speeds z h k =
           refused (fits-weights z h ∙ fails 9 [] (lt-leb (length (speedsOf file)) (length es) (omega (arith, a .speeds)))) (omega arith)
 
-      -- Counted: the values from record 0 on, and those from record P on.
-      pub read-all : n ≡ 0 → t ≤ length ws → p ≤ length es → {es' ws' : List ℕ}
-          → es' ≡ tabulate (λ j. valueAt file (0 + j)) p ++ drop p es → ws' ≡ tabulate (λ j. valueAt file (p + j)) t ++ drop t ws
-          → Reads file es ws (JobRead.Read p t) es' ws'
+      -- Counted: the values behind the record in front, and those behind the speeds.
+      pub read-all : n ≡ 0 → t ≤ length ws → p ≤ length es → {head : ℕ} → head ≡ headRecords (editionOf second startup) → {es' ws' : List ℕ}
+          → es' ≡ tabulate (λ j. valueAt file (head + j)) p ++ drop p es → ws' ≡ tabulate (λ j. valueAt file (head + p + j)) t ++ drop t ws
+          → Reads file es ws (JobRead.Read second startup p t) es' ws'
       unfolding readAnswer readSpeeds readWeights lengthTest
-      read-all z h k {es'} {ws'} x y =
+      read-all z h k e {es'} {ws'} x y =
           record {
-            answers = answer-read file none (a .speeds) (a .weights);
-            into-speeds = x ∙ speeds-from a es ∙ sym (ap (λ (k : ℕ). lentAfter k (speedsOf file) es) none ∙ lent-accepted (speedsOf file) es);
-            into-weights = y ∙ weights-from a ws ∙ sym (ap (λ (k : ℕ). lentAfter k (weightsOf file) ws) none ∙ lent-accepted (weightsOf file) ws);
+            answers = answer-read file none (a .second-in) (a .startup-in) (a .speeds) (a .weights);
+            into-speeds = x ∙ speeds-from a e es ∙ sym (ap (λ (k : ℕ). lentAfter k (speedsOf file) es) none ∙ lent-accepted (speedsOf file) es);
+            into-weights = y ∙ weights-from a e ws ∙ sym (ap (λ (k : ℕ). lentAfter k (weightsOf file) ws) none ∙ lent-accepted (weightsOf file) ws);
           }
         where
           none : readRefusal file (length es) (length ws) ≡ 0

@@ -1,44 +1,69 @@
--- Job files both ways: an accepted file has the bytes of the job that it holds; a valid job's bytes are accepted and hold it; so
--- the accepted files are exactly the job files.
+-- Job files both ways, in each edition: an accepted file has the bytes of the job that it holds; a valid job's bytes are accepted and
+-- hold it; so the accepted files are exactly the job files, and each holds one job of one edition.
 -- Assumes nothing.
 use Prim.Native.Nat.{ℕ, zero, suc, _+_, _*_, _≤_, _<_, _^_}
 use mathlib.Core.Path.{_≡_, refl, sym, ap, ap₂, subst, _∙_}
 use mathlib.Core.Bool.{Bool, true, false, _&&_}
 use mathlib.Core.List.{List, [], _∷_, _++_, append-assoc, append-nil}
-use mathlib.Core.Logic.{inl, inr, _↔_}
+use mathlib.Core.Logic.{_≢_, _⊎_, inl, inr, _↔_}
 use native.Mathlib.Omega.{arith}
 use lib.ListN.{length, getD, take}
 use lib.Seq.{take-suc, take-length, take-all}
 use borrow.Author.Tests.{le-leb}
-use Rattle.chain.specs.Limits.{maxWeight, maxSpeed, maxTasks, maxProcessors}
-use Rattle.chain.specs.Job.{Job, jobOf, speedOf, Valid}
+use Rattle.chain.specs.Limits.{maxWeight, maxStartup, maxSpeed, maxTasks, maxProcessors}
+use Rattle.chain.specs.Job.{Edition, First, Second, startupOf, Job, jobOf, OfEdition, speedOf, Valid}
 use Rattle.chain.specs.Refusal.{between, eachBetween, processorsTest, tasksTest, firstRefusal}
 use Rattle.chain.proofs.Refusals.{job-accepted}
 use Rattle.fields.specs.Field.{Bytes}
-use Rattle.jobs.specs.JobFile.{processorKind, taskKind, recordBytes, recordsBytes, jobBytes, JobFile}
-use Rattle.jobs.specs.Parse.{recordCount, kindAt, valueAt, recordTests, recordsTests, valuesOf, speedsOf, weightsOf, jobIn, fileRefusal}
+use Rattle.refusals.specs.Inputs.{headRecords}
+use Rattle.jobs.specs.JobFile.{processorKind, taskKind, startupKind, recordBytes, recordsBytes, editionBytes, jobBytes, JobFile}
+use Rattle.jobs.specs.Parse.{recordCount, kindAt, valueAt, recordTests, recordsTests, valuesOf, editionIn, startupIn, speedsOf, weightsOf, jobIn, fileRefusal}
 use Rattle.refusals.proofs.Each.{between-in}
 use Rattle.refusals.proofs.Steps.{passes, passed-all}
 use Rattle.refusals.proofs.ByLists.{counts-decide}
 use Rattle.jobs.proofs.Records.{records-snoc}
 use Rattle.jobs.proofs.Writing.{length-bytes}
-use Rattle.jobs.proofs.OneRecord.{processor-passes, task-passes}
+use Rattle.jobs.proofs.OneRecord.{processor-passes, task-passes, startup-passes}
 use Rattle.jobs.proofs.AllRecords.{multiple-passes, records-next, records-fewer, values-more, values-same}
-use Rattle.jobs.proofs.Passed.{OfProcessor, OfTask, passed-blank, passed-record, passed-at}
-use Rattle.jobs.proofs.Reading.{file-early, file-counts, accepted-multiple, accepted-records}
-use Rattle.jobs.proofs.Bytes.{next-record, Holds, holds-kind, holds-blank, holds-value, run-record, after-run}
+use Rattle.jobs.proofs.Passed.{OfProcessor, OfTask, OfStartup, passed-blank, passed-record, NoFront, Front, front, passed-at, record-by-record, front-values}
+use Rattle.jobs.proofs.Reading.{file-early, file-counts, accepted-multiple, accepted-records, head-below}
+use Rattle.jobs.proofs.Bytes.{next-record, Holds, holds-kind, holds-blank, holds-value, run-record, after-run, front-record, after-front}
 
 none : (l : List ℕ) → length l ≡ 0 → l ≡ []
 none [] e = refl
 none (x ∷ l) e = absurd (let z : ⊥ = omega arith in z)
 
--- From the file: its first n records, written out again.
-module _ (file : List ℕ) (b : Bytes file) where
-  written : ℕ → List ℕ
-  written n = recordsBytes processorKind (valuesOf processorKind file n) ++ recordsBytes taskKind (valuesOf taskKind file n)
+-- The job in a file is of the file's edition.
+pub job-edition : (file : List ℕ) → OfEdition (editionIn file) (jobIn file)
+job-edition file = record { counts = refl }
 
-  one-processor : (n : ℕ) → OfProcessor file n → written (suc n) ≡ written n ++ recordBytes (kindAt file n) (valueAt file n)
-  unfolding written recordsBytes
+-- A file is of the first edition exactly when its first record is not of kind 3,
+pub first-exactly : (file : List ℕ) → (editionIn file ≡ First) ↔ (kindAt file 0 ≢ startupKind)
+first-exactly file = (λ e. only e (front file), λ h. then h (front file))
+  where
+    only : editionIn file ≡ First → NoFront file ⊎ Front file → kindAt file 0 ≢ startupKind
+    only e (inl f) = f .kind
+    only e (inr f) = absurd (let z : ⊥ = unfold headRecords in omega (arith, f .head, ap headRecords e) in z)
+
+    then : kindAt file 0 ≢ startupKind → NoFront file ⊎ Front file → editionIn file ≡ First
+    then h (inl f) = f .edition
+    then h (inr f) = absurd (h (f .kind))
+
+-- and a job's bytes in it are the machines' and the tiles' alone.
+pub first-bytes : (job : Job) → jobBytes First job ≡ recordsBytes processorKind (job .speeds) ++ recordsBytes taskKind (job .weights)
+unfolding jobBytes editionBytes
+first-bytes job = refl
+
+-- From the file: its first n records, written out again; those behind the record in front, and all.
+module _ (file : List ℕ) (b : Bytes file) where
+  behind : ℕ → List ℕ
+  behind n = recordsBytes processorKind (valuesOf processorKind file n) ++ recordsBytes taskKind (valuesOf taskKind file n)
+
+  written : ℕ → List ℕ
+  written n = editionBytes (editionIn file) ++ behind n
+
+  one-processor : (n : ℕ) → OfProcessor file n → behind (suc n) ≡ behind n ++ recordBytes (kindAt file n) (valueAt file n)
+  unfolding behind recordsBytes
   one-processor n p =
       ap₂ (λ (es ws : List ℕ). recordsBytes processorKind es ++ recordsBytes taskKind ws) (values-more file processorKind n (p .kind)) (values-same file taskKind n (omega (arith, p .kind)) ∙ empty)
       ∙ append-nil (recordsBytes processorKind (valuesOf processorKind file n ++ valueAt file n ∷ []))
@@ -50,31 +75,52 @@ module _ (file : List ℕ) (b : Bytes file) where
       empty : valuesOf taskKind file n ≡ []
       empty = none (valuesOf taskKind file n) (p .first)
 
-  one-task : (n : ℕ) → OfTask file n → written (suc n) ≡ written n ++ recordBytes (kindAt file n) (valueAt file n)
-  unfolding written
+  one-task : (n : ℕ) → OfTask file n → behind (suc n) ≡ behind n ++ recordBytes (kindAt file n) (valueAt file n)
+  unfolding behind
   one-task n t =
       ap₂ (λ (es ws : List ℕ). recordsBytes processorKind es ++ recordsBytes taskKind ws) (values-same file processorKind n (omega (arith, t .kind))) (values-more file taskKind n (t .kind))
       ∙ ap (λ (l : List ℕ). recordsBytes processorKind (valuesOf processorKind file n) ++ l) (records-snoc taskKind (valuesOf taskKind file n) (valueAt file n))
       ∙ sym (append-assoc (recordsBytes processorKind (valuesOf processorKind file n)) (recordsBytes taskKind (valuesOf taskKind file n)) (recordBytes taskKind (valueAt file n)))
-      ∙ ap (λ (k : ℕ). written n ++ recordBytes k (valueAt file n)) (sym (t .kind))
+      ∙ ap (λ (k : ℕ). behind n ++ recordBytes k (valueAt file n)) (sym (t .kind))
 
-  first-bytes : (n : ℕ) → 8 * n ≤ length file → firstRefusal (recordsTests file n) ≡ 0 → written n ≡ take (8 * n) file
-  unfolding written recordsBytes valuesOf
-  first-bytes zero h e = refl
-  first-bytes (suc n) h e =
-      let r : firstRefusal (recordTests file n) ≡ 0 = passed-at file n e in
-      let more : written (suc n) ≡ written n ++ recordBytes (kindAt file n) (valueAt file n) = elim (passed-record file n r) [ inl p ↦ one-processor n p | inr t ↦ one-task n t ] in
-      more
-      ∙ ap (λ (l : List ℕ). l ++ recordBytes (kindAt file n) (valueAt file n)) (first-bytes n (omega arith) (records-fewer file (suc n) n (omega arith) e))
+  next-written : (n : ℕ) → firstRefusal (recordTests file n) ≡ 0 → 8 * suc n ≤ length file
+      → behind (suc n) ≡ behind n ++ recordBytes (kindAt file n) (valueAt file n) → written n ≡ take (8 * n) file → written (suc n) ≡ take (8 * suc n) file
+  unfolding written
+  next-written n r h more before =
+      ap (λ (l : List ℕ). editionBytes (editionIn file) ++ l) more
+      ∙ sym (append-assoc (editionBytes (editionIn file)) (behind n) (recordBytes (kindAt file n) (valueAt file n)))
+      ∙ ap (λ (l : List ℕ). l ++ recordBytes (kindAt file n) (valueAt file n)) before
       ∙ sym (next-record file n h b (passed-blank file n r))
 
+  front-written : (n : ℕ) → headRecords (editionIn file) ≤ n → 8 * n ≤ length file → firstRefusal (recordsTests file n) ≡ 0
+      → written (headRecords (editionIn file)) ≡ take (8 * headRecords (editionIn file)) file
+  unfolding written behind recordsBytes
+  front-written n l h e =
+      ap₂ (λ (es ws : List ℕ). editionBytes (editionIn file) ++ (recordsBytes processorKind es ++ recordsBytes taskKind ws)) (front-values file processorKind (λ z. omega arith)) (front-values file taskKind (λ z. omega arith))
+      ∙ append-nil (editionBytes (editionIn file)) ∙ go (front file)
+    where
+      go : NoFront file ⊎ Front file → editionBytes (editionIn file) ≡ take (8 * headRecords (editionIn file)) file
+      go (inl f) =
+          unfold editionBytes in ap editionBytes (f .edition) ∙ sym (ap (λ (k : ℕ). take (8 * k) file) (f .head))
+      go (inr f) =
+          unfold editionBytes in
+          ap editionBytes (f .edition) ∙ ap (λ (k : ℕ). recordBytes k (valueAt file 0)) (sym (f .kind))
+          ∙ sym (ap (λ (k : ℕ). take (8 * k) file) (f .head)
+          ∙ next-record file 0 (omega (arith, f .head)) b (passed-blank file 0 (passed-at file 0 (records-fewer file n 1 (omega (arith, f .head)) e))))
+
+  all-written : (n : ℕ) → headRecords (editionIn file) ≤ n → 8 * n ≤ length file → firstRefusal (recordsTests file n) ≡ 0 → written n ≡ take (8 * n) file
+  all-written n l h e =
+      record-by-record file (λ k. 8 * k ≤ length file → written k ≡ take (8 * k) file) (λ m. front-written n l h e)
+      (λ k m r p before q. next-written k r q (one-processor k p) (before (omega arith)))
+      (λ k m r t before q. next-written k r q (one-task k t) (before (omega arith))) n l e h
+
   -- An accepted file, written out from what was read, has the same bytes.
-  pub written-back : fileRefusal file ≡ 0 → jobBytes (jobIn file) ≡ file
-  unfolding jobBytes speedsOf weightsOf written
+  pub written-back : fileRefusal file ≡ 0 → jobBytes (editionIn file) (jobIn file) ≡ file
+  unfolding jobBytes speedsOf weightsOf written behind
   written-back e =
       let r = file-early file e in
       let m = accepted-multiple file r in
-      first-bytes (recordCount file) (omega arith) (accepted-records file r) ∙ take-all (8 * recordCount file) file (omega arith)
+      all-written (recordCount file) (head-below file m) (omega arith) (accepted-records file r) ∙ take-all (8 * recordCount file) file (omega arith)
 
 -- Every value that is read is in range.
 module _ (file : List ℕ) where
@@ -92,29 +138,55 @@ module _ (file : List ℕ) where
     pub speeds : eachBetween 1 maxSpeed (valuesOf processorKind file n) ≡ true
     pub weights : eachBetween 0 maxWeight (valuesOf taskKind file n) ≡ true
 
-  in-range : (n : ℕ) → firstRefusal (recordsTests file n) ≡ 0 → InRange n
-  unfolding valuesOf eachBetween
-  in-range zero e = record { speeds = refl; weights = refl }
-  in-range (suc n) e =
-      let q : InRange n = in-range n (records-fewer file (suc n) n (omega arith) e) in
-      elim (passed-record file n (passed-at file n e)) [
-        | inl p ↦ record {
-          speeds = ap (eachBetween 1 maxSpeed) (values-more file processorKind n (p .kind)) ∙ each-snoc 1 maxSpeed (valuesOf processorKind file n) (valueAt file n) (q .speeds) (p .positive) (p .limit);
-          weights = ap (eachBetween 0 maxWeight) (values-same file taskKind n (omega (arith, p .kind))) ∙ q .weights;
-        }
-        | inr t ↦ record {
-          speeds = ap (eachBetween 1 maxSpeed) (values-same file processorKind n (omega (arith, t .kind))) ∙ q .speeds;
-          weights = ap (eachBetween 0 maxWeight) (values-more file taskKind n (t .kind)) ∙ each-snoc 0 maxWeight (valuesOf taskKind file n) (valueAt file n) (q .weights) (omega arith) (t .limit);
-        }
-      ]
+  in-range : (n : ℕ) → headRecords (editionIn file) ≤ n → firstRefusal (recordsTests file n) ≡ 0 → InRange n
+  in-range n h e = record-by-record file InRange none-yet (λ k l r p q. one-speed k p q) (λ k l r t q. one-weight k t q) n h e
+    where
+      none-yet : InRange (headRecords (editionIn file))
+      none-yet =
+          unfold eachBetween in
+          record {
+            speeds = ap (eachBetween 1 maxSpeed) (front-values file processorKind (λ z. omega arith));
+            weights = ap (eachBetween 0 maxWeight) (front-values file taskKind (λ z. omega arith));
+          }
+
+      one-speed : (n : ℕ) → OfProcessor file n → InRange n → InRange (suc n)
+      one-speed n p q =
+          record {
+            speeds = ap (eachBetween 1 maxSpeed) (values-more file processorKind n (p .kind)) ∙ each-snoc 1 maxSpeed (valuesOf processorKind file n) (valueAt file n) (q .speeds) (p .positive) (p .limit);
+            weights = ap (eachBetween 0 maxWeight) (values-same file taskKind n (omega (arith, p .kind))) ∙ q .weights;
+          }
+
+      one-weight : (n : ℕ) → OfTask file n → InRange n → InRange (suc n)
+      one-weight n t q =
+          record {
+            speeds = ap (eachBetween 1 maxSpeed) (values-same file processorKind n (omega (arith, t .kind))) ∙ q .speeds;
+            weights = ap (eachBetween 0 maxWeight) (values-more file taskKind n (t .kind)) ∙ each-snoc 0 maxWeight (valuesOf taskKind file n) (valueAt file n) (q .weights) (omega arith) (t .limit);
+          }
+
+  -- And so is the start-up work.
+  startup-in-range : (n : ℕ) → headRecords (editionIn file) ≤ n → firstRefusal (recordsTests file n) ≡ 0 → startupIn file ≤ maxStartup
+  unfolding startupOf
+  startup-in-range n h e = go (front file)
+    where
+      first : kindAt file 0 ≡ startupKind → OfProcessor file 0 ⊎ (OfTask file 0 ⊎ OfStartup file 0) → valueAt file 0 ≤ maxStartup
+      first k (inl p) = absurd (let z : ⊥ = omega (arith, p .kind) in z)
+      first k (inr (inl t)) = absurd (let z : ⊥ = omega (arith, t .kind) in z)
+      first k (inr (inr s)) = s .limit
+
+      go : NoFront file ⊎ Front file → startupIn file ≤ maxStartup
+      go (inl f) = omega (arith, ap startupOf (f .edition))
+      go (inr f) =
+          omega (arith, ap startupOf (f .edition), first (f .kind) (passed-record file 0 (passed-at file 0 (records-fewer file n 1 (omega (arith, f .head)) e))))
 
   -- An accepted file holds a valid job.
   pub accepted-valid : fileRefusal file ≡ 0 → Valid (jobIn file)
   unfolding speedsOf weightsOf processorsTest tasksTest
   accepted-valid e =
       let r = file-early file e in
-      let q = in-range (recordCount file) (accepted-records file r) in
-      job-accepted .0 (sym (counts-decide (weightsOf file) (speedsOf file) refl (sym (q .speeds)) refl refl (sym (q .weights)) refl (sym e ∙ file-counts file r)))
+      let h = head-below file (accepted-multiple file r) in
+      let q = in-range (recordCount file) h (accepted-records file r) in
+      let c = startup-in-range (recordCount file) h (accepted-records file r) in
+      job-accepted .0 (sym (counts-decide (weightsOf file) (speedsOf file) refl c refl (sym (q .speeds)) refl refl (sym (q .weights)) refl (sym e ∙ file-counts file r)))
 
 -- From the job: the first n records of its file hold these speeds and weights, and pass.
 pub record Back (file : List ℕ) (n : ℕ) (es ws : List ℕ) : Type 0 where
@@ -139,67 +211,133 @@ module _ {file : List ℕ} {n v : ℕ} {es ws : List ℕ} (q : Back file n es ws
         passed = records-next file n (q .passed) ∙ sym (task-passes file n (sym (holds-kind h)) (sym (holds-value h small)) (sym (holds-blank h)) refl refl refl k);
       }
 
+  pub back-startup : Holds file n startupKind v → n ≡ 0 → v ≤ maxStartup → Back file (suc n) es ws
+  back-startup h z k =
+      record {
+        speeds = values-same file processorKind n (omega (arith, holds-kind h)) ∙ q .speeds;
+        weights = values-same file taskKind n (omega (arith, holds-kind h)) ∙ q .weights;
+        passed = records-next file n (q .passed) ∙ sym (startup-passes file n (sym (holds-kind h)) (sym (holds-value h small)) (sym (holds-blank h)) refl refl (omega arith) refl k);
+      }
+
 -- Within a list the default is never read.
 same-default : (l : List ℕ) (i a b : ℕ) → i < length l → getD l i a ≡ getD l i b
 same-default [] i a b h = absurd (let z : ⊥ = omega arith in z)
 same-default (x ∷ l) zero a b h = refl
 same-default (x ∷ l) (suc i) a b h = same-default l i a b (omega arith)
 
-module _ (job : Job) (ok : Valid job) where
+-- What the records of a job's file hold.
+module _ (edition : Edition) (job : Job) where
+  speed-holds : (i : ℕ) → i < length (job .speeds) → Holds (jobBytes edition job) (headRecords edition + i) processorKind (getD (job .speeds) i 0)
+  unfolding jobBytes
+  speed-holds i h =
+      after-front edition (recordsBytes processorKind (job .speeds) ++ recordsBytes taskKind (job .weights)) i processorKind (getD (job .speeds) i 0)
+      (run-record processorKind (job .speeds) (recordsBytes taskKind (job .weights)) i h)
+
+  weight-holds : (i : ℕ) → i < length (job .weights)
+      → Holds (jobBytes edition job) (headRecords edition + (length (job .speeds) + i)) taskKind (getD (job .weights) i 0)
+  unfolding jobBytes
+  weight-holds i h =
+      after-front edition (recordsBytes processorKind (job .speeds) ++ recordsBytes taskKind (job .weights)) (length (job .speeds) + i) taskKind (getD (job .weights) i 0)
+      (after-run processorKind (job .speeds) (recordsBytes taskKind (job .weights)) i taskKind (getD (job .weights) i 0)
+      (subst (λ (l : List ℕ). Holds l i taskKind (getD (job .weights) i 0)) (append-nil (recordsBytes taskKind (job .weights))) (run-record taskKind (job .weights) [] i h)))
+
+startup-holds : (c : ℕ) (job : Job) → Holds (jobBytes (Second c) job) 0 startupKind c
+unfolding jobBytes
+startup-holds c job = front-record c (recordsBytes processorKind (job .speeds) ++ recordsBytes taskKind (job .weights))
+
+work-limit : (c : ℕ) (job : Job) → OfEdition (Second c) job → Valid job → c ≤ maxStartup
+unfolding startupOf
+work-limit c job of ok = omega (arith, of .counts, ok .startup-limit)
+
+small-work : (c : ℕ) (job : Job) → OfEdition (Second c) job → Valid job → c < 2 ^ 32
+unfolding maxStartup
+small-work c job of ok = omega (arith, work-limit c job of ok)
+
+-- A job of an edition, written and read back, is of that edition.
+pub edition-back : (edition : Edition) (job : Job) → OfEdition edition job → Valid job → editionIn (jobBytes edition job) ≡ edition
+edition-back First job of ok = go (front (jobBytes First job))
+  where
+    go : NoFront (jobBytes First job) ⊎ Front (jobBytes First job) → editionIn (jobBytes First job) ≡ First
+    go (inl f) = f .edition
+    go (inr f) =
+        absurd (let z : ⊥ = unfold headRecords in omega (arith, f .kind, holds-kind (speed-holds First job 0 (ok .some-processor))) in z)
+edition-back (Second c) job of ok = go (front (jobBytes (Second c) job))
+  where
+    go : NoFront (jobBytes (Second c) job) ⊎ Front (jobBytes (Second c) job) → editionIn (jobBytes (Second c) job) ≡ Second c
+    go (inl f) = absurd (f .kind (holds-kind (startup-holds c job)))
+    go (inr f) = f .edition ∙ ap Second (holds-value (startup-holds c job) (small-work c job of ok))
+
+back-none : (file : List ℕ) → Back file 0 [] []
+unfolding valuesOf recordsTests firstRefusal
+back-none file = record { speeds = refl; weights = refl; passed = refl }
+
+back-front : (edition : Edition) (job : Job) → OfEdition edition job → Valid job → Back (jobBytes edition job) (headRecords edition) [] []
+unfolding headRecords
+back-front First job of ok = back-none (jobBytes First job)
+back-front (Second c) job of ok =
+    back-startup (back-none (jobBytes (Second c) job)) (small-work c job of ok) (startup-holds c job) refl (work-limit c job of ok)
+
+module _ (edition : Edition) (job : Job) (of : OfEdition edition job) (ok : Valid job) where
+  abbrev file : List ℕ
+  file = jobBytes edition job
+
+  abbrev head : ℕ
+  head = headRecords edition
+
   abbrev es : List ℕ
   es = job .speeds
 
   abbrev ws : List ℕ
   ws = job .weights
 
-  speed-holds : (i : ℕ) → i < length es → Holds (jobBytes job) i processorKind (getD es i 0)
-  unfolding jobBytes
-  speed-holds i h = run-record processorKind es (recordsBytes taskKind ws) i h
-
-  weight-holds : (i : ℕ) → i < length ws → Holds (jobBytes job) (length es + i) taskKind (getD ws i 0)
-  unfolding jobBytes
-  weight-holds i h =
-      after-run processorKind es (recordsBytes taskKind ws) i taskKind (getD ws i 0)
-      (subst (λ (l : List ℕ). Holds l i taskKind (getD ws i 0)) (append-nil (recordsBytes taskKind ws)) (run-record taskKind ws [] i h))
-
-  back-processors : (n : ℕ) → n ≤ length es → Back (jobBytes job) n (take n es) []
-  unfolding valuesOf recordsTests firstRefusal speedOf maxSpeed
-  back-processors zero h = record { speeds = refl; weights = refl; passed = refl }
+  back-processors : (n : ℕ) → n ≤ length es → Back file (head + n) (take n es) []
+  unfolding speedOf maxSpeed
+  back-processors zero h =
+      subst (λ (n : ℕ). Back file n [] []) (let e : head ≡ head + 0 = omega arith in e) (back-front edition job of ok)
   back-processors (suc n) h =
       let same : getD es n 0 ≡ getD es n 1 = same-default es n 0 1 h in
-      subst (λ (l : List ℕ). Back (jobBytes job) (suc n) l []) (sym (take-suc es n 0 h))
-      (back-processor (back-processors n (omega arith)) (omega (arith, same, ok .speeds-limit n)) (speed-holds n h) refl
-      (omega (arith, same, ok .speeds-positive n)) (omega (arith, same, ok .speeds-limit n)))
+      subst (λ (k : ℕ). Back file k (take (suc n) es) []) (let e : suc (head + n) ≡ head + suc n = omega arith in e)
+      (subst (λ (l : List ℕ). Back file (suc (head + n)) l []) (sym (take-suc es n 0 h))
+      (back-processor (back-processors n (omega arith)) (omega (arith, same, ok .speeds-limit n)) (speed-holds edition job n h) refl
+      (omega (arith, same, ok .speeds-positive n)) (omega (arith, same, ok .speeds-limit n))))
 
-  back-tasks : (m : ℕ) → m ≤ length ws → Back (jobBytes job) (length es + m) es (take m ws)
+  back-tasks : (m : ℕ) → m ≤ length ws → Back file (head + (length es + m)) es (take m ws)
   unfolding maxWeight
   back-tasks zero h =
-      subst (λ (n : ℕ). Back (jobBytes job) n es []) (let e : length es ≡ length es + 0 = omega arith in e)
-      (subst (λ (l : List ℕ). Back (jobBytes job) (length es) l []) (take-length es) (back-processors (length es) (omega arith)))
+      subst (λ (n : ℕ). Back file n es []) (let e : head + length es ≡ head + (length es + 0) = omega arith in e)
+      (subst (λ (l : List ℕ). Back file (head + length es) l []) (take-length es) (back-processors (length es) (omega arith)))
   back-tasks (suc m) h =
-      subst (λ (n : ℕ). Back (jobBytes job) n es (take (suc m) ws)) (let e : suc (length es + m) ≡ length es + suc m = omega arith in e)
-      (subst (λ (l : List ℕ). Back (jobBytes job) (suc (length es + m)) es l) (sym (take-suc ws m 0 h))
-      (back-task (back-tasks m (omega arith)) (omega (arith, ok .weights-limit m)) (weight-holds m h) (ok .weights-limit m)))
+      subst (λ (n : ℕ). Back file n es (take (suc m) ws)) (let e : suc (head + (length es + m)) ≡ head + (length es + suc m) = omega arith in e)
+      (subst (λ (l : List ℕ). Back file (suc (head + (length es + m))) es l) (sym (take-suc ws m 0 h))
+      (back-task (back-tasks m (omega arith)) (omega (arith, ok .weights-limit m)) (weight-holds edition job m h) (ok .weights-limit m)))
 
-  back : Back (jobBytes job) (recordCount (jobBytes job)) es ws
+  back : Back file (recordCount file) es ws
   back =
-      subst (λ (n : ℕ). Back (jobBytes job) n es ws) (let e : length es + length ws ≡ recordCount (jobBytes job) = omega (arith, length-bytes job) in e)
-      (subst (λ (l : List ℕ). Back (jobBytes job) (length es + length ws) es l) (take-length ws) (back-tasks (length ws) (omega arith)))
+      subst (λ (n : ℕ). Back file n es ws) (let e : head + (length es + length ws) ≡ recordCount file = omega (arith, length-bytes edition job) in e)
+      (subst (λ (l : List ℕ). Back file (head + (length es + length ws)) es l) (take-length ws) (back-tasks (length ws) (omega arith)))
 
-  -- A valid job, written and read back, gives the same lists.
-  pub speeds-back : speedsOf (jobBytes job) ≡ job .speeds
+  -- A valid job of an edition, written and read back, gives the same lists and the same start-up work,
+  pub speeds-back : speedsOf (jobBytes edition job) ≡ job .speeds
   unfolding speedsOf
   speeds-back = back .speeds
 
-  pub weights-back : weightsOf (jobBytes job) ≡ job .weights
+  pub weights-back : weightsOf (jobBytes edition job) ≡ job .weights
   unfolding weightsOf
   weights-back = back .weights
 
-  -- And its bytes are accepted.
-  pub bytes-accepted : fileRefusal (jobBytes job) ≡ 0
+  pub startup-back : startupIn (jobBytes edition job) ≡ job .startup
+  startup-back = ap startupOf (edition-back edition job of ok) ∙ sym (of .counts)
+
+  -- so the same job;
+  pub job-back : jobIn (jobBytes edition job) ≡ job
+  job-back =
+      ap₂ (jobOf (startupIn (jobBytes edition job))) speeds-back weights-back ∙ ap (λ (c : ℕ). jobOf c (job .speeds) (job .weights)) startup-back
+
+  -- and its bytes are accepted.
+  pub bytes-accepted : fileRefusal (jobBytes edition job) ≡ 0
   unfolding processorsTest tasksTest
   bytes-accepted =
-      file-counts (jobBytes job) (multiple-passes (jobBytes job) (omega (arith, length-bytes job)) ∙ back .passed)
+      file-counts file (multiple-passes file (omega (arith, length-bytes edition job)) ∙ back .passed)
       ∙ ap₂ (λ (es ws : List ℕ). firstRefusal (processorsTest es ∷ tasksTest ws ∷ [])) speeds-back weights-back
       ∙ passes 7 (tasksTest ws ∷ []) (between-in 1 maxProcessors (length es) (ok .some-processor) (ok .processors-limit))
       ∙ passes 8 [] (le-leb (length ws) maxTasks (ok .tasks-limit)) ∙ passed-all
@@ -207,11 +345,27 @@ module _ (job : Job) (ok : Valid job) where
 -- Reading accepts exactly the job files.
 pub accepted-exactly : (file : List ℕ) → Bytes file → (fileRefusal file ≡ 0) ↔ JobFile file
 accepted-exactly file b = (
-  λ e. record { job = jobIn file; valid = accepted-valid file e; bytes = sym (written-back file b e) },
-  λ f. ap fileRefusal (f .bytes) ∙ bytes-accepted (f .job) (f .valid),
+  λ e. record {
+    edition = editionIn file;
+    job = jobIn file;
+    of = job-edition file;
+    valid = accepted-valid file e;
+    bytes = sym (written-back file b e);
+  },
+  λ f. ap fileRefusal (f .bytes) ∙ bytes-accepted (f .edition) (f .job) (f .of) (f .valid),
 )
 
--- A job file holds one job.
-pub one-job : (file : List ℕ) (f : JobFile file) → f .job ≡ jobIn file
-one-job file f =
-    sym (ap₂ jobOf (ap speedsOf (f .bytes) ∙ speeds-back (f .job) (f .valid)) (ap weightsOf (f .bytes) ∙ weights-back (f .job) (f .valid)))
+-- A job file holds one job, of one edition:
+pub one-job : (file : List ℕ) (f : JobFile file) → (f .edition ≡ editionIn file) × (f .job ≡ jobIn file)
+one-job file f = (
+  sym (ap editionIn (f .bytes) ∙ edition-back (f .edition) (f .job) (f .of) (f .valid)),
+  sym (ap jobIn (f .bytes) ∙ job-back (f .edition) (f .job) (f .of) (f .valid)),
+)
+
+-- two jobs with the same bytes are the same job, of the same edition.
+pub same-bytes : {d e : Edition} {job other : Job} → OfEdition d job → Valid job → OfEdition e other → Valid other → jobBytes d job ≡ jobBytes e other
+    → (d ≡ e) × (job ≡ other)
+same-bytes {d} {e} {job} {other} of ok of′ ok′ same = (
+  sym (edition-back d job of ok) ∙ ap editionIn same ∙ edition-back e other of′ ok′,
+  sym (job-back d job of ok) ∙ ap jobIn same ∙ job-back e other of′ ok′,
+)

@@ -10,21 +10,24 @@ use lib.ListN.{length, take, drop, length-append}
 use lib.Seq.{take-at}
 use borrow.Author.Tests.{le-leb}
 use Rattle.chain.specs.Limits.{maxProcessors, maxTasks}
-use Rattle.chain.specs.Job.{jobOf, Valid}
+use Rattle.chain.specs.Job.{editionOf, jobOf, Valid}
 use Rattle.chain.specs.Refusal.{Test, lengthTest, firstRefusal}
 use Rattle.chain.proofs.Refusals.{first-refusal-append, first-refusal-before}
 use Rattle.refusals.specs.Answers.{lentAfter}
 use Rattle.refusals.proofs.Lent.{lent-accepted}
-use Rattle.jobs.specs.Parse.{speedsOf, weightsOf, jobIn, fileTests, fileRefusal}
+use Rattle.refusals.proofs.Editions.{edition-effective}
+use Rattle.jobs.specs.Parse.{valueAt, secondIn, editionIn, startupIn, speedsOf, weightsOf, jobIn, fileTests, fileRefusal}
 use Rattle.jobs.specs.Answers.{readSaid, answerOf, readTests, readRefusal, readAnswer, readSpeeds, readWeights}
 use Rattle.jobs.specs.declared.JobRead.{JobRead}
 use Rattle.jobs.proofs.AllRecords.{answer-read}
 use Rattle.jobs.proofs.Calls.{file-numbered, read-number}
 use Rattle.jobs.proofs.RoundTrip.{accepted-valid}
 
--- What reading leaves: an accepted file's lists in front.
-pub record Taken (file es ws : List ℕ) (p n : ℕ) : Type 0 where
+-- What reading leaves: an accepted file's lists in front, beside its edition and the start-up work that counts.
+pub record Taken (file es ws : List ℕ) (second : Bool) (startup p n : ℕ) : Type 0 where
   pub accepted : fileRefusal file ≡ 0
+  pub edition : editionOf second startup ≡ editionIn file
+  pub counts : startup ≡ startupIn file
   pub speeds : take p es ≡ speedsOf file
   pub weights : take n ws ≡ weightsOf file
   pub few-speeds : p ≤ length es
@@ -45,32 +48,40 @@ module _ (file es ws : List ℕ) where
       go zero x = x
       go (suc k) x = sym (first-refusal-before (fileTests file) rest (λ z. let y : ⊥ = omega (arith, sym x ∙ z) in y)) ∙ e
 
-  pub read-taken : {es′ ws′ : List ℕ} {p n : ℕ} {r : JobRead} → r ≡ readAnswer file (length es) (length ws) → r ≡ JobRead.Read p n
-      → es′ ≡ readSpeeds file es ws → ws′ ≡ readWeights file es ws → Taken file es′ ws′ p n
+  pub read-taken : {es′ ws′ : List ℕ} {second : Bool} {startup p n : ℕ} {r : JobRead} → r ≡ readAnswer file (length es) (length ws)
+      → r ≡ JobRead.Read second startup p n → es′ ≡ readSpeeds file es ws → ws′ ≡ readWeights file es ws → Taken file es′ ws′ second startup p n
   unfolding number readAnswer readSpeeds readWeights
-  read-taken {es′} {ws′} {p} {n} {r} a e f g =
+  read-taken {es′} {ws′} {second} {startup} {p} {n} {r} a e f g =
       record {
         accepted = file-accepted none;
+        edition = ap₂ editionOf is-second is-startup ∙ edition-effective (secondIn file) (valueAt file 0);
+        counts = is-startup;
         speeds = ap (take p) in-es ∙ take-at (speedsOf file) (drop (length (speedsOf file)) es) p (sym is-p);
         weights = ap (take n) in-ws ∙ take-at (weightsOf file) (drop (length (weightsOf file)) ws) n (sym is-n);
         few-speeds = omega (arith, is-p, ap length in-es, length-append (speedsOf file) (drop (length (speedsOf file)) es));
         few-weights = omega (arith, is-n, ap length in-ws, length-append (weightsOf file) (drop (length (weightsOf file)) ws));
       }
     where
-      read : readAnswer file (length es) (length ws) ≡ JobRead.Read p n
+      read : readAnswer file (length es) (length ws) ≡ JobRead.Read second startup p n
       read = sym a ∙ e
 
       none : number ≡ 0
       none = sym (read-number file (length es) (length ws)) ∙ ap (λ (x : JobRead). (readSaid x) .number) read
 
-      counts : JobRead.Read p n ≡ JobRead.Read (length (speedsOf file)) (length (weightsOf file))
-      counts = sym (answer-read file none refl refl ∙ read)
+      says : JobRead.Read second startup p n ≡ JobRead.Read (secondIn file) (startupIn file) (length (speedsOf file)) (length (weightsOf file))
+      says = sym (answer-read file none refl refl refl refl ∙ read)
+
+      is-second : second ≡ secondIn file
+      is-second = cc says
+
+      is-startup : startup ≡ startupIn file
+      is-startup = cc says
 
       is-p : p ≡ length (speedsOf file)
-      is-p = cc counts
+      is-p = cc says
 
       is-n : n ≡ length (weightsOf file)
-      is-n = cc counts
+      is-n = cc says
 
       in-es : es′ ≡ speedsOf file ++ drop (length (speedsOf file)) es
       in-es = f ∙ ap (λ (k : ℕ). lentAfter k (speedsOf file) es) none ∙ lent-accepted (speedsOf file) es
@@ -112,9 +123,9 @@ module _ (file es ws : List ℕ) where
               (λ z. let w : ⊥ = omega (arith, sym f ∙ z) in w)
 
 -- The job that was read is the file's.
-module _ {file es ws : List ℕ} {p n : ℕ} (w : Taken file es ws p n) where
-  pub taken-job : jobOf (take p es) (take n ws) ≡ jobIn file
-  taken-job = ap₂ jobOf (w .speeds) (w .weights)
+module _ {file es ws : List ℕ} {second : Bool} {startup p n : ℕ} (w : Taken file es ws second startup p n) where
+  pub taken-job : jobOf startup (take p es) (take n ws) ≡ jobIn file
+  taken-job = ap₂ (jobOf startup) (w .speeds) (w .weights) ∙ ap (λ (c : ℕ). jobOf c (speedsOf file) (weightsOf file)) (w .counts)
 
-  pub taken-valid : Valid (jobOf (take p es) (take n ws))
+  pub taken-valid : Valid (jobOf startup (take p es) (take n ws))
   taken-valid = subst Valid (sym taken-job) (accepted-valid file (w .accepted))

@@ -1,75 +1,116 @@
 -- What writing a job file answers and leaves, by its tests.
 -- Assumes nothing.
 use Prim.Native.Nat.{ℕ, _+_, _*_}
-use mathlib.Core.Path.{_≡_, ap, _∙_}
-use mathlib.Core.List.{List, _++_}
+use mathlib.Core.Path.{_≡_, refl, sym, ap, subst, _∙_}
+use mathlib.Core.Bool.{Bool, true, false}
+use mathlib.Core.List.{List, _++_, append-assoc}
 use mathlib.Core.Logic.{_≢_}
 use native.Mathlib.Omega.{arith}
 use lib.ListN.{length, take, drop, length-append}
-use lib.Seq.{take-at, drop-drop, drop-append-add}
-use Rattle.chain.specs.Job.{Job, jobOf, tasks, processors}
+use Rattle.chain.specs.Job.{Edition, First, Second, editionOf, effective, Job, jobOf, tasks, processors}
 use Rattle.chain.specs.Refusal.{refusal}
-use Rattle.refusals.specs.Inputs.{bytesNeeded, writeInputs}
+use Rattle.fields.proofs.Stores.{put-next}
+use Rattle.refusals.specs.Inputs.{headRecords, bytesNeeded, writeInputs}
 use Rattle.refusals.specs.declared.Written.{Written}
 use Rattle.refusals.proofs.Answering.{wrote-refused, wrote-all}
-use Rattle.jobs.specs.JobFile.{processorKind, taskKind, recordsBytes, jobBytes}
+use Rattle.refusals.proofs.Editions.{edition-effective}
+use Rattle.jobs.specs.JobFile.{processorKind, taskKind, startupKind, recordBytes, recordsBytes, editionBytes, jobBytes}
 use Rattle.jobs.specs.Answers.{writeAnswer, writeBytes}
-use Rattle.jobs.proofs.Records.{length-records}
+use Rattle.jobs.proofs.Records.{length-record, length-records}
 
--- The bytes of a job.
-pub length-bytes : (job : Job) → length (jobBytes job) ≡ bytesNeeded job
+-- The bytes of the record in front, and those of a job.
+pub length-edition : (edition : Edition) → length (editionBytes edition) ≡ 8 * headRecords edition
+unfolding editionBytes headRecords
+length-edition First = refl
+length-edition (Second c) = length-record startupKind c
+
+pub length-bytes : (edition : Edition) (job : Job) → length (jobBytes edition job) ≡ bytesNeeded edition job
 unfolding jobBytes
-length-bytes job =
-    length-append (recordsBytes processorKind (job .speeds)) (recordsBytes taskKind (job .weights))
-    ∙ omega (arith, length-records processorKind (job .speeds), length-records taskKind (job .weights))
+length-bytes edition job =
+    length-append (editionBytes edition) (recordsBytes processorKind (job .speeds) ++ recordsBytes taskKind (job .weights))
+    ∙ omega (arith, length-edition edition, length-append (recordsBytes processorKind (job .speeds)) (recordsBytes taskKind (job .weights)), length-records processorKind (job .speeds), length-records taskKind (job .weights))
 
--- What the buffer holds after both kinds.
-bytes-put : (ws es file : List ℕ)
-    → (let one : List ℕ = take (8 * 0) file ++ recordsBytes 1 es ++ drop (8 * (0 + length es)) file in
-    take (8 * length es) one ++ recordsBytes 2 ws ++ drop (8 * (length es + length ws)) one)
-    ≡ jobBytes (jobOf es ws) ++ drop (length (jobBytes (jobOf es ws))) file
-unfolding jobBytes
-bytes-put ws es file =
-    ap (λ (l : List ℕ). l ++ R₂ ++ drop (8 * (length es + length ws)) (R₁ ++ rest)) (take-at R₁ rest (8 * length es) (length-records 1 es))
-    ∙ ap (λ (l : List ℕ). R₁ ++ R₂ ++ l)
-    (ap (λ (n : ℕ). drop n (R₁ ++ rest)) (let e : 8 * (length es + length ws) ≡ length R₁ + 8 * length ws = omega (arith, length-records 1 es) in e)
-    ∙ drop-append-add R₁ rest (8 * length ws) ∙ drop-drop (8 * length ws) (8 * (0 + length es)) file
-    ∙ ap (λ (n : ℕ). drop n file) (let e : 8 * (0 + length es) + 8 * length ws ≡ length (R₁ ++ R₂) = omega (arith, length-append R₁ R₂, length-records 1 es, length-records 2 ws) in e))
-  where
-    R₁ : List ℕ
-    R₁ = recordsBytes 1 es
+-- The record in front is put, or none is.
+pub head-put : {b : Bool} (c : ℕ) (file : List ℕ) {now : List ℕ} → b ≡ true → now ≡ take (8 * 0) file ++ recordBytes 3 c ++ drop (8 * 0 + 8) file
+    → now ≡ editionBytes (editionOf b c) ++ drop (8 * headRecords (editionOf b c)) file
+unfolding editionOf editionBytes headRecords
+head-put c file e f = f ∙ sym (ap (λ (b : Bool). editionBytes (editionOf b c) ++ drop (8 * headRecords (editionOf b c)) file) e)
 
-    R₂ : List ℕ
-    R₂ = recordsBytes 2 ws
+pub head-none : {b : Bool} (c : ℕ) (file : List ℕ) → b ≡ false → file ≡ editionBytes (editionOf b c) ++ drop (8 * headRecords (editionOf b c)) file
+unfolding editionOf editionBytes headRecords
+head-none c file e = sym (ap (λ (b : Bool). editionBytes (editionOf b c) ++ drop (8 * headRecords (editionOf b c)) file) e)
 
-    rest : List ℕ
-    rest = drop (8 * (0 + length es)) file
+-- Records of a kind are put behind the n records A.
+put-run : (kind : ℕ) (vs A file : List ℕ) (n : ℕ) → length A ≡ 8 * n
+    → take (8 * n) (A ++ drop (8 * n) file) ++ recordsBytes kind vs ++ drop (8 * (n + length vs)) (A ++ drop (8 * n) file)
+    ≡ A ++ recordsBytes kind vs ++ drop (8 * (n + length vs)) file
+put-run kind vs A file n e =
+    let more : 8 * (n + length vs) ≡ 8 * n + 8 * length vs = omega arith in
+    ap (λ (m : ℕ). take (8 * n) (A ++ drop (8 * n) file) ++ recordsBytes kind vs ++ drop m (A ++ drop (8 * n) file)) more
+    ∙ put-next file A (recordsBytes kind vs) (8 * n) (8 * length vs) e ∙ ap (λ (m : ℕ). A ++ recordsBytes kind vs ++ drop m file) (sym more)
 
--- What `write_job` answers and leaves at each of its ends.
-module _ (job : Job) (file : List ℕ) where
+-- What `write_counted` answers and leaves at each of its ends.
+module _ (edition : Edition) (job : Job) (file : List ℕ) where
   abbrev pub Writes : Written → List ℕ → Type 0
-  Writes r now = (r ≡ writeAnswer job (length file)) × (now ≡ writeBytes job file)
+  Writes r now = (r ≡ writeAnswer edition job (length file)) × (now ≡ writeBytes edition job file)
 
   abbrev number : ℕ
-  number = refusal job (writeInputs job (length file))
+  number = refusal job (writeInputs edition job (length file))
 
   pub write-refused : {n : ℕ} → n ≡ number → n ≢ 0 → Writes (Written.Refused n) file
   unfolding writeAnswer writeBytes
-  write-refused e h = wrote-refused (bytesNeeded job) (jobBytes job) file e h
+  write-refused e h = wrote-refused (bytesNeeded edition job) (jobBytes edition job) file e h
 
-  pub write-all : {now : List ℕ} → number ≡ 0 → now ≡ jobBytes job ++ drop (length (jobBytes job)) file → Writes (Written.Bytes (bytesNeeded job)) now
+  pub write-all : {now : List ℕ} → number ≡ 0 → now ≡ jobBytes edition job ++ drop (length (jobBytes edition job)) file
+      → Writes (Written.Bytes (bytesNeeded edition job)) now
   unfolding writeAnswer writeBytes
   write-all z e =
-      wrote-all (bytesNeeded job) (jobBytes job) file z (length-bytes job)
-      (e ∙ ap (λ (n : ℕ). jobBytes job ++ drop n file) (length-bytes job))
+      wrote-all (bytesNeeded edition job) (jobBytes edition job) file z (length-bytes edition job)
+      (e ∙ ap (λ (n : ℕ). jobBytes edition job ++ drop n file) (length-bytes edition job))
 
-  -- Processors from record 0 on, then tasks from record P on.
-  pub write-both : number ≡ 0 → {one two : List ℕ}
-      → one ≡ take (8 * 0) file ++ recordsBytes 1 (job .speeds) ++ drop (8 * (0 + processors job)) file
-      → two ≡ take (8 * processors job) one ++ recordsBytes 2 (job .weights) ++ drop (8 * (processors job + tasks job)) one
-      → Writes (Written.Bytes (bytesNeeded job)) two
-  write-both z x y =
-      write-all z
-      (y
-      ∙ ap (λ (l : List ℕ). take (8 * processors job) l ++ recordsBytes 2 (job .weights) ++ drop (8 * (processors job + tasks job)) l) x
-      ∙ bytes-put (job .weights) (job .speeds) file)
+  -- What the buffer holds after the record in front, h of them, then processors, then tasks.
+  module _ {h : ℕ} (head : h ≡ headRecords edition) {zero one two : List ℕ} (x : zero ≡ editionBytes edition ++ drop (8 * headRecords edition) file)
+      (y : one ≡ take (8 * h) zero ++ recordsBytes 1 (job .speeds) ++ drop (8 * (h + processors job)) zero)
+      (z : two ≡ take (8 * (h + processors job)) one ++ recordsBytes 2 (job .weights) ++ drop (8 * (h + processors job + tasks job)) one) where
+    H : List ℕ
+    H = editionBytes edition
+
+    R₁ : List ℕ
+    R₁ = recordsBytes 1 (job .speeds)
+
+    R₂ : List ℕ
+    R₂ = recordsBytes 2 (job .weights)
+
+    long : length (H ++ R₁) ≡ 8 * (h + processors job)
+    unfolding H R₁
+    long = length-append H R₁ ∙ omega (arith, head, length-edition edition, length-records 1 (job .speeds))
+
+    put-one : one ≡ H ++ R₁ ++ drop (8 * (h + processors job)) file
+    unfolding H R₁
+    put-one =
+        y
+        ∙ ap (λ (l : List ℕ). take (8 * h) l ++ R₁ ++ drop (8 * (h + processors job)) l)
+        (x ∙ ap (λ (n : ℕ). H ++ drop (8 * n) file) (sym head))
+        ∙ put-run 1 (job .speeds) H file h (omega (arith, head, length-edition edition))
+
+    put-two : two ≡ jobBytes edition job ++ drop (length (jobBytes edition job)) file
+    unfolding H R₁ R₂ jobBytes
+    put-two =
+        z
+        ∙ ap (λ (l : List ℕ). take (8 * (h + processors job)) l ++ R₂ ++ drop (8 * (h + processors job + tasks job)) l) put-one
+        ∙ put-run 2 (job .weights) (H ++ R₁) file (h + processors job) long
+        ∙ ap (λ (l : List ℕ). l ++ drop (8 * (h + processors job + tasks job)) file) (append-assoc H R₁ R₂)
+        ∙ ap (λ (n : ℕ). jobBytes edition job ++ drop n file)
+        (let e : 8 * (h + processors job + tasks job) ≡ length (jobBytes edition job) = omega (arith, head, length-bytes edition job) in e)
+
+    pub write-both : number ≡ 0 → Writes (Written.Bytes (8 * (h + (tasks job + processors job)))) two
+    write-both none =
+        let w : Writes (Written.Bytes (bytesNeeded edition job)) two = write-all none put-two in
+        (ap (λ (n : ℕ). Written.Bytes (8 * (n + (tasks job + processors job)))) head ∙ w .0, w .1)
+
+-- What is written with the start-up work that counts is what `write_job` answers and leaves.
+pub write-effective : (b : Bool) (c : ℕ) (es ws file : List ℕ) {r : Written} {now : List ℕ} {u : ℕ} → u ≡ effective b c
+    → Writes (editionOf b u) (jobOf u es ws) file r now → Writes (editionOf b c) (jobOf (effective b c) es ws) file r now
+write-effective b c es ws file {r} {now} e w =
+    subst (λ (d : Edition). Writes d (jobOf (effective b c) es ws) file r now) (edition-effective b c)
+    (subst (λ (u : ℕ). Writes (editionOf b u) (jobOf u es ws) file r now) e w)

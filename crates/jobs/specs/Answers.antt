@@ -4,24 +4,26 @@ use mathlib.Core.Bool.{cond}
 use mathlib.Core.List.{List, [], _∷_, _++_}
 use lib.ListN.{length}
 use lib.Dec.{eqb}
-use Rattle.chain.specs.Job.{Job}
+use Rattle.chain.specs.Job.{Edition, Job}
 use Rattle.chain.specs.Refusal.{Test, lengthTest, firstRefusal, refusal}
 use Rattle.refusals.specs.Inputs.{bytesNeeded, writeInputs}
 use Rattle.refusals.specs.Answers.{Said, accepting, alone, writtenOf, lentAfter}
 use Rattle.refusals.specs.declared.Written.{Written}
 use Rattle.jobs.specs.JobFile.{jobBytes}
-use Rattle.jobs.specs.Parse.{speedsOf, weightsOf, fileTests}
+use Rattle.jobs.specs.Parse.{secondIn, startupIn, speedsOf, weightsOf, fileTests}
 use Rattle.jobs.specs.declared.JobRead.{JobRead}
 
--- Reading says P and N.
+-- Reading says the edition, 1 or 2, the start-up work that counts, P and N.
 abbrev pub readSaid : JobRead → Said
-readSaid (JobRead.Read processors tasks) = accepting (processors ∷ tasks ∷ [])
+readSaid (JobRead.Read second startup processors tasks) = accepting (cond second 2 1 ∷ startup ∷ processors ∷ tasks ∷ [])
 readSaid (JobRead.Refused number) = alone number
 
--- The answer of a call that reads the file, by the number that it is refused with: P and N, or that number.
+-- The answer of a call that reads the file, by the number that it is refused with: whether it is of the second edition,
+-- the start-up work that counts, P and N, or that number.
 unfoldable pub answerOf : ℕ → List ℕ → JobRead
 answerOf number file =
-    cond (eqb number 0) (JobRead.Read (length (speedsOf file)) (length (weightsOf file))) (JobRead.Refused number)
+    cond (eqb number 0) (JobRead.Read (secondIn file) (startupIn file) (length (speedsOf file)) (length (weightsOf file)))
+    (JobRead.Refused number)
 
 -- Reading. Scope 8.7: "on reading, P speeds and N weights". The lists of speeds and weights that are lent have these lengths.
 unfoldable pub readTests : List ℕ → ℕ → ℕ → List Test
@@ -43,9 +45,9 @@ unfoldable pub readWeights : List ℕ → List ℕ → List ℕ → List ℕ
 readWeights file speeds weights = lentAfter (readRefusal file (length speeds) (length weights)) (weightsOf file) weights
 
 -- Writing: the count of bytes, or the number of the refusal.
-unfoldable pub writeAnswer : Job → ℕ → Written
-writeAnswer job lent = writtenOf (refusal job (writeInputs job lent)) (bytesNeeded job)
+unfoldable pub writeAnswer : Edition → Job → ℕ → Written
+writeAnswer edition job lent = writtenOf (refusal job (writeInputs edition job lent)) (bytesNeeded edition job)
 
 -- The buffer after writing.
-unfoldable pub writeBytes : Job → List ℕ → List ℕ
-writeBytes job file = lentAfter (refusal job (writeInputs job (length file))) (jobBytes job) file
+unfoldable pub writeBytes : Edition → Job → List ℕ → List ℕ
+writeBytes edition job file = lentAfter (refusal job (writeInputs edition job (length file))) (jobBytes edition job) file

@@ -1,24 +1,28 @@
 -- For the contracts of the functions inside, which nobody else calls.
 use Prim.Native.Nat.{ℕ, _+_}
 use mathlib.Core.Path.{_≡_}
+use mathlib.Core.Bool.{Bool}
 use mathlib.Core.List.{List, _∷_}
 use lib.ListN.{length}
 use Rattle.chain.specs.Job.{tasks, processors}
 use Rattle.chain.specs.Refusal.{firstRefusal}
-use Rattle.jobs.specs.Parse.{recordCount, multipleTest, recordsTests, jobIn}
+use Rattle.refusals.specs.Inputs.{headRecords}
+use Rattle.jobs.specs.Parse.{recordCount, multipleTest, recordsTests, secondIn, editionIn, startupIn, jobIn}
 use Rattle.jobs.specs.Answers.{readAnswer, readSpeeds, readWeights}
 use Rattle.jobs.specs.declared.JobRead.{JobRead}
 
--- The tests 2 to 6 of a file.
+-- The tests of a file's length and of its records.
 unfoldable pub recordsRefusal : List ℕ → ℕ
 recordsRefusal file = firstRefusal (multipleTest file ∷ recordsTests file (recordCount file))
 
--- They pass, and these are the counts of the job in the file.
-pub record Counted (file : List ℕ) (P N : ℕ) : Type 0 where
+-- They pass, and these are the edition, the start-up work and the counts of the job in the file.
+pub record Counted (file : List ℕ) (second : Bool) (startup P N : ℕ) : Type 0 where
   pub records : recordsRefusal file ≡ 0
+  pub second-in : second ≡ secondIn file
+  pub startup-in : startup ≡ startupIn file
   pub speeds : P ≡ processors (jobIn file)
   pub weights : N ≡ tasks (jobIn file)
-  pub together : P + N ≡ recordCount file
+  pub together : headRecords (editionIn file) + (P + N) ≡ recordCount file
 
 -- What `read_job` ensures, of its part that goes on where the first tests pass.
 pub record Reads (file speeds weights : List ℕ) (answer : JobRead) (speeds' weights' : List ℕ) : Type 0 where

@@ -5,12 +5,12 @@ use mathlib.Core.Bool.{Bool, false, not, cond, _&&_, _||_}
 use mathlib.Core.List.{List, [], _∷_, _++_}
 use lib.ListN.{length, getD}
 use lib.Dec.{eqb}
-use Rattle.chain.specs.Limits.{maxWeight, maxSpeed}
-use Rattle.chain.specs.Job.{Job, jobOf}
+use Rattle.chain.specs.Limits.{maxWeight, maxStartup, maxSpeed}
+use Rattle.chain.specs.Job.{Edition, startupOf, editionOf, Job, jobOf}
 use Rattle.chain.specs.Refusal.{Test, test, between, processorsTest, tasksTest, firstRefusal}
 use Rattle.fields.specs.Field.{fieldAt}
 use Rattle.refusals.specs.Inputs.{recordSize}
-use Rattle.jobs.specs.JobFile.{processorKind, taskKind}
+use Rattle.jobs.specs.JobFile.{processorKind, taskKind, startupKind}
 
 -- Scope 7.2: "8-byte records with no header": how many.
 abbrev pub recordCount : List ℕ → ℕ
@@ -48,13 +48,17 @@ multipleTest file = test 2 (eqb (length file % recordSize) 0)
 unfoldable pub blank : List ℕ → ℕ → Bool
 blank file i = eqb (byteAt file i 1) 0 && eqb (byteAt file i 2) 0 && eqb (byteAt file i 3) 0
 
--- Refusal 3: "a record's kind is not 1 or 2, or its bytes 1 to 3 are not zero"
+-- Refusal 3: "a record's kind is not 1, 2 or 3, or its bytes 1 to 3 are not zero"
 unfoldable pub formTest : List ℕ → ℕ → Test
-formTest file i = test 3 ((isKind processorKind file i || isKind taskKind file i) && blank file i)
+formTest file i = test 3 ((isKind processorKind file i || isKind taskKind file i || isKind startupKind file i) && blank file i)
 
 -- Refusal 4: "a machine stands behind a tile"
 unfoldable pub orderTest : List ℕ → ℕ → Test
 orderTest file i = test 4 (not (isKind processorKind file i && taskBefore file i))
+
+-- Refusal 15: "a record of kind 3 stands behind the first record"
+unfoldable pub placeTest : List ℕ → ℕ → Test
+placeTest file i = test 15 (not (isKind startupKind file i) || eqb i 0)
 
 -- Refusal 5: "a speed is out of range"
 unfoldable pub speedTest : List ℕ → ℕ → Test
@@ -64,11 +68,16 @@ speedTest file i = test 5 (not (isKind processorKind file i) || between 1 maxSpe
 unfoldable pub weightTest : List ℕ → ℕ → Test
 weightTest file i = test 6 (not (isKind taskKind file i) || between 0 maxWeight (valueAt file i))
 
--- Scope 8.3: "within a record in the order of the numbers"
-unfoldable pub recordTests : List ℕ → ℕ → List Test
-recordTests file i = formTest file i ∷ orderTest file i ∷ speedTest file i ∷ weightTest file i ∷ []
+-- Refusal 16: "the start-up work is out of range"
+unfoldable pub workTest : List ℕ → ℕ → Test
+workTest file i = test 16 (not (isKind startupKind file i) || between 0 maxStartup (valueAt file i))
 
--- Scope 8.3: "the tests 3 to 6 go record by record from the front": the first n records.
+-- Scope 8.3: "within a record in the order of the numbers". Scope 17.11: "15 is tested beside 4, 16 beside 6."
+unfoldable pub recordTests : List ℕ → ℕ → List Test
+recordTests file i =
+    formTest file i ∷ orderTest file i ∷ placeTest file i ∷ speedTest file i ∷ weightTest file i ∷ workTest file i ∷ []
+
+-- Scope 8.3: "the tests 3 to 6 go record by record from the front", 15 and 16 among them: the first n records.
 unfoldable pub recordsTests : List ℕ → ℕ → List Test
 recordsTests file zero = []
 recordsTests file (suc n) = recordsTests file n ++ recordTests file n
@@ -78,6 +87,17 @@ unfoldable pub valuesOf : ℕ → List ℕ → ℕ → List ℕ
 valuesOf kind file zero = []
 valuesOf kind file (suc n) = valuesOf kind file n ++ cond (isKind kind file n) (valueAt file n ∷ []) []
 
+-- Scope 17.10: "A job whose first record has kind 3 is of the second edition."
+unfoldable pub secondIn : List ℕ → Bool
+secondIn file = isKind startupKind file 0
+
+-- The edition of a file, and the start-up work that counts.
+abbrev pub editionIn : List ℕ → Edition
+editionIn file = editionOf (secondIn file) (valueAt file 0)
+
+abbrev pub startupIn : List ℕ → ℕ
+startupIn file = startupOf (editionIn file)
+
 -- The job that a file holds.
 unfoldable pub speedsOf : List ℕ → List ℕ
 speedsOf file = valuesOf processorKind file (recordCount file)
@@ -86,9 +106,9 @@ unfoldable pub weightsOf : List ℕ → List ℕ
 weightsOf file = valuesOf taskKind file (recordCount file)
 
 abbrev pub jobIn : List ℕ → Job
-jobIn file = jobOf (speedsOf file) (weightsOf file)
+jobIn file = jobOf (startupIn file) (speedsOf file) (weightsOf file)
 
--- The tests of a file, in order: 2; 3 to 6, record by record; 7; 8.
+-- The tests of a file, in order: 2; 3, 4, 15, 5, 6 and 16, record by record; 7; 8.
 unfoldable pub fileTests : List ℕ → List Test
 fileTests file =
     multipleTest file

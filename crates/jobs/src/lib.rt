@@ -1,22 +1,26 @@
 // Job files: reading and writing.
-ghost use Prim.Native.Nat.{_+_, _*_, _<_, _≤_};
+ghost use Prim.Native.Nat.{_+_, _*_, _%_, _<_, _≤_};
 ghost use mathlib.Core.Path.{_≡_};
 ghost use mathlib.Core.List.{_++_};
 ghost use lib.ListN.{length, take, drop};
-ghost use Rattle.chain.specs.Job.{jobOf};
+ghost use Rattle.chain.specs.Job.{startupOf, editionOf, jobOf};
 ghost use Rattle.chain.specs.Refusal.{firstRefusal};
 ghost use Rattle.chain.specs.Lists.{tabulate};
-ghost use Rattle.refusals.specs.Inputs.{recordSize};
-ghost use Rattle.jobs.specs.JobFile.{taskKind, recordBytes, recordsBytes};
-ghost use Rattle.jobs.specs.Parse.{recordCount, byteAt, kindAt, valueAt, blank, recordTests, valuesOf};
+ghost use Rattle.refusals.specs.Inputs.{recordSize, headRecords};
+ghost use Rattle.jobs.specs.JobFile.{taskKind, recordBytes, recordsBytes, editionBytes};
+ghost use Rattle.jobs.specs.Parse.{recordCount, byteAt, kindAt, valueAt, blank, recordTests, valuesOf, secondIn, startupIn};
 ghost use Rattle.jobs.specs.Answers.{answerOf, readAnswer, readSpeeds, readWeights, writeAnswer, writeBytes};
 ghost use Rattle.jobs.specs.Inner.{recordsRefusal, Counted, Reads};
+ghost use Rattle.jobs.specs.declared.JobRead as read;
 use fields::get_field;
 use fields::put_field;
 use refusals::MAX_SPEED;
+use refusals::MAX_STARTUP;
 use refusals::MAX_WEIGHT;
 use refusals::RECORD;
 use refusals::Written;
+use refusals::effective;
+use refusals::head_records;
 use refusals::test_counts;
 use refusals::test_write_job;
 
@@ -27,9 +31,17 @@ const PROCESSOR_KIND: u8 = 1;
 
 const TASK_KIND: u8 = 2;
 
-// What reading a job file answers: the counts of processors and tasks, or the refusal's number.
+const STARTUP_KIND: u8 = 3;
+
+// What reading a job file answers: whether it is of the second edition, the start-up work that counts, and the counts of processors
+// and tasks; or the refusal's number.
 pub enum JobRead {
-    Read { processors: usize, tasks: usize },
+    Read {
+        second: bool,
+        startup: u32,
+        processors: usize,
+        tasks: usize,
+    },
     Refused(u32),
 }
 
@@ -63,22 +75,62 @@ fn put_records(kind: u8, values: &[u32], from: usize, file: &mut [u8])
     }
 }
 
-// Writes a job file: the count of its bytes, or the refusal: 5, 6, 7, 8 or 9, in this order. Later bytes stay.
-pub fn write_job(speeds: &[u32], weights: &[u32], file: &mut [u8]) -> Written
-    ensures answer { λ r.
-        let job = jobOf (now (speeds .entry)) (now (weights .entry)) in
-        ⌜ r ≡ writeAnswer job (length (now (file .entry))) ⌝ }
-    ensures bytes { λ _.
-        let job = jobOf (now (speeds .entry)) (now (weights .entry)) in
-        ⌜ now (file .exit) ≡ writeBytes job (now (file .entry)) ⌝ }
+// Inner. The record in front of the machines, in the second edition.
+fn put_head(second: bool, startup: u32, file: &mut [u8])
+    requires { ⌜ recordSize * headRecords (editionOf second startup) ≤ length (now file) ⌝ }
+    ensures { λ _.
+        let edition = editionOf second startup in
+        ⌜ now (file .exit) ≡ editionBytes edition ++ drop (recordSize * headRecords edition) (now (file .entry)) ⌝ }
 {
-    let number = test_write_job(speeds, weights, file.len());
+    if second {
+        put_record(STARTUP_KIND, startup, 0, file);
+    }
+}
+
+// Inner. Writes a job file, with the start-up work that counts.
+fn write_counted(
+    second: bool,
+    startup: u32,
+    speeds: &[u32],
+    weights: &[u32],
+    file: &mut [u8],
+) -> Written
+    ensures answer { λ r.
+        let job = jobOf startup (now (speeds .entry)) (now (weights .entry)) in
+        ⌜ r ≡ writeAnswer (editionOf second startup) job (length (now (file .entry))) ⌝ }
+    ensures bytes { λ _.
+        let job = jobOf startup (now (speeds .entry)) (now (weights .entry)) in
+        ⌜ now (file .exit) ≡ writeBytes (editionOf second startup) job (now (file .entry)) ⌝ }
+{
+    let number = test_write_job(second, startup, speeds, weights, file.len());
     if number != 0 {
         return Written::Refused(number);
     }
-    put_records(PROCESSOR_KIND, speeds, 0, file);
-    put_records(TASK_KIND, weights, speeds.len(), file);
-    Written::Bytes(RECORD * (weights.len() + speeds.len()))
+    let head = head_records(second, startup);
+    put_head(second, startup, file);
+    put_records(PROCESSOR_KIND, speeds, head, file);
+    put_records(TASK_KIND, weights, head + speeds.len(), file);
+    Written::Bytes(RECORD * (head + (weights.len() + speeds.len())))
+}
+
+// Writes a job file of its edition: the count of its bytes, or the refusal: 16, 5, 6, 7, 8 or 9, in this order. Later bytes stay.
+pub fn write_job(
+    second: bool,
+    startup: u32,
+    speeds: &[u32],
+    weights: &[u32],
+    file: &mut [u8],
+) -> Written
+    ensures answer { λ r.
+        let edition = editionOf second startup in
+        let job = jobOf (startupOf edition) (now (speeds .entry)) (now (weights .entry)) in
+        ⌜ r ≡ writeAnswer edition job (length (now (file .entry))) ⌝ }
+    ensures bytes { λ _.
+        let edition = editionOf second startup in
+        let job = jobOf (startupOf edition) (now (speeds .entry)) (now (weights .entry)) in
+        ⌜ now (file .exit) ≡ writeBytes edition job (now (file .entry)) ⌝ }
+{
+    write_counted(second, effective(second, startup), speeds, weights, file)
 }
 
 // Inner. Byte k of record i.
@@ -119,7 +171,7 @@ fn blank_at(file: &[u8], i: usize) -> bool
     byte_at(file, i, 3) == 0
 }
 
-// Inner. The tests of record i: 0, 3, 4, 5 or 6. `tasks` counts the tasks before it.
+// Inner. The tests of record i: 0, 3, 4, 15, 5, 6 or 16. `tasks` counts the tasks before it.
 fn test_record(file: &[u8], i: usize, tasks: usize) -> u32
     requires { ⌜ (i < recordCount (now file)) × (tasks ≡ length (valuesOf taskKind (now file) i)) ⌝ }
     ensures { λ r. ⌜ r ≡ firstRefusal (recordTests (now (file .entry)) i) ⌝ }
@@ -147,10 +199,40 @@ fn test_record(file: &[u8], i: usize, tasks: usize) -> u32
         }
         return 0;
     }
+    if kind == STARTUP_KIND {
+        if 0 < i {
+            return 15;
+        }
+        if MAX_STARTUP < value {
+            return 16;
+        }
+        return 0;
+    }
     3
 }
 
-// Inner. The tests of the file's length and of its records: their counts, or the refusal: 2 to 6.
+// Inner. The answer with these counts, of a file of whole records: its edition, and the start-up work that counts.
+fn read_as(file: &[u8], processors: usize, tasks: usize) -> JobRead
+    requires { ⌜ length (now file) % recordSize ≡ 0 ⌝ }
+    ensures { λ r. ⌜ r ≡ read.JobRead.Read (secondIn (now (file .entry))) (startupIn (now (file .entry))) processors tasks ⌝ }
+{
+    let mut second = false;
+    let mut startup = 0;
+    if 0 < file.len() {
+        if kind_at(file, 0) == STARTUP_KIND {
+            second = true;
+            startup = value_at(file, 0);
+        }
+    }
+    JobRead::Read {
+        second,
+        startup,
+        processors,
+        tasks,
+    }
+}
+
+// Inner. The tests of the file's length and of its records: the answer with their counts, or the refusal: 2; 3, 4, 15, 5, 6 and 16.
 fn test_records(file: &[u8]) -> JobRead
     ensures { λ r. ⌜ r ≡ answerOf (recordsRefusal (now (file .entry))) (now (file .entry)) ⌝ }
 {
@@ -166,14 +248,15 @@ fn test_records(file: &[u8]) -> JobRead
         if found != 0 {
             return JobRead::Refused(found);
         }
-        if kind_at(file, i) == PROCESSOR_KIND {
+        let kind = kind_at(file, i);
+        if kind == PROCESSOR_KIND {
             processors += 1;
-        } else {
+        } else if kind == TASK_KIND {
             tasks += 1;
         }
         i += 1;
     }
-    JobRead::Read { processors, tasks }
+    read_as(file, processors, tasks)
 }
 
 // Inner. The values of `count` records from record `from` on, into the first entries of a list.
@@ -188,15 +271,17 @@ fn copy_values(file: &[u8], from: usize, count: usize, out: &mut [u32])
     }
 }
 
-// Inner. The rest of reading, where the file's length and records are accepted: 7, 8 or 9. The counts are the file's.
+// Inner. The rest of reading, where the file's length and records are accepted: 7, 8 or 9. Edition and counts are the file's.
 fn read_tested(
     file: &[u8],
+    second: bool,
+    startup: u32,
     processors: usize,
     tasks: usize,
     speeds: &mut [u32],
     weights: &mut [u32],
 ) -> JobRead
-    requires { ⌜ Counted (now file) processors tasks ⌝ }
+    requires { ⌜ Counted (now file) second startup processors tasks ⌝ }
     ensures { λ r. ⌜ Reads (now (file .entry)) (now (speeds .entry)) (now (weights .entry)) r (now (speeds .exit)) (now (weights .exit)) ⌝ }
 {
     let found = test_counts(processors, tasks);
@@ -209,13 +294,19 @@ fn read_tested(
     if speeds.len() < processors {
         return JobRead::Refused(9);
     }
-    copy_values(file, 0, processors, speeds);
-    copy_values(file, processors, tasks, weights);
-    JobRead::Read { processors, tasks }
+    let head = head_records(second, startup);
+    copy_values(file, head, processors, speeds);
+    copy_values(file, head + processors, tasks, weights);
+    JobRead::Read {
+        second,
+        startup,
+        processors,
+        tasks,
+    }
 }
 
-// Reads a job file: the counts of processors and tasks, or the refusal: 2; 3 to 6, record by record; 7, 8 or 9. Later entries
-// stay.
+// Reads a job file: its edition, the start-up work that counts and the counts of processors and tasks, or the refusal: 2; 3, 4, 15, 5, 6
+// and 16, record by record; 7, 8 or 9. Later entries stay.
 pub fn read_job(file: &[u8], speeds: &mut [u32], weights: &mut [u32]) -> JobRead
     ensures answer { λ r. ⌜ r ≡ readAnswer (now (file .entry)) (length (now (speeds .entry))) (length (now (weights .entry))) ⌝ }
     ensures speeds { λ _. ⌜ now (speeds .exit) ≡ readSpeeds (now (file .entry)) (now (speeds .entry)) (now (weights .entry)) ⌝ }
@@ -224,8 +315,11 @@ pub fn read_job(file: &[u8], speeds: &mut [u32], weights: &mut [u32]) -> JobRead
     let records = test_records(file);
     match records {
         JobRead::Refused(number) => JobRead::Refused(number),
-        JobRead::Read { processors, tasks } => {
-            read_tested(file, processors, tasks, speeds, weights)
-        }
+        JobRead::Read {
+            second,
+            startup,
+            processors,
+            tasks,
+        } => { read_tested(file, second, startup, processors, tasks, speeds, weights) }
     }
 }

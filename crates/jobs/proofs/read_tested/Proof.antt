@@ -1,7 +1,7 @@
 -- `read_tested` meets its contract: 7 and 8, then 9 of each list, then the values of both kinds.
 -- Assumes nothing.
 use native.Mathlib.Omega.{arith}
-use Rattle.jobs.proofs.Reading.{read-laws}
+use Rattle.jobs.proofs.Reading.{counted-head, read-laws}
 use borrow.Author.Needs.{needs}
 use Rattle.jobs.proofs.read_tested.Statement.{statement}
 use Rattle.jobs.proofs.read_tested.Tie as tie
@@ -18,11 +18,22 @@ returns-2 c = search read-laws
 returns-3 : tie.Need-returns-3
 returns-3 c = search read-laws
 
+head-records-requires : tie.Need-head-records-requires
+head-records-requires c κs = search needs
+
 copy-values-requires : tie.Need-copy-values-requires
-copy-values-requires c κs = omega arith
+copy-values-requires c κs =
+    let s = c .before .before .before .before .before .before .before .before .before in
+    omega (arith, counted-head (s .args .file .now) (s .pre) (c .before .head-records .ensures .0))
+
+add-copy-values : tie.Need-add-copy-values
+add-copy-values c = search needs
 
 copy-values-requires-2 : tie.Need-copy-values-requires-2
-copy-values-requires-2 c κs = omega arith
+copy-values-requires-2 c κs =
+    let h = c .before .before .before .before .before in
+    let s = h .before .before .before .before .before .before .before .before in
+    omega (arith, counted-head (s .args .file .now) (s .pre) (h .head-records .ensures .0))
 
 same-length : tie.Need-same-length
 same-length c = search needs
@@ -41,7 +52,9 @@ read-tested-spec =
     returns
     returns-2
     returns-3
+    head-records-requires
     copy-values-requires
+    add-copy-values
     copy-values-requires-2
     same-length
     same-length-2

@@ -3,7 +3,7 @@
 use Prim.Native.Nat.{_-_}
 use mathlib.Core.Logic.{⊎-elim}
 use native.Mathlib.Omega.{arith}
-use Rattle.jobs.proofs.AllRecords.{Tested, tested-none, tested-processor, tested-task, multiple-fails, answer-refused, tested-refused, tested-all}
+use Rattle.jobs.proofs.AllRecords.{Tested, tested-none, tested-processor, tested-task, tested-neither, multiple-fails, answer-refused, tested-refused, tested-all}
 use Rattle.jobs.proofs.test_records.Statement.{statement}
 use Rattle.jobs.proofs.test_records.Tie as tie
 
@@ -49,13 +49,21 @@ loop-again c =
     let l = c .before .before .before .before .before in
     let more = c .before .before .before .before .loop-test .taken in
     let found = c .before .before .before .test-record .ensures in
+    let passed = c .before .before .if2 .left in
+    let kind = c .before .kind-at .ensures in
     ⊎-elim
-    (λ w. tested-processor (l .loop .inv) more found (c .before .before .if2 .left) (c .before .kind-at .ensures) (w .0 .taken) (w .1) (w .2))
-    (λ w. tested-task (l .loop .inv) more found (c .before .before .if2 .left) (c .before .kind-at .ensures) (w .0 .left) (w .1) (w .2))
+    (λ w. tested-processor (l .loop .inv) more found passed kind (w .0 .taken) (w .1) (w .2))
+    (⊎-elim
+    (λ w. tested-task (l .loop .inv) more found passed kind (w .1 .taken) (w .2) (w .3))
+    (λ w. tested-neither (l .loop .inv) more found passed kind (w .0 .left) (w .1 .left) (w .2) (w .3)))
     (c .if3 .came)
 
+read-as-requires : tie.Need-read-as-requires Inv-loop μ-loop
+read-as-requires c κs = c .before .loop .inv .multiple
+
 returns-3 : tie.Need-returns-3 Inv-loop μ-loop
-returns-3 c = tested-all (c .before .before .before .before .args .file .now) (c .before .loop .inv) (c .loop-test .left)
+returns-3 c =
+    tested-all (c .before .before .before .before .before .args .file .now) (c .before .before .loop .inv) (c .before .loop-test .left) (c .read-as .ensures)
 
 pub test-records-spec : {M : Type 1} → statement M
 test-records-spec =
@@ -73,4 +81,5 @@ test-records-spec =
     add-i
     loop-less
     loop-again
+    read-as-requires
     returns-3)
