@@ -6,7 +6,7 @@ use mathlib.Core.Bool.{Bool, true, _&&_}
 use mathlib.Core.List.{List, [], _∷_, _++_}
 use lib.Dec.{eqb}
 use Rattle.chain.specs.Limits.{maxTasks, maxWeight, maxStartup, maxProcessors, maxSpeed}
-use Rattle.chain.specs.Job.{Edition, First, Second, startupOf, editionOf, jobOf}
+use Rattle.chain.specs.Job.{First, Second, startupOf, editionOf, jobOf}
 use Rattle.chain.specs.Refusal.{processorsTest, tasksTest, lengthTest, firstRefusal}
 use Rattle.fields.specs.Field.{fieldBytes, fieldAt}
 use Rattle.jobs.specs.JobFile.{recordBytes, recordsBytes, editionBytes, jobBytes}

@@ -13,7 +13,7 @@ use borrow.Author.Tests.{le-leb, lt-leb}
 use Rattle.chain.specs.Limits.{maxProcessors, maxTasks}
 use Rattle.chain.specs.Lists.{tabulate}
 use Rattle.chain.specs.Refusal.{Test, test, between, processorsTest, tasksTest, lengthTest, firstRefusal}
-use Rattle.chain.specs.Job.{Edition, editionOf}
+use Rattle.chain.specs.Job.{editionOf}
 use Rattle.refusals.specs.Inputs.{headRecords}
 use Rattle.refusals.specs.Answers.{lentAfter}
 use Rattle.jobs.specs.Parse.{recordCount, valueAt, multipleTest, recordsTests, secondIn, editionIn, startupIn, speedsOf, weightsOf, fileTests, fileRefusal}

@@ -49,7 +49,7 @@ first-exactly file = (λ e. only e (front file), λ h. then h (front file))
     then h (inl f) = f .edition
     then h (inr f) = absurd (h (f .kind))
 
--- and a job's bytes in it are the machines' and the tiles' alone.
+-- and a job's bytes in it are those of the processors and the tasks alone.
 pub first-bytes : (job : Job) → jobBytes First job ≡ recordsBytes processorKind (job .speeds) ++ recordsBytes taskKind (job .weights)
 unfolding jobBytes editionBytes
 first-bytes job = refl

@@ -75,7 +75,7 @@ fn put_records(kind: u8, values: &[u32], from: usize, file: &mut [u8])
     }
 }
 
-// Inner. The record in front of the machines, in the second edition.
+// Inner. The record in front of the processors, in the second edition.
 fn put_head(second: bool, startup: u32, file: &mut [u8])
     requires { ⌜ recordSize * headRecords (editionOf second startup) ≤ length (now file) ⌝ }
     ensures { λ _.
