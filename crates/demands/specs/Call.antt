@@ -2,10 +2,11 @@
 -- the definition that the function's contract is an equation with. The rows are those of docs/API.md, in its order.
 use Prim.Native.Nat.{ℕ, zero, suc}
 use mathlib.Core.Path.{_≡_}
+use mathlib.Core.Bool.{Bool, cond}
 use mathlib.Core.List.{List, [], _∷_, _++_}
 use lib.ListN.{length, take}
 use Rattle.bound.specs.declared.Bound.{Bound}
-use Rattle.chain.specs.Job.{jobOf, bottleneck}
+use Rattle.chain.specs.Job.{Edition, startupOf, editionOf, Job, jobOf, bottleneck}
 use Rattle.chain.specs.Probe as probing
 use Rattle.chain.specs.Heuristic as guessing
 use Rattle.chain.specs.Halving as splitting
@@ -13,7 +14,7 @@ use Rattle.chain.specs.Refusal.{Test, firstRefusal, jobTests, measureInputs, ha
 use Rattle.refusals.specs.Methods.{chosenOf}
 use Rattle.refusals.specs.Inputs.{planNeeded, bytesNeeded, probeInputs, heuristicInputs, planInputs, writeInputs, writePlanInputs}
 use Rattle.refusals.specs.Answers.{Said, alone, boundValues, writtenSaid}
-use Rattle.jobs.specs.Parse.{recordCount, speedsOf, weightsOf}
+use Rattle.jobs.specs.Parse.{recordCount, secondIn, startupIn, speedsOf, weightsOf}
 use Rattle.jobs.specs.Answers.{readSaid, readTests, readAnswer, readSpeeds, readWeights, writeAnswer, writeBytes}
 use Rattle.calls.specs.Answers.{measuredSaid, outcomeValues, probedSaid, measureAnswer, probeAnswer, probeWrites, heuristicAnswer, heuristicWrites, halvingAnswer, halvingWrites}
 use Rattle.planfile.specs.Answers.{writePlanAnswer, writePlanBytes}
@@ -25,140 +26,158 @@ use Rattle.planner.specs.HostCall.{hostTests, hostAnswer, hostWrites}
 use Rattle.listing.specs.Listing.{listing}
 use Rattle.listing.specs.Answers.{listTests, listAnswer, listWrites}
 
+-- A job as a call by lists takes it. Scope 17.3: "By lists the edition is given as a yes or no, second or not, with c beside it".
+pub record ByLists : Type 0 where
+  pub second : Bool
+  pub startup : ℕ
+  pub speeds : List ℕ
+  pub weights : List ℕ
+
+abbrev pub editionBy : ByLists → Edition
+editionBy g = editionOf (g .second) (g .startup)
+
+abbrev pub jobBy : ByLists → Job
+jobBy g = jobOf (startupOf (editionBy g)) (g .speeds) (g .weights)
+
+-- What reading answers and leaves of a file, as a call by lists takes it.
+abbrev pub listsIn : List ℕ → ByLists
+listsIn file = record { second = secondIn file; startup = startupIn file; speeds = speedsOf file; weights = weightsOf file }
+
 -- A call with all that it is given. Scope 10.1: "with whichever file, list, method or bound".
 pub data Call : Type 0 where
-  TestJob : (speeds weights : List ℕ) → Call
+  TestJob : (job : ByLists) → Call
   ReadJob : (file speeds weights : List ℕ) → Call
-  WriteJob : (speeds weights file : List ℕ) → Call
-  Measure : (speeds weights separators : List ℕ) → Call
-  Probe : (speeds weights : List ℕ) (bound : Bound) (separators : List ℕ) → Call
-  Heuristic : (speeds weights separators : List ℕ) → Call
-  Halving : (speeds weights separators : List ℕ) → Call
-  Plan : (method : ℕ) (speeds weights separators scratch : List ℕ) → Call
-  WritePlan : (speeds weights separators plan : List ℕ) → Call
-  Grade : (speeds weights plan : List ℕ) → Call
+  WriteJob : (job : ByLists) (file : List ℕ) → Call
+  Measure : (job : ByLists) (separators : List ℕ) → Call
+  Probe : (job : ByLists) (bound : Bound) (separators : List ℕ) → Call
+  Heuristic : (job : ByLists) (separators : List ℕ) → Call
+  Halving : (job : ByLists) (separators : List ℕ) → Call
+  Plan : (method : ℕ) (job : ByLists) (separators scratch : List ℕ) → Call
+  WritePlan : (job : ByLists) (separators plan : List ℕ) → Call
+  Grade : (job : ByLists) (plan : List ℕ) → Call
   ListJob : (file out : List ℕ) → Call
   PlanJob : (file : List ℕ) (method : ℕ) (plan : List ℕ) → Call
   GradePlan : (file plan grade : List ℕ) → Call
 
 -- What its answer says, number and values.
 abbrev pub said : Call → Said
-said (TestJob es ws) = alone (firstRefusal (jobTests (jobOf es ws)))
+said (TestJob g) = alone (firstRefusal (jobTests (jobBy g)))
 said (ReadJob file es ws) = readSaid (readAnswer file (length es) (length ws))
-said (WriteJob es ws file) = writtenSaid (writeAnswer (jobOf es ws) (length file))
-said (Measure es ws s) = measuredSaid (measureAnswer (jobOf es ws) s)
-said (Probe es ws B s) = probedSaid (probeAnswer (jobOf es ws) B s)
-said (Heuristic es ws s) = measuredSaid (heuristicAnswer (jobOf es ws) s)
-said (Halving es ws s) = measuredSaid (halvingAnswer (jobOf es ws) s)
-said (Plan m es ws s t) = plannedSaid (planAnswer (jobOf es ws) m s t)
-said (WritePlan es ws s plan) = writtenSaid (writePlanAnswer (jobOf es ws) s (length plan))
-said (Grade es ws plan) = gradedSaid (gradeAnswer (jobOf es ws) plan)
+said (WriteJob g file) = writtenSaid (writeAnswer (editionBy g) (jobBy g) (length file))
+said (Measure g s) = measuredSaid (measureAnswer (jobBy g) s)
+said (Probe g B s) = probedSaid (probeAnswer (jobBy g) B s)
+said (Heuristic g s) = measuredSaid (heuristicAnswer (jobBy g) s)
+said (Halving g s) = measuredSaid (halvingAnswer (jobBy g) s)
+said (Plan m g s t) = plannedSaid (planAnswer (editionBy g) (jobBy g) m s t)
+said (WritePlan g s plan) = writtenSaid (writePlanAnswer (jobBy g) s (length plan))
+said (Grade g plan) = gradedSaid (gradeAnswer (jobBy g) plan)
 said (ListJob file out) = writtenSaid (listAnswer file (length out))
 said (PlanJob file m plan) = alone (hostAnswer file m (length plan))
 said (GradePlan file plan grade) = alone (hostGrade file plan (length grade))
 
 -- The values that it says where nothing refuses it.
 abbrev pub values : Call → List ℕ
-values (TestJob es ws) = []
-values (ReadJob file es ws) = length (speedsOf file) ∷ length (weightsOf file) ∷ []
-values (WriteJob es ws file) = bytesNeeded (jobOf es ws) ∷ []
-values (Measure es ws s) = boundValues (bottleneck (jobOf es ws) (take (suc (length es)) s))
-values (Probe es ws B s) = outcomeValues (probing.probe (jobOf es ws) B)
-values (Heuristic es ws s) = boundValues (bottleneck (jobOf es ws) (guessing.heuristic (jobOf es ws)))
-values (Halving es ws s) = boundValues (bottleneck (jobOf es ws) (splitting.halving (jobOf es ws)))
-values (Plan m es ws s t) = chosenValues (jobOf es ws) (chosenOf m)
-values (WritePlan es ws s plan) = planNeeded (jobOf es ws) ∷ []
-values (Grade es ws plan) = (gradedSaid (readGrade (jobOf es ws) plan)) .values
+values (TestJob g) = []
+values (ReadJob file es ws) = cond (secondIn file) 2 1 ∷ startupIn file ∷ length (speedsOf file) ∷ length (weightsOf file) ∷ []
+values (WriteJob g file) = bytesNeeded (editionBy g) (jobBy g) ∷ []
+values (Measure g s) = boundValues (bottleneck (jobBy g) (take (suc (length (g .speeds))) s))
+values (Probe g B s) = outcomeValues (probing.probe (jobBy g) B)
+values (Heuristic g s) = boundValues (bottleneck (jobBy g) (guessing.heuristic (jobBy g)))
+values (Halving g s) = boundValues (bottleneck (jobBy g) (splitting.halving (jobBy g)))
+values (Plan m g s t) = chosenValues (editionBy g) (jobBy g) (chosenOf m)
+values (WritePlan g s plan) = planNeeded (jobBy g) ∷ []
+values (Grade g plan) = (gradedSaid (readGrade (jobBy g) plan)) .values
 values (ListJob file out) = length (listing file) ∷ []
 values (PlanJob file m plan) = []
 values (GradePlan file plan grade) = []
 
 -- The tests that it makes. Scope 8.2: "each call making those of the inputs that it takes".
 abbrev pub tests : Call → List Test
-tests (TestJob es ws) = jobTests (jobOf es ws)
+tests (TestJob g) = jobTests (jobBy g)
 tests (ReadJob file es ws) = readTests file (length es) (length ws)
-tests (WriteJob es ws file) = callTests (jobOf es ws) (writeInputs (jobOf es ws) (length file))
-tests (Measure es ws s) = callTests (jobOf es ws) (measureInputs (jobOf es ws) s)
-tests (Probe es ws B s) = callTests (jobOf es ws) (probeInputs (jobOf es ws) B (length s))
-tests (Heuristic es ws s) = callTests (jobOf es ws) (heuristicInputs (jobOf es ws) (length s))
-tests (Halving es ws s) = callTests (jobOf es ws) (halvingInputs (jobOf es ws) (length s))
-tests (Plan m es ws s t) = callTests (jobOf es ws) (planInputs (jobOf es ws) m (length s) (length t))
-tests (WritePlan es ws s plan) = callTests (jobOf es ws) (writePlanInputs (jobOf es ws) s (length plan))
-tests (Grade es ws plan) = callTests (jobOf es ws) (gradeInputs (jobOf es ws) plan)
+tests (WriteJob g file) = callTests (jobBy g) (writeInputs (editionBy g) (jobBy g) (length file))
+tests (Measure g s) = callTests (jobBy g) (measureInputs (jobBy g) s)
+tests (Probe g B s) = callTests (jobBy g) (probeInputs (jobBy g) B (length s))
+tests (Heuristic g s) = callTests (jobBy g) (heuristicInputs (jobBy g) (length s))
+tests (Halving g s) = callTests (jobBy g) (halvingInputs (jobBy g) (length s))
+tests (Plan m g s t) = callTests (jobBy g) (planInputs (jobBy g) m (length s) (length t))
+tests (WritePlan g s plan) = callTests (jobBy g) (writePlanInputs (jobBy g) s (length plan))
+tests (Grade g plan) = callTests (jobBy g) (gradeInputs (jobBy g) plan)
 tests (ListJob file out) = listTests (length out)
 tests (PlanJob file m plan) = hostTests file m (length plan)
 tests (GradePlan file plan grade) = gradeTests file plan (length grade ∷ [])
 
 -- The numbers that it can be refused with.
 abbrev pub numbers : Call → List ℕ
-numbers (TestJob es ws) = 5 ∷ 6 ∷ 7 ∷ 8 ∷ []
-numbers (ReadJob file es ws) = 2 ∷ 3 ∷ 4 ∷ 5 ∷ 6 ∷ 7 ∷ 8 ∷ 9 ∷ []
-numbers (WriteJob es ws file) = 5 ∷ 6 ∷ 7 ∷ 8 ∷ 9 ∷ []
-numbers (Measure es ws s) = 5 ∷ 6 ∷ 7 ∷ 8 ∷ 9 ∷ 11 ∷ []
-numbers (Probe es ws B s) = 5 ∷ 6 ∷ 7 ∷ 8 ∷ 9 ∷ 10 ∷ []
-numbers (Heuristic es ws s) = 5 ∷ 6 ∷ 7 ∷ 8 ∷ 9 ∷ []
-numbers (Halving es ws s) = 5 ∷ 6 ∷ 7 ∷ 8 ∷ 14 ∷ 9 ∷ []
-numbers (Plan m es ws s t) = 1 ∷ 5 ∷ 6 ∷ 7 ∷ 8 ∷ 9 ∷ []
-numbers (WritePlan es ws s plan) = 5 ∷ 6 ∷ 7 ∷ 8 ∷ 9 ∷ 11 ∷ []
-numbers (Grade es ws plan) = 5 ∷ 6 ∷ 7 ∷ 8 ∷ 12 ∷ 11 ∷ 13 ∷ []
+numbers (TestJob g) = 16 ∷ 5 ∷ 6 ∷ 7 ∷ 8 ∷ []
+numbers (ReadJob file es ws) = 2 ∷ 3 ∷ 4 ∷ 15 ∷ 5 ∷ 6 ∷ 16 ∷ 7 ∷ 8 ∷ 9 ∷ []
+numbers (WriteJob g file) = 16 ∷ 5 ∷ 6 ∷ 7 ∷ 8 ∷ 9 ∷ []
+numbers (Measure g s) = 16 ∷ 5 ∷ 6 ∷ 7 ∷ 8 ∷ 9 ∷ 11 ∷ []
+numbers (Probe g B s) = 16 ∷ 5 ∷ 6 ∷ 7 ∷ 8 ∷ 9 ∷ 10 ∷ []
+numbers (Heuristic g s) = 16 ∷ 5 ∷ 6 ∷ 7 ∷ 8 ∷ 9 ∷ []
+numbers (Halving g s) = 16 ∷ 5 ∷ 6 ∷ 7 ∷ 8 ∷ 14 ∷ 9 ∷ []
+numbers (Plan m g s t) = 1 ∷ 16 ∷ 5 ∷ 6 ∷ 7 ∷ 8 ∷ 9 ∷ []
+numbers (WritePlan g s plan) = 16 ∷ 5 ∷ 6 ∷ 7 ∷ 8 ∷ 9 ∷ 11 ∷ []
+numbers (Grade g plan) = 16 ∷ 5 ∷ 6 ∷ 7 ∷ 8 ∷ 12 ∷ 11 ∷ 13 ∷ []
 numbers (ListJob file out) = 9 ∷ []
-numbers (PlanJob file m plan) = 1 ∷ 2 ∷ 3 ∷ 4 ∷ 5 ∷ 6 ∷ 7 ∷ 8 ∷ 9 ∷ []
-numbers (GradePlan file plan grade) = 2 ∷ 3 ∷ 4 ∷ 5 ∷ 6 ∷ 7 ∷ 8 ∷ 9 ∷ 12 ∷ 11 ∷ 13 ∷ []
+numbers (PlanJob file m plan) = 1 ∷ 2 ∷ 3 ∷ 4 ∷ 15 ∷ 5 ∷ 6 ∷ 16 ∷ 7 ∷ 8 ∷ 9 ∷ []
+numbers (GradePlan file plan grade) = 2 ∷ 3 ∷ 4 ∷ 15 ∷ 5 ∷ 6 ∷ 16 ∷ 7 ∷ 8 ∷ 9 ∷ 12 ∷ 11 ∷ 13 ∷ []
 
--- Scope 8.3: "the tests 3 to 6 go record by record from the front, within a record in the order of the numbers". Of n records:
+-- Scope 8.3: "the tests 3, 4, 15, 5, 6 and 16 go record by record from the front, within a record in this order". Of n records:
 unfoldable pub recordsOrder : ℕ → List ℕ
 recordsOrder zero = []
-recordsOrder (suc n) = recordsOrder n ++ 3 ∷ 4 ∷ 5 ∷ 6 ∷ []
+recordsOrder (suc n) = recordsOrder n ++ 3 ∷ 4 ∷ 15 ∷ 5 ∷ 6 ∷ 16 ∷ []
 
 unfoldable pub fileOrder : List ℕ → List ℕ
 fileOrder file = 2 ∷ (recordsOrder (recordCount file) ++ 7 ∷ 8 ∷ [])
 
--- Scope 8.2: "The tests are made in the order of the numbers, but 14 directly after 8 and 12 before 11": the number of each test, 9 for each list that is lent.
+-- Scope 8.2: "The tests are made in the order of the numbers, but 14 directly after 8, 12 before 11, 15 directly after 4, and 16 directly after 6
+-- or, in lists, directly before 5": the number of each test, 9 for each list that is lent.
 abbrev pub order : Call → List ℕ
-order (TestJob es ws) = numbers (TestJob es ws)
+order (TestJob g) = numbers (TestJob g)
 order (ReadJob file es ws) = fileOrder file ++ 9 ∷ 9 ∷ []
-order (WriteJob es ws file) = numbers (WriteJob es ws file)
-order (Measure es ws s) = numbers (Measure es ws s)
-order (Probe es ws B s) = numbers (Probe es ws B s)
-order (Heuristic es ws s) = numbers (Heuristic es ws s)
-order (Halving es ws s) = numbers (Halving es ws s)
-order (Plan m es ws s t) = numbers (Plan m es ws s t) ++ 9 ∷ []
-order (WritePlan es ws s plan) = 5 ∷ 6 ∷ 7 ∷ 8 ∷ 9 ∷ 9 ∷ 11 ∷ []
-order (Grade es ws plan) = numbers (Grade es ws plan)
+order (WriteJob g file) = numbers (WriteJob g file)
+order (Measure g s) = numbers (Measure g s)
+order (Probe g B s) = numbers (Probe g B s)
+order (Heuristic g s) = numbers (Heuristic g s)
+order (Halving g s) = numbers (Halving g s)
+order (Plan m g s t) = numbers (Plan m g s t) ++ 9 ∷ []
+order (WritePlan g s plan) = 16 ∷ 5 ∷ 6 ∷ 7 ∷ 8 ∷ 9 ∷ 9 ∷ 11 ∷ []
+order (Grade g plan) = numbers (Grade g plan)
 order (ListJob file out) = numbers (ListJob file out)
 order (PlanJob file m plan) = 1 ∷ (fileOrder file ++ 9 ∷ [])
 order (GradePlan file plan grade) = fileOrder file ++ 9 ∷ 12 ∷ 11 ∷ 13 ∷ []
 
 -- The lists and buffers that are lent to it for writing. What it only reads it cannot write: a `&[..]` of its signature.
 abbrev pub lent : Call → List (List ℕ)
-lent (TestJob es ws) = []
+lent (TestJob g) = []
 lent (ReadJob file es ws) = es ∷ ws ∷ []
-lent (WriteJob es ws file) = file ∷ []
-lent (Measure es ws s) = []
-lent (Probe es ws B s) = s ∷ []
-lent (Heuristic es ws s) = s ∷ []
-lent (Halving es ws s) = s ∷ []
-lent (Plan m es ws s t) = s ∷ t ∷ []
-lent (WritePlan es ws s plan) = plan ∷ []
-lent (Grade es ws plan) = []
+lent (WriteJob g file) = file ∷ []
+lent (Measure g s) = []
+lent (Probe g B s) = s ∷ []
+lent (Heuristic g s) = s ∷ []
+lent (Halving g s) = s ∷ []
+lent (Plan m g s t) = s ∷ t ∷ []
+lent (WritePlan g s plan) = plan ∷ []
+lent (Grade g plan) = []
 lent (ListJob file out) = out ∷ []
 lent (PlanJob file m plan) = plan ∷ []
 lent (GradePlan file plan grade) = grade ∷ []
 
 -- It leaves these in their place. Of the work numbers of a plan this says what its contract does, and no more.
 abbrev pub Leaves : Call → List (List ℕ) → Type 0
-Leaves (TestJob es ws) left = left ≡ []
+Leaves (TestJob g) left = left ≡ []
 Leaves (ReadJob file es ws) left = left ≡ readSpeeds file es ws ∷ readWeights file es ws ∷ []
-Leaves (WriteJob es ws file) left = left ≡ writeBytes (jobOf es ws) file ∷ []
-Leaves (Measure es ws s) left = left ≡ []
-Leaves (Probe es ws B s) left = left ≡ probeWrites (jobOf es ws) B s ∷ []
-Leaves (Heuristic es ws s) left = left ≡ heuristicWrites (jobOf es ws) s ∷ []
-Leaves (Halving es ws s) left = left ≡ halvingWrites (jobOf es ws) s ∷ []
-Leaves (Plan m es ws s t) left =
-    (t′ : List ℕ) × ScratchAfter (planRefusal (jobOf es ws) m (length s) (length t)) (jobOf es ws) t t′
-    × (left ≡ planWrites (jobOf es ws) m s t ∷ t′ ∷ [])
-Leaves (WritePlan es ws s plan) left = left ≡ writePlanBytes (jobOf es ws) s plan ∷ []
-Leaves (Grade es ws plan) left = left ≡ []
+Leaves (WriteJob g file) left = left ≡ writeBytes (editionBy g) (jobBy g) file ∷ []
+Leaves (Measure g s) left = left ≡ []
+Leaves (Probe g B s) left = left ≡ probeWrites (jobBy g) B s ∷ []
+Leaves (Heuristic g s) left = left ≡ heuristicWrites (jobBy g) s ∷ []
+Leaves (Halving g s) left = left ≡ halvingWrites (jobBy g) s ∷ []
+Leaves (Plan m g s t) left =
+    (t′ : List ℕ) × ScratchAfter (planRefusal (jobBy g) m (length s) (length t)) (jobBy g) t t′
+    × (left ≡ planWrites (jobBy g) m s t ∷ t′ ∷ [])
+Leaves (WritePlan g s plan) left = left ≡ writePlanBytes (jobBy g) s plan ∷ []
+Leaves (Grade g plan) left = left ≡ []
 Leaves (ListJob file out) left = left ≡ listWrites file out ∷ []
 Leaves (PlanJob file m plan) left = left ≡ hostWrites file m plan ∷ []
 Leaves (GradePlan file plan grade) left = left ≡ hostGrades file plan grade ∷ []

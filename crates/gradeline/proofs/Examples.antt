@@ -7,13 +7,13 @@ use mathlib.Core.List.{List, [], _∷_, _++_}
 use Rattle.bound.specs.Order.{le, greater}
 use Rattle.chain.specs.Limits.{maxTasks, maxWeight, maxStartup, maxProcessors, maxSpeed}
 use Rattle.chain.specs.Lists.{sum, tabulate, all, smallestFrom}
-use Rattle.chain.specs.Job.{Job, jobOf, speedOf, partOf, partWeight, partLoad, partBound, boundAt, bottleneckTo, bottleneck}
+use Rattle.chain.specs.Job.{Job, jobOf, speedOf, partOf, partWeight, partLoad, partBound, boundAt, bottleneckTo, bottleneck, editionOf, startupOf, loadOf}
 use Rattle.chain.specs.Plan.{spread, onward, partitions}
 use Rattle.chain.specs.Grade.{every, unbeaten}
 use Rattle.chain.specs.Refusal.{processorsTest, tasksTest, isPartition, separatorsOf, planLengthTest, joined, joinedTest, trueAt, trueTest, firstRefusal, planTests}
 use Rattle.fields.specs.Field.{fieldBytes, fieldAt}
-use Rattle.jobs.specs.JobFile.{recordBytes, recordsBytes, jobBytes}
-use Rattle.jobs.specs.Parse.{byteAt, kindAt, valueAt, isKind, taskBefore, multipleTest, blank, formTest, orderTest, speedTest, weightTest, recordTests, recordsTests, valuesOf, speedsOf, weightsOf, fileTests}
+use Rattle.jobs.specs.JobFile.{recordBytes, recordsBytes, jobBytes, editionBytes}
+use Rattle.jobs.specs.Parse.{byteAt, kindAt, valueAt, isKind, taskBefore, multipleTest, blank, formTest, orderTest, speedTest, weightTest, recordTests, recordsTests, valuesOf, speedsOf, weightsOf, fileTests, placeTest, workTest, secondIn}
 use Rattle.planfile.specs.PlanFile.{planRecord, planBytesTo, planBytes}
 use Rattle.grading.specs.Answers.{gradeOf, readGrade, gradedOf}
 use Rattle.grading.specs.Files.{gradeTests, gradeRefusal, fileGrade}
@@ -52,5 +52,5 @@ pub lines : says A (row 0 1 1 1 ++ row 1 3 11 3) "best\n"
     × says D (planBytes D (0 ∷ 2 ∷ 2 ∷ [])) "best\n"
     × says D (planBytes D (0 ∷ 0 ∷ 2 ∷ [])) "best\n"
     × (gradeLine (1 ∷ []) [] ≡ text "refused 2\n")
-unfolding le greater maxTasks maxWeight maxStartup maxProcessors maxSpeed sum tabulate all smallestFrom speedOf partOf partWeight partLoad partBound boundAt bottleneckTo bottleneck spread onward partitions every unbeaten processorsTest tasksTest isPartition separatorsOf planLengthTest joined joinedTest trueAt trueTest firstRefusal planTests fieldBytes fieldAt recordBytes recordsBytes jobBytes byteAt kindAt valueAt isKind taskBefore multipleTest blank formTest orderTest speedTest weightTest recordTests recordsTests valuesOf speedsOf weightsOf fileTests planRecord planBytesTo planBytes gradeOf readGrade gradedOf gradeTests gradeRefusal fileGrade text width decimal field labelled refusalLine intake gradeText planIntake gradeLine
+unfolding le greater maxTasks maxWeight maxStartup maxProcessors maxSpeed sum tabulate all smallestFrom speedOf partOf partWeight loadOf partLoad partBound boundAt bottleneckTo bottleneck spread onward partitions every unbeaten processorsTest tasksTest isPartition separatorsOf planLengthTest joined joinedTest trueAt trueTest firstRefusal planTests fieldBytes fieldAt recordBytes recordsBytes editionBytes jobBytes byteAt kindAt valueAt isKind taskBefore multipleTest blank formTest orderTest placeTest speedTest weightTest workTest recordTests recordsTests valuesOf speedsOf weightsOf secondIn editionOf startupOf fileTests planRecord planBytesTo planBytes gradeOf readGrade gradedOf gradeTests gradeRefusal fileGrade text width decimal field labelled refusalLine intake gradeText planIntake gradeLine
 lines = (refl, refl, refl, refl, refl, refl, refl, refl, refl, refl, refl, refl, refl, refl)

@@ -164,7 +164,8 @@ module _ (file plan : List ℕ) (lent : ℕ) where
   unfolding lentGrade gradeRefusal gradeTests fileRefusal
   files-refused e h = graded-number (readGrade (jobIn file) plan) (first-decide (fileTests file) after e h) h
 
-  pub files-graded : {es ws : List ℕ} {p n : ℕ} → Taken file es ws p n → {r : Graded} → r ≡ roomGrade (jobOf (take p es) (take n ws)) plan 1 lent
+  pub files-graded : {es ws : List ℕ} {second : Bool} {startup p n : ℕ} → Taken file es ws second startup p n → {r : Graded}
+      → r ≡ roomGrade (jobOf startup (take p es) (take n ws)) plan 1 lent
       → r ≡ lentGrade file plan lent
   unfolding lentGrade gradeRefusal gradeTests fileRefusal roomGrade
   files-graded w {r} e =

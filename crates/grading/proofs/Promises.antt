@@ -132,12 +132,12 @@ plan-graded {job} v =
     division-graded v ((plan-of-best (valid-plannable v)) .partition)
     ∙ ap (λ (b : Bool). cond b Graded.Best Graded.Valid) (plan-unbeaten (valid-plannable v))
 
--- By files: 0, or one of 2 to 8, 9, 12, 11 and 13; that of the first test that fails.
+-- By files: 0, or one of 2 to 9, 15, 16, 12, 11 and 13; that of the first test that fails.
 module _ (file plan : List ℕ) (lent : ℕ) where
   abbrev records : List Test
   records = planTests (jobIn file) (planRead (jobIn file) plan)
 
-  pub host-grade-numbers : List·Memᴰ (hostGrade file plan lent) (0 ∷ 2 ∷ 3 ∷ 4 ∷ 5 ∷ 6 ∷ 7 ∷ 8 ∷ 9 ∷ 12 ∷ 11 ∷ 13 ∷ [])
+  pub host-grade-numbers : List·Memᴰ (hostGrade file plan lent) (0 ∷ 2 ∷ 3 ∷ 4 ∷ 15 ∷ 5 ∷ 6 ∷ 16 ∷ 7 ∷ 8 ∷ 9 ∷ 12 ∷ 11 ∷ 13 ∷ [])
   unfolding hostGrade gradeRefusal gradeTests planTests lengthTest planLengthTest joinedTest trueTest
   host-grade-numbers =
       given-number (fromTwo ++ 12 ∷ 11 ∷ 13 ∷ []) (gradeTests file plan (lent ∷ [])) refl

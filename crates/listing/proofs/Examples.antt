@@ -8,19 +8,19 @@ use lib.ListN.{replicate}
 use Rattle.bound.specs.Order.{le, greater, lesser, leastTo, roundedUp}
 use Rattle.chain.specs.Limits.{maxTasks, maxWeight, maxStartup, maxProcessors, maxSpeed}
 use Rattle.chain.specs.Lists.{sum, greatestOf, leastOf, tabulate, sumTo, all, greatestFrom, smallestFrom, smallestLeast, digitsWithin, digits}
-use Rattle.chain.specs.Job.{jobOf, speedOf, partOf, partWeight, partLoad, slowestOf, partBound, within, offer, boundAt, bottleneckTo, bottleneck, ideal}
+use Rattle.chain.specs.Job.{jobOf, speedOf, partOf, partWeight, partLoad, slowestOf, partBound, within, offer, boundAt, bottleneckTo, bottleneck, ideal, editionOf, startupOf, loadOf}
 use Rattle.chain.specs.Probe.{reach, separator, walk, fits, bid, nextBid}
 use Rattle.chain.specs.Heuristic.{miss, nearest, heuristic}
 use Rattle.chain.specs.Dynamic.{startOf, candidate, crossingOf, lesserAt, tableValue, crossing, movesTo, moves}
 use Rattle.chain.specs.Bidding.{bidding}
 use Rattle.chain.specs.Bisection.{firstEnds, nextEnds, ends, meet}
 use Rattle.chain.specs.Nicol.{fitsAt, firstFit, startOn, candidateOn, leastCandidate, emptyFits, nextRange, rangeAfter, single, settled}
-use Rattle.chain.specs.Plan.{spread, onward, partitions, leastBound, leastBottleneck, planOf, difference, allowance, biddingFailures, bisectionRounds, nicolTrials, nicolStop, countBy, imbalance}
+use Rattle.chain.specs.Plan.{spread, onward, partitions, leastBound, leastBottleneck, planOf, difference, allowance, biddingFailures, bisectionRounds, nicolTrials, nicolStop, countBy, imbalance, biddingAllowance}
 use Rattle.chain.specs.Refusal.{processorsTest, tasksTest, firstRefusal}
 use Rattle.fields.specs.Field.{fieldBytes, fieldAt}
 use Rattle.refusals.specs.Methods.{numberOf}
-use Rattle.jobs.specs.JobFile.{recordBytes, recordsBytes, jobBytes}
-use Rattle.jobs.specs.Parse.{byteAt, kindAt, valueAt, isKind, taskBefore, multipleTest, blank, formTest, orderTest, speedTest, weightTest, recordTests, recordsTests, valuesOf, speedsOf, weightsOf, fileTests, fileRefusal}
+use Rattle.jobs.specs.JobFile.{recordBytes, recordsBytes, jobBytes, editionBytes}
+use Rattle.jobs.specs.Parse.{byteAt, kindAt, valueAt, isKind, taskBefore, multipleTest, blank, formTest, orderTest, speedTest, weightTest, recordTests, recordsTests, valuesOf, speedsOf, weightsOf, fileTests, fileRefusal, placeTest, workTest, secondIn}
 use Rattle.planner.specs.Answers.{planFigures}
 use Rattle.listing.specs.Room.{listingRoom}
 use Rattle.texts.specs.Text.{text, width, decimal, field, labelled, refusalLine}
@@ -47,7 +47,7 @@ pub listings : lists fileA "tiles 3 machines 2 total 12\n1 2 3 11 3 223 0 1 3\n2
     × lists (jobBytes (jobOf (1 ∷ 1 ∷ []) (6 ∷ []))) "tiles 1 machines 2 total 6\n1 1 1 6 1 1000 0 1 1\n2 2 2 6 1 1000 0 1 1\n3 1 4 6 1 1000 0 1 1\n4 1 1 6 1 1000 0 1 1\n"
     × lists [] "refused 7\n"
     × lists (replicate 7 0) "refused 2\n"
-unfolding le greater lesser leastTo roundedUp maxTasks maxWeight maxStartup maxProcessors maxSpeed sum greatestOf leastOf tabulate sumTo all greatestFrom smallestFrom smallestLeast digitsWithin digits speedOf partOf partWeight partLoad slowestOf partBound within offer boundAt bottleneckTo bottleneck ideal reach separator walk fits bid nextBid miss nearest heuristic startOf candidate crossingOf lesserAt tableValue crossing movesTo moves bidding firstEnds nextEnds ends meet fitsAt firstFit startOn candidateOn leastCandidate emptyFits nextRange rangeAfter single settled spread onward partitions leastBound leastBottleneck planOf difference allowance biddingFailures bisectionRounds nicolTrials nicolStop countBy imbalance processorsTest tasksTest firstRefusal fieldBytes fieldAt numberOf recordBytes recordsBytes jobBytes byteAt kindAt valueAt isKind taskBefore multipleTest blank formTest orderTest speedTest weightTest recordTests recordsTests valuesOf speedsOf weightsOf fileTests fileRefusal planFigures text width decimal field fields labelled countsLine figuresText planLine methodLine jobListing refusalLine listingOf intake listing
+unfolding le greater lesser leastTo roundedUp maxTasks maxWeight maxStartup maxProcessors maxSpeed sum greatestOf leastOf tabulate sumTo all greatestFrom smallestFrom smallestLeast digitsWithin digits speedOf partOf partWeight loadOf partLoad slowestOf partBound within offer boundAt bottleneckTo bottleneck ideal reach separator walk fits bid nextBid miss nearest heuristic startOf candidate crossingOf lesserAt tableValue crossing movesTo moves bidding firstEnds nextEnds ends meet fitsAt firstFit startOn candidateOn leastCandidate emptyFits nextRange rangeAfter single settled spread onward partitions leastBound leastBottleneck planOf difference biddingAllowance allowance biddingFailures bisectionRounds nicolTrials nicolStop countBy imbalance processorsTest tasksTest firstRefusal fieldBytes fieldAt numberOf recordBytes recordsBytes editionBytes jobBytes byteAt kindAt valueAt isKind taskBefore multipleTest blank formTest orderTest placeTest speedTest weightTest workTest recordTests recordsTests valuesOf speedsOf weightsOf secondIn editionOf startupOf fileTests fileRefusal planFigures text width decimal field fields labelled countsLine figuresText planLine methodLine jobListing refusalLine listingOf intake listing
 listings = (refl, refl, refl, refl, refl, refl, refl)
 
 -- Scope 8.7: "8,736 bytes for a listing"
