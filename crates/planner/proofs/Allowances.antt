@@ -1,20 +1,21 @@
 -- Laws for the allowance: the greatest and the least of a list, and the methods one by one.
 -- Assumes nothing.
 use Prim.Native.Nat.{ℕ, suc, _+_, _-_, _*_, _≤_, _<_, _^_}
-use mathlib.Core.Path.{_≡_, sym, ap, subst, _∙_}
-use mathlib.Core.Bool.{Bool, true, false, cond}
+use mathlib.Core.Path.{_≡_, sym, ap, ap₂, subst, _∙_}
+use mathlib.Core.Bool.{Bool, true, false, not, cond, _&&_}
 use mathlib.Core.List.{List, [], _∷_}
 use native.Mathlib.Omega.{arith}
 use native.Mathlib.Nat.{mul-le-mul, le-trans as ≤-trans}
 use native.Mathlib.Decide.{decLe}
-use lib.Dec.{leb, lit<}
+use lib.Dec.{leb, eqb, lit<}
 use lib.ListN.{length, getD}
+use borrow.Author.Tests.{eq-eqb, ne-eqb, not-true, not-false}
 use Rattle.chain.specs.declared.Method.{Method}
 use Rattle.chain.specs.declared.Method.the-variants.{Table, Bidding, Bisection, Nicol}
 use Rattle.chain.specs.Lists.{greatestOf, leastOf, digits}
 use Rattle.chain.specs.Limits.{maxProcessors}
-use Rattle.chain.specs.Job.{Job, Valid, tasks, processors, last, slowestOf}
-use Rattle.chain.specs.Plan.{difference, allowance}
+use Rattle.chain.specs.Job.{Edition, First, Second, editionOf, Job, Valid, tasks, processors, last, slowestOf}
+use Rattle.chain.specs.Plan.{difference, biddingAllowance, allowance}
 use Rattle.chain.proofs.Indices.{below-next}
 use Rattle.chain.proofs.Extremes.{same-default, greatest-of-le, greatest-cases, slowest-le}
 
@@ -118,21 +119,34 @@ module _ {job : Job} (v : Valid job) where
   pub few-trials : {n : ℕ} → n ≤ 64 → last job * n < 2 ^ 32
   few-trials {n} h = let x : last job * n ≤ maxProcessors * 64 = mul-le-mul last-limit h in omega (arith, trials-fit)
 
--- The allowances, method by method.
-module _ (job : Job) {m : Method} where
-  pub allowance-table : m ≡ Table → last job * tasks job ≡ allowance m job
+-- The allowances, method by method, of a job of this edition.
+module _ (edition : Edition) (job : Job) {m : Method} where
+  pub allowance-table : m ≡ Table → last job * tasks job ≡ allowance edition m job
   unfolding allowance
-  allowance-table e = sym (ap (λ (k : Method). allowance k job) e)
-
-  pub allowance-bidding : m ≡ Bidding → last job * tasks job + 1 ≡ allowance m job
-  unfolding allowance
-  allowance-bidding e = sym (ap (λ (k : Method). allowance k job) e)
+  allowance-table e = sym (ap (λ (k : Method). allowance edition k job) e)
 
   -- By the digits of D, and of N, as the code counts them.
-  pub allowance-bisection : {n d : ℕ} → m ≡ Bisection → d ≡ difference job → n ≡ digits d → 1 + n ≡ allowance m job
+  pub allowance-bisection : {n d : ℕ} → m ≡ Bisection → d ≡ difference job → n ≡ digits d → 1 + n ≡ allowance edition m job
   unfolding allowance
-  allowance-bisection a e h = ap (λ (n : ℕ). 1 + n) (h ∙ ap digits e) ∙ sym (ap (λ (k : Method). allowance k job) a)
+  allowance-bisection a e h = ap (λ (n : ℕ). 1 + n) (h ∙ ap digits e) ∙ sym (ap (λ (k : Method). allowance edition k job) a)
 
-  pub allowance-nicol : {n : ℕ} → m ≡ Nicol → n ≡ digits (tasks job) → last job * n ≡ allowance m job
+  pub allowance-nicol : {n : ℕ} → m ≡ Nicol → n ≡ digits (tasks job) → last job * n ≡ allowance edition m job
   unfolding allowance
-  allowance-nicol a h = ap (λ (n : ℕ). last job * n) h ∙ sym (ap (λ (k : Method). allowance k job) a)
+  allowance-nicol a h = ap (λ (n : ℕ). last job * n) h ∙ sym (ap (λ (k : Method). allowance edition k job) a)
+
+-- As the code tells the editions apart: n + 1 trials in the first, and in the second on more than one processor; 2 on one.
+pub trials-first : (b : Bool) (l n : ℕ) → not b ≡ true → n + 1 ≡ cond (b && eqb l 0) 2 (n + 1)
+trials-first b l n h = sym (ap (λ (t : Bool). cond (t && eqb l 0) 2 (n + 1)) (not-true b h))
+
+pub trials-single : (b : Bool) (l n : ℕ) → not b ≡ false → l ≡ 0 → 2 ≡ cond (b && eqb l 0) 2 (n + 1)
+trials-single b l n h e = sym (ap₂ (λ (t u : Bool). cond (t && u) 2 (n + 1)) (not-false b h) (eq-eqb l 0 e))
+
+pub trials-more : (b : Bool) (l n : ℕ) → not b ≡ false → (l ≡ 0 → ⊥) → n + 1 ≡ cond (b && eqb l 0) 2 (n + 1)
+trials-more b l n h e = sym (ap₂ (λ (t u : Bool). cond (t && u) 2 (n + 1)) (not-false b h) (ne-eqb l 0 e))
+
+-- That of bidding.
+pub allowance-bidding : (second : Bool) (c : ℕ) (job : Job) {m : Method} {n : ℕ} → m ≡ Bidding
+    → n ≡ cond (second && eqb (last job) 0) 2 (last job * tasks job + 1) → n ≡ allowance (editionOf second c) m job
+unfolding allowance biddingAllowance editionOf
+allowance-bidding true c job a e = e ∙ sym (ap (λ (k : Method). allowance (Second c) k job) a)
+allowance-bidding false c job a e = e ∙ sym (ap (λ (k : Method). allowance First k job) a)

@@ -15,7 +15,7 @@ use Rattle.chain.specs.declared.Method.{Method}
 use Rattle.chain.specs.declared.Method.the-variants.{Table, Bidding, Bisection, Nicol}
 use Rattle.chain.specs.Ranges.{Small, Lendable}
 use Rattle.chain.specs.Lists.{sum}
-use Rattle.chain.specs.Job.{Job, Valid, tasks, processors, bottleneck, ideal, totalWeight}
+use Rattle.chain.specs.Job.{Edition, editionOf, effective, Job, jobOf, Valid, tasks, processors, bottleneck, ideal, totalWeight}
 use Rattle.chain.specs.Probe.{walk}
 use Rattle.chain.specs.Bidding.{bidding}
 use Rattle.chain.specs.Plan.{MethodEnds, BiddingEnds, BisectionEnds, NicolEnds, planOf, allowance, countBy, imbalance}
@@ -31,6 +31,7 @@ use Rattle.refusals.specs.declared.Chosen.the-variants.{Known, Unknown}
 use Rattle.refusals.specs.Methods.{chosenOf}
 use Rattle.refusals.specs.Inputs.{scratchNeeded, planLists, planInputs}
 use Rattle.refusals.specs.Answers.{lentAfter}
+use Rattle.refusals.proofs.Editions.{edition-effective}
 use Rattle.refusals.proofs.Methods.{known-passes, unknown-fails}
 use Rattle.refusals.proofs.Tests.{plan-known, plan-unknown}
 use Rattle.refusals.proofs.Lent.{lent-front, lent-kept}
@@ -88,14 +89,14 @@ pub last-sum : {job : Job} {xs : List ℕ} {t : ℕ} → Prefix job xs → t ≡
 last-sum {job} p e = e ∙ p .sums (tasks job) (omega arith) ∙ weight-all job
 
 -- The figures of the plan, one by one.
-pub figures-are : (job : Job) (m : Method) {n a i : ℕ} {B : Bound} → n ≡ countBy m job → a ≡ allowance m job → B ≡ bottleneck job (planOf job) → i ≡ imbalance job B
-    → _≡_ {A = Figures} (record { count = n; allowance = a; bottleneck = B; imbalance = i }) (planFigures m job)
+pub figures-are : (edition : Edition) (job : Job) (m : Method) {n a i : ℕ} {B : Bound} → n ≡ countBy m job → a ≡ allowance edition m job → B ≡ bottleneck job (planOf job) → i ≡ imbalance job B
+    → _≡_ {A = Figures} (record { count = n; allowance = a; bottleneck = B; imbalance = i }) (planFigures edition m job)
 unfolding planFigures
-figures-are job m {n} {a} {i} {B} e f g h =
+figures-are edition job m {n} {a} {i} {B} e f g h =
     ap (λ (x : ℕ). record { count = x; allowance = a; bottleneck = B; imbalance = i }) e
     ∙ ap (λ (x : ℕ). record { count = countBy m job; allowance = x; bottleneck = B; imbalance = i }) f
-    ∙ ap (λ (x : ℕ). record { count = countBy m job; allowance = allowance m job; bottleneck = B; imbalance = x }) h
-    ∙ ap (λ (x : Bound). record { count = countBy m job; allowance = allowance m job; bottleneck = x; imbalance = imbalance job x }) g
+    ∙ ap (λ (x : ℕ). record { count = countBy m job; allowance = allowance edition m job; bottleneck = B; imbalance = x }) h
+    ∙ ap (λ (x : Bound). record { count = countBy m job; allowance = allowance edition m job; bottleneck = x; imbalance = imbalance job x }) g
 
 -- Prefix sums put in front of the work numbers: what is behind all of them stays.
 pub summed-kept : (job : Job) (xs : List ℕ) {ys : List ℕ} → ys ≡ prefixes (job .weights) ++ drop (suc (tasks job)) xs → scratchNeeded job ≤ length xs
@@ -138,19 +139,19 @@ scratch-stays : (number : ℕ) (job : Job) (t : List ℕ) → ScratchAfter numbe
 scratch-stays number job t = record { refused = λ h. refl; behind = kept-start (scratchNeeded job) t }
 
 -- What planning by a method answers and leaves.
-module _ (job : Job) (method : Method) (s t : List ℕ) where
+module _ (edition : Edition) (job : Job) (method : Method) (s t : List ℕ) where
   abbrev pub ByMethod : Planned → List ℕ → List ℕ → Type 0
   ByMethod r s′ t′ =
-      (r ≡ methodAnswer job method s t) × ((s′ ≡ methodWrites job s t) × ScratchAfter (listsRefusal job (length s) (length t)) job t t′)
+      (r ≡ methodAnswer edition job method s t) × ((s′ ≡ methodWrites job s t) × ScratchAfter (listsRefusal job (length s) (length t)) job t t′)
 
   pub method-refused : {n : ℕ} → n ≡ listsRefusal job (length s) (length t) → n ≢ 0 → ByMethod (Refused n) s t
   unfolding methodAnswer methodWrites
   method-refused e h = (
-    planned-refused (planFigures method job) e h,
+    planned-refused (planFigures edition method job) e h,
     (lent-kept (planOf job) s e h, scratch-stays (listsRefusal job (length s) (length t)) job t),
   )
 
-  pub method-accepted : listsRefusal job (length s) (length t) ≡ 0 → Valid job → {f : Figures} {s′ t′ : List ℕ} → f ≡ planFigures method job
+  pub method-accepted : listsRefusal job (length s) (length t) ≡ 0 → Valid job → {f : Figures} {s′ t′ : List ℕ} → f ≡ planFigures edition method job
       → s′ ≡ planOf job ++ drop (suc (processors job)) s → KeptFrom (scratchNeeded job) t t′ → ByMethod (Accepted f) s′ t′
   unfolding methodAnswer methodWrites
   method-accepted z v e g k = (
@@ -159,27 +160,36 @@ module _ (job : Job) (method : Method) (s t : List ℕ) where
   )
 
 -- The same by the number of the method.
-module _ (job : Job) (m : ℕ) (s t : List ℕ) where
+module _ (edition : Edition) (job : Job) (m : ℕ) (s t : List ℕ) where
   abbrev pub ByNumber : Planned → List ℕ → List ℕ → Type 0
   ByNumber r s′ t′ =
-      (r ≡ planAnswer job m s t) × ((s′ ≡ planWrites job m s t) × ScratchAfter (planRefusal job m (length s) (length t)) job t t′)
+      (r ≡ planAnswer edition job m s t) × ((s′ ≡ planWrites job m s t) × ScratchAfter (planRefusal job m (length s) (length t)) job t t′)
 
   pub number-unknown : chosenOf m ≡ Unknown → ByNumber (Refused 1) s t
   unfolding planAnswer planWrites planRefusal chosenAnswer
   number-unknown e =
       let r : 1 ≡ refusal job (planInputs job m (length s) (length t)) = plan-unknown job m (length s) (length t) (unknown-fails m e) in (
-        ap Refused r ∙ sym (ap (λ (c : Chosen). chosenAnswer job c (refusal job (planInputs job m (length s) (length t)))) e),
+        ap Refused r ∙ sym (ap (λ (c : Chosen). chosenAnswer edition job c (refusal job (planInputs job m (length s) (length t)))) e),
         (
           lent-kept (planOf job) s r (λ z. omega arith),
           scratch-stays (refusal job (planInputs job m (length s) (length t))) job t,
         ),
       )
 
-  pub number-known : {k : Method} → chosenOf m ≡ Known k → {r : Planned} {s′ t′ : List ℕ} → ByMethod job k s t r s′ t′ → ByNumber r s′ t′
+  pub number-known : {k : Method} → chosenOf m ≡ Known k → {r : Planned} {s′ t′ : List ℕ} → ByMethod edition job k s t r s′ t′ → ByNumber r s′ t′
   unfolding planAnswer planWrites planRefusal methodAnswer methodWrites listsRefusal chosenAnswer
   number-known {k} e {r} {s′} {t′} (a, (b, c)) =
       let z : refusal job (planLists job (length s) (length t)) ≡ refusal job (planInputs job m (length s) (length t)) = plan-known job m (length s) (length t) (known-passes m e) refl in (
-        a ∙ ap (λ (n : ℕ). plannedOf n (planFigures k job)) z
-            ∙ sym (ap (λ (c : Chosen). chosenAnswer job c (refusal job (planInputs job m (length s) (length t)))) e),
+        a ∙ ap (λ (n : ℕ). plannedOf n (planFigures edition k job)) z
+            ∙ sym (ap (λ (c : Chosen). chosenAnswer edition job c (refusal job (planInputs job m (length s) (length t)))) e),
         (b ∙ ap (λ (n : ℕ). lentAfter n (planOf job) s) z, subst (λ (n : ℕ). ScratchAfter n job t t′) z c),
       )
+
+-- With the start-up work that counts.
+pub number-effective : (second : Bool) (c : ℕ) (es ws : List ℕ) (m : ℕ) (s t : List ℕ) {n : ℕ} {r : Planned} {s′ t′ : List ℕ}
+    → n ≡ effective second c → ByNumber (editionOf second n) (jobOf n es ws) m s t r s′ t′
+    → ByNumber (editionOf second c) (jobOf (effective second c) es ws) m s t r s′ t′
+number-effective second c es ws m s t {n} {r} {s′} {t′} e x =
+    let y : ByNumber (editionOf second (effective second c)) (jobOf (effective second c) es ws) m s t r s′ t′ =
+    subst (λ (k : ℕ). ByNumber (editionOf second k) (jobOf k es ws) m s t r s′ t′) e x in
+    (y .0 ∙ ap (λ (d : Edition). planAnswer d (jobOf (effective second c) es ws) m s t) (edition-effective second c), y .1)

@@ -7,14 +7,14 @@ use mathlib.Core.Logic.{_≢_, _↔_}
 use native.Mathlib.Omega.{arith}
 use lib.ListN.{length, drop}
 use Rattle.chain.specs.Lists.{sumTo}
-use Rattle.chain.specs.Job.{Job, Valid, processors, totalWeight}
+use Rattle.chain.specs.Job.{Edition, Job, Valid, processors, totalWeight, busy}
 use Rattle.chain.specs.Refusal.{methodTest, startupTest, speedsTest, weightsTest, processorsTest, tasksTest, lengthTest, FirstFailing, jobTests, callTests, refusal}
 use Rattle.chain.specs.Plan.{planOf}
 use Rattle.chain.proofs.Demand.{plan-of-best}
 use Rattle.chain.proofs.Parts.{valid-plannable}
 use Rattle.chain.proofs.Refusals.{Numbered, numbered-nil, numbered-cons, numbered-append, gives, given-number, numbers-append, numbers-more, append-accepted}
 use Rattle.fields.specs.Field.{fieldAt}
-use Rattle.jobs.specs.Parse.{jobIn, fileTests, fileRefusal}
+use Rattle.jobs.specs.Parse.{startupIn, jobIn, fileTests, fileRefusal}
 use Rattle.jobs.proofs.Calls.{file-numbered}
 use Rattle.jobs.proofs.Promises.{fromTwo, file-in}
 use Rattle.jobs.proofs.RoundTrip.{accepted-valid}
@@ -27,20 +27,20 @@ use Rattle.planner.specs.Answers.{plannedSaid, planRefusal, planAnswer}
 use Rattle.planner.proofs.Promises.{plan-number}
 use Rattle.planner.specs.HostCall.{hostFileTests, hostTests, hostAnswer, bytesAfter, hostWrites}
 
--- Planning: 0, or one of 1 and 5 to 9; that of the first test that fails.
-module _ (job : Job) (m : ℕ) (s t : List ℕ) where
-  pub plan-numbers : List·Memᴰ ((plannedSaid (planAnswer job m s t)) .number) (0 ∷ 1 ∷ 16 ∷ 5 ∷ 6 ∷ 7 ∷ 8 ∷ 9 ∷ [])
+-- Planning: 0, or one of 1, 16 and 5 to 9; that of the first test that fails.
+module _ (edition : Edition) (job : Job) (m : ℕ) (s t : List ℕ) where
+  pub plan-numbers : List·Memᴰ ((plannedSaid (planAnswer edition job m s t)) .number) (0 ∷ 1 ∷ 16 ∷ 5 ∷ 6 ∷ 7 ∷ 8 ∷ 9 ∷ [])
   unfolding planRefusal refusal callTests jobTests methodTest startupTest speedsTest weightsTest processorsTest tasksTest lengthTest
-  plan-numbers = given-number (1 ∷ 16 ∷ 5 ∷ 6 ∷ 7 ∷ 8 ∷ 9 ∷ []) (callTests job (planInputs job m (length s) (length t))) (plan-number job m s t) tt
+  plan-numbers = given-number (1 ∷ 16 ∷ 5 ∷ 6 ∷ 7 ∷ 8 ∷ 9 ∷ []) (callTests job (planInputs job m (length s) (length t))) (plan-number edition job m s t) tt
 
   pub plan-gives : {n : ℕ} → n ≢ 0
-      → ((plannedSaid (planAnswer job m s t)) .number ≡ n) ↔ FirstFailing (callTests job (planInputs job m (length s) (length t))) n
+      → ((plannedSaid (planAnswer edition job m s t)) .number ≡ n) ↔ FirstFailing (callTests job (planInputs job m (length s) (length t))) n
   unfolding planRefusal refusal
-  plan-gives h = gives (callTests job (planInputs job m (length s) (length t))) (plan-number job m s t) h
+  plan-gives h = gives (callTests job (planInputs job m (length s) (length t))) (plan-number edition job m s t) h
 
--- The C call: 0, or one of 1 to 9; that of the first test that fails.
+-- The C call: 0, or one of 1 to 9, 15 and 16; that of the first test that fails.
 module _ (file : List ℕ) (m lent : ℕ) where
-  pub host-numbers : List·Memᴰ (hostAnswer file m lent) (0 ∷ 1 ∷ 2 ∷ 3 ∷ 4 ∷ 5 ∷ 6 ∷ 7 ∷ 8 ∷ 9 ∷ [])
+  pub host-numbers : List·Memᴰ (hostAnswer file m lent) (0 ∷ 1 ∷ 2 ∷ 3 ∷ 4 ∷ 15 ∷ 5 ∷ 6 ∷ 16 ∷ 7 ∷ 8 ∷ 9 ∷ [])
   unfolding hostAnswer hostTests hostFileTests methodTest lengthTest
   host-numbers =
       given-number (1 ∷ fromTwo) (hostTests file m lent) refl
@@ -77,9 +77,11 @@ host-file file m lent e =
 pub host-valid : (file : List ℕ) (m lent : ℕ) → hostAnswer file m lent ≡ 0 → Valid (jobIn file)
 host-valid file m lent e = accepted-valid file (host-file file m lent e)
 
--- Scope 7.8: "The loads of a plan file add up to Wtot." As they are read from the buffer after the C call.
+-- Scope 17.7: "The loads of a plan file add up to Wtot and c for each machine that has tiles." As they are read from the buffer after the C
+-- call.
 pub host-loads-add-up : (file plan : List ℕ) (m : ℕ) → hostAnswer file m (length plan) ≡ 0
-    → sumTo (λ p. fieldAt (hostWrites file m plan) (16 * p + 8)) (processors (jobIn file)) ≡ totalWeight (jobIn file)
+    → sumTo (λ p. fieldAt (hostWrites file m plan) (16 * p + 8)) (processors (jobIn file))
+    ≡ totalWeight (jobIn file) + startupIn file * busy (jobIn file) (planOf (jobIn file))
 unfolding hostWrites bytesAfter
 host-loads-add-up file plan m e =
     let v = host-valid file m (length plan) e in

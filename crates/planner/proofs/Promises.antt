@@ -11,7 +11,7 @@ use lib.ListN.{length, take, drop}
 use lib.Seq.{drop-at}
 use Rattle.chain.specs.declared.Method.{Method}
 use Rattle.bound.specs.Order.{times, _≼_, _≈_}
-use Rattle.chain.specs.Job.{Job, Valid, processors, totalWeight, boundAt, bottleneck, ideal}
+use Rattle.chain.specs.Job.{Edition, OfEdition, Job, Valid, processors, totalWeight, boundAt, bottleneck, ideal}
 use Rattle.chain.specs.Plan.{planOf, Best, MethodEnds, countBy, foundBy, Plan, PlanBy}
 use Rattle.chain.proofs.Parts.{valid-plannable}
 use Rattle.chain.proofs.Demand.{method-is, method-allowed, plan-of-best}
@@ -58,70 +58,72 @@ planWith job f =
     record { separators = planOf job; count = f .count; allowed = f .allowance; bound = f .bottleneck; excess = f .imbalance }
 
 module _ (job : Job) (m : ℕ) (s t : List ℕ) where
+  -- A refusal leaves the separators as they were.
+  pub plan-keeps : planRefusal job m (length s) (length t) ≢ 0 → planWrites job m s t ≡ s
+  unfolding planWrites
+  plan-keeps h = lent-refused h (planOf job) s
+
+  -- Where nothing refuses it, the job is within the limits.
+  pub plan-valid : planRefusal job m (length s) (length t) ≡ 0 → Valid job
+  unfolding planRefusal
+  plan-valid z = (accepted z) .valid
+
+-- Of a job of this edition.
+module _ (edition : Edition) (job : Job) (m : ℕ) (s t : List ℕ) where
   -- The answer says the figures by the method, or the refusal's number.
-  pub plan-said : plannedSaid (planAnswer job m s t) ≡ saidBy (planRefusal job m (length s) (length t)) (chosenValues job (chosenOf m))
+  pub plan-said : plannedSaid (planAnswer edition job m s t) ≡ saidBy (planRefusal job m (length s) (length t)) (chosenValues edition job (chosenOf m))
   unfolding planAnswer chosenAnswer
   plan-said = go (chosenOf m)
     where
-      go : (c : Chosen) → plannedSaid (chosenAnswer job c (planRefusal job m (length s) (length t)))
-          ≡ saidBy (planRefusal job m (length s) (length t)) (chosenValues job c)
-      go (Known method) = planned-said (planRefusal job m (length s) (length t)) (planFigures method job)
+      go : (c : Chosen) → plannedSaid (chosenAnswer edition job c (planRefusal job m (length s) (length t)))
+          ≡ saidBy (planRefusal job m (length s) (length t)) (chosenValues edition job c)
+      go (Known method) = planned-said (planRefusal job m (length s) (length t)) (planFigures edition method job)
       go Unknown = said-nothing (planRefusal job m (length s) (length t))
 
-  pub plan-number : (plannedSaid (planAnswer job m s t)) .number ≡ planRefusal job m (length s) (length t)
-  plan-number = number-of (chosenValues job (chosenOf m)) plan-said
+  pub plan-number : (plannedSaid (planAnswer edition job m s t)) .number ≡ planRefusal job m (length s) (length t)
+  plan-number = number-of (chosenValues edition job (chosenOf m)) plan-said
 
   -- A refusal is given with a number, and only where a test fails;
-  pub plan-refused : {n : ℕ} → planAnswer job m s t ≡ Refused n → (n ≡ planRefusal job m (length s) (length t)) × (n ≢ 0)
+  pub plan-refused : {n : ℕ} → planAnswer edition job m s t ≡ Refused n → (n ≡ planRefusal job m (length s) (length t)) × (n ≢ 0)
   unfolding planAnswer chosenAnswer planRefusal
   plan-refused {n} e = (is, λ z. go (chosenOf m) refl e (sym is ∙ z))
     where
       is : n ≡ planRefusal job m (length s) (length t)
       is = sym (ap (λ (r : Planned). (plannedSaid r) .number) e) ∙ plan-number
 
-      go : (c : Chosen) → chosenOf m ≡ c → chosenAnswer job c (planRefusal job m (length s) (length t)) ≡ Refused n
+      go : (c : Chosen) → chosenOf m ≡ c → chosenAnswer edition job c (planRefusal job m (length s) (length t)) ≡ Refused n
           → planRefusal job m (length s) (length t) ≡ 0 → ⊥
-      go (Known k) x h z = planned-rejected (planFigures k job) h z
+      go (Known k) x h z = planned-rejected (planFigures edition k job) h z
       go Unknown x h z =
           let y : 1 ≡ planRefusal job m (length s) (length t) = plan-unknown job m (length s) (length t) (unknown-fails m x) in
           omega (arith, y, z)
 
   -- where none fails, the call is accepted.
-  pub plan-accepted : planRefusal job m (length s) (length t) ≡ 0 → (f : Figures) × (planAnswer job m s t ≡ Accepted f)
-  plan-accepted z = go (planAnswer job m s t) refl
+  pub plan-accepted : planRefusal job m (length s) (length t) ≡ 0 → (f : Figures) × (planAnswer edition job m s t ≡ Accepted f)
+  plan-accepted z = go (planAnswer edition job m s t) refl
     where
-      go : (r : Planned) → planAnswer job m s t ≡ r → (f : Figures) × (planAnswer job m s t ≡ Accepted f)
+      go : (r : Planned) → planAnswer edition job m s t ≡ r → (f : Figures) × (planAnswer edition job m s t ≡ Accepted f)
       go (Accepted f) e = (f, e)
       go (Refused n) e = let r = plan-refused e in absurd (r .1 (r .0 ∙ z))
-
-  -- A refusal leaves the separators as they were.
-  pub plan-keeps : planRefusal job m (length s) (length t) ≢ 0 → planWrites job m s t ≡ s
-  unfolding planWrites
-  plan-keeps h = lent-refused h (planOf job) s
 
   -- An accepted call: nothing refuses it, its number is a method's, and the figures are that method's.
   pub record Given (f : Figures) : Type 0 where
     pub none : planRefusal job m (length s) (length t) ≡ 0
     pub method : Method
     pub chosen : chosenOf m ≡ Known method
-    pub figures : f ≡ planFigures method job
+    pub figures : f ≡ planFigures edition method job
 
-  pub given : {f : Figures} → planAnswer job m s t ≡ Accepted f → Given f
+  pub given : {f : Figures} → planAnswer edition job m s t ≡ Accepted f → Given f
   unfolding planAnswer chosenAnswer
   given {f} e = go (chosenOf m) refl e
     where
-      go : (c : Chosen) → chosenOf m ≡ c → chosenAnswer job c (planRefusal job m (length s) (length t)) ≡ Accepted f → Given f
+      go : (c : Chosen) → chosenOf m ≡ c → chosenAnswer edition job c (planRefusal job m (length s) (length t)) ≡ Accepted f → Given f
       go (Known k) x h = let p = planned-figures {n = planRefusal job m (length s) (length t)} h in record { none = p .0; method = k; chosen = x; figures = p .1 }
       go Unknown x h = let z : _≡_ {A = ℕ} 0 1 = cc in absurd (let y : ⊥ = omega arith in y)
 
-  -- The job is then within the limits.
-  pub plan-valid : planRefusal job m (length s) (length t) ≡ 0 → Valid job
-  unfolding planRefusal
-  plan-valid z = (accepted z) .valid
-
-  module _ {f : Figures} (e : planAnswer job m s t ≡ Accepted f) where
+  module _ {f : Figures} (e : planAnswer edition job m s t ≡ Accepted f) where
     valid : Valid job
-    valid = plan-valid (given e .none)
+    valid = plan-valid job m s t (given e .none)
 
     -- No division has a smaller bottleneck; of an equal one each separator is at or before.
     pub accepted-best : Best job (planOf job)
@@ -135,11 +137,11 @@ module _ (job : Job) (m : ℕ) (s t : List ℕ) where
         (method-is (valid-plannable valid) (given e .method))
 
     -- The plan is the method's, with every figure.
-    pub accepted-plan : PlanBy (given e .method) job (planWith job f)
+    pub accepted-plan : PlanBy edition (given e .method) job (planWith job f)
     unfolding planFigures
     accepted-plan =
         let is = method-is (valid-plannable valid) (given e .method) in
-        subst (λ (g : Figures). PlanBy (given e .method) job (planWith job g)) (sym (given e .figures))
+        subst (λ (g : Figures). PlanBy edition (given e .method) job (planWith job g)) (sym (given e .figures))
         (record {
           found = foundBy (given e .method) job;
           ended = is;
@@ -150,11 +152,11 @@ module _ (job : Job) (m : ℕ) (s t : List ℕ) where
         })
 
     -- The count is within the allowance.
-    pub accepted-count : f .count ≤ f .allowance
+    pub accepted-count : OfEdition edition job → f .count ≤ f .allowance
     unfolding planFigures
-    accepted-count =
+    accepted-count of =
         subst (λ (g : Figures). g .count ≤ g .allowance) (sym (given e .figures))
-        (method-allowed (valid-plannable valid) (given e .method) (countBy (given e .method) job) (foundBy (given e .method) job)
+        (method-allowed (valid-plannable valid) of (given e .method) (countBy (given e .method) job) (foundBy (given e .method) job)
         (method-is (valid-plannable valid) (given e .method)))
 
     -- The imbalance is 0 where nothing weighs;
@@ -198,7 +200,7 @@ module _ (job : Job) (m : ℕ) (s t : List ℕ) where
         ap (drop (suc (processors job))) accepted-written
         ∙ drop-at (planOf job) (drop (suc (processors job)) s) (suc (processors job)) (plan-length valid)
 
--- Any two accepted calls for a job, by whichever methods and with whichever lists, write the same separators.
-pub same-separators : (job : Job) (m k : ℕ) (s t s′ t′ : List ℕ) {f g : Figures} → planAnswer job m s t ≡ Accepted f → planAnswer job k s′ t′ ≡ Accepted g
+-- Any two accepted calls for a job, by whichever methods and with whichever lists, write the same separators, of either edition.
+pub same-separators : (d e : Edition) (job : Job) (m k : ℕ) (s t s′ t′ : List ℕ) {f g : Figures} → planAnswer d job m s t ≡ Accepted f → planAnswer e job k s′ t′ ≡ Accepted g
     → take (suc (processors job)) (planWrites job m s t) ≡ take (suc (processors job)) (planWrites job k s′ t′)
-same-separators job m k s t s′ t′ e h = accepted-separators job m s t e ∙ sym (accepted-separators job k s′ t′ h)
+same-separators d e job m k s t s′ t′ x y = accepted-separators d job m s t x ∙ sym (accepted-separators e job k s′ t′ y)

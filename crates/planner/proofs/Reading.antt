@@ -79,8 +79,8 @@ unfolding bytesAfter
 bytes-stay file plan e h = lent-kept (planBytes (jobIn file) (planOf (jobIn file))) plan e h
 
 -- The job that was read is the file's, and what the call answers and writes is by its definition.
-module _ {file es ws : List ℕ} {p n : ℕ} (w : Taken file es ws p n) where
-  pub file-done : {plan later : List ℕ} {k : ℕ} → Host (jobOf (take p es) (take n ws)) plan later k
+module _ {file es ws : List ℕ} {second : Bool} {startup p n : ℕ} (w : Taken file es ws second startup p n) where
+  pub file-done : {plan later : List ℕ} {k : ℕ} → Host (jobOf startup (take p es) (take n ws)) plan later k
       → (k ≡ fileAnswer file (length plan)) × (later ≡ fileWrites file plan)
   unfolding fileWrites bytesAfter
   file-done {plan} {later} {k} h = (is-k, g .filled ∙ ap (λ (j : ℕ). lentAfter j (planBytes (jobIn file) (planOf (jobIn file))) plan) is-k)

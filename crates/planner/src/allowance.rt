@@ -71,12 +71,14 @@ fn bidding_allowance(second: bool, last: usize, most: usize) -> u32
     requires { ⌜ most + 1 < 2 ^ 32 ⌝ }
     ensures { λ r. ⌜ r ≡ cond (second && eqb last 0) 2 (most + 1) ⌝ }
 {
-    if second {
-        if last == 0 {
-            return 2;
-        }
+    let trials = (most + 1) as u32;
+    if !second {
+        return trials;
     }
-    (most + 1) as u32
+    if last == 0 {
+        return 2;
+    }
+    trials
 }
 
 // The allowance of a method. Inner: the job is within the limits.

@@ -2,7 +2,7 @@
 -- Assumes nothing.
 use mathlib.Core.Path.{_≡_}
 use Rattle.bound.specs.declared.Bound.{Bound}
-use Rattle.chain.specs.Job.{Job, jobOf, bottleneck}
+use Rattle.chain.specs.Job.{editionOf, Job, jobOf, bottleneck}
 use Rattle.chain.specs.Plan.{planOf}
 use Rattle.chain.proofs.Parts.{valid-plannable}
 use Rattle.chain.proofs.Demand.{method-unique, plan-of-best}
@@ -60,7 +60,7 @@ returns c =
     let w = c .before .before .before .before .before .before .before .before .close-walk .ensures in
     let b : c .before .before .before .before .measure-in .result ≡ bottleneck job (planOf job) =
     front-bottleneck (planOf job) _ (plan-of-best (valid-plannable v) .partition) w (c .before .before .before .before .measure-in .ensures .1) in
-    (figures-are job (s .args .method) (method-unique (valid-plannable v) (s .args .method) (s .args .found .count) (s .args .found .bound) (s .pre .1 .1 .0)) (c .before .allowance-of .ensures) b (c .imbalance-of .ensures), w)
+    (figures-are (editionOf (s .args .second) (s .args .startup)) job (s .args .method) (method-unique (valid-plannable v) (s .args .method) (s .args .found .count) (s .args .found .bound) (s .pre .1 .1 .0)) (c .before .allowance-of .ensures) b (c .imbalance-of .ensures), w)
 
 pub close-plan-spec : {M : Type 1} → statement M
 close-plan-spec =

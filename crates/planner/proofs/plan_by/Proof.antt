@@ -2,7 +2,7 @@
 -- Assumes nothing.
 use mathlib.Core.Path.{sym, _∙_}
 use native.Mathlib.Omega.{arith}
-use Rattle.chain.specs.Job.{Job, jobOf}
+use Rattle.chain.specs.Job.{editionOf, Job, jobOf}
 use Rattle.refusals.proofs.Accepted.{accepted, passed}
 use Rattle.planner.specs.Answers.{listsRefusal}
 use Rattle.planner.proofs.Laws.{method-refused, method-accepted}
@@ -21,7 +21,7 @@ returns : tie.Need-returns
 unfolding listsRefusal
 returns c =
     let s = c .before .before .before .before .before .before in
-    method-refused (job-at s) (s .args .method) (s .args .separators .now) (s .args .scratch .now) ((c .before .test-plan) .ensures) (λ z. let y : ⊥ = omega (arith, c .if1 .taken) in y)
+    method-refused (editionOf (s .args .second) (s .args .startup)) (job-at s) (s .args .method) (s .args .separators .now) (s .args .scratch .now) ((c .before .test-plan) .ensures) (λ z. let y : ⊥ = omega (arith, c .if1 .taken) in y)
 
 plan-in-requires : tie.Need-plan-in-requires
 plan-in-requires c κs =
@@ -40,7 +40,7 @@ returns-2 c =
     let s = c .before .before .before .before .before .before .before .before .before .before .before .before .before in
     let z = sym ((c .before .before .before .before .before .before .before .before .test-plan) .ensures) ∙ (c .before .before .before .before .before .before .before .if1) .left in
     let p = (c .before .before .before .before .plan-in) .ensures in
-    method-accepted (job-at s) (s .args .method) (s .args .separators .now) (s .args .scratch .now) z (accepted z .valid) (p .0) (p .1 .0) (p .1 .1 .0)
+    method-accepted (editionOf (s .args .second) (s .args .startup)) (job-at s) (s .args .method) (s .args .separators .now) (s .args .scratch .now) z (accepted z .valid) (p .0) (p .1 .0) (p .1 .1 .0)
 
 pub plan-by-spec : {M : Type 1} → statement M
 plan-by-spec =

@@ -40,8 +40,8 @@ sub-excess c =
     let s = c .before .before .before .before .before .before .before in
     no-less (known (s .pre .0) (s .pre .1) (c .before .before .before .before .total .ensures))
 
-mul-t10 : tie.Need-mul-t10
-mul-t10 c =
+mul-t11 : tie.Need-mul-t11
+mul-t11 c =
     let s = c .before .before .before .before .before .before .before in
     omega (arith, excess-fits (known (s .pre .0) (s .pre .1) (c .before .before .before .before .total .ensures)))
 
@@ -66,6 +66,6 @@ imbalance-of-spec =
     mul-ideal
     mul-excess
     sub-excess
-    mul-t10
+    mul-t11
     rounded-up-requires
     returns-2)
