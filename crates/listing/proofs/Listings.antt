@@ -11,14 +11,14 @@ use lib.Seq.{take-all}
 use borrow.Author.Tests.{ne-eqb}
 use mathlib.Core.Bool.{Bool, cond}
 use Rattle.chain.specs.declared.Method.{Method}
-use Rattle.chain.specs.Job.{Job, Valid, processors}
+use Rattle.chain.specs.Job.{Edition, Job, Valid, processors}
 use Rattle.chain.specs.Plan.{planOf}
 use Rattle.refusals.specs.Methods.{numberOf}
 use Rattle.refusals.specs.declared.Written.{Written}
 use Rattle.refusals.specs.Answers.{writtenOf}
 use Rattle.refusals.proofs.Tests.{length-short}
 use Rattle.refusals.proofs.Answering.{wrote-refused, wrote-all}
-use Rattle.jobs.specs.Parse.{jobIn, fileRefusal}
+use Rattle.jobs.specs.Parse.{editionIn, jobIn, fileRefusal}
 use Rattle.parts.proofs.Front.{taken}
 use Rattle.planner.specs.declared.Figures.{Figures}
 use Rattle.planner.specs.Answers.{planFigures}
@@ -31,23 +31,23 @@ use Rattle.listing.specs.Answers.{listTests, listRefusal, listAnswer, li
 use Rattle.texts.proofs.Laws.{put-as, put-front}
 
 -- The line of a method, from its plan's figures and a list with the plan's separators in front.
-pub method-put : (method : Method) {job : Job} (v : Valid job) {m : ℕ} {f : Figures} (l : List ℕ) {s o o₁ : List ℕ} {a n : ℕ} → m ≡ numberOf method
-    → f ≡ planFigures method job → s ≡ planOf job ++ l → Put (planLine m f (take (processors job + 1) s)) a o o₁ n → Put (methodLine method job) a o o₁ n
+pub method-put : (edition : Edition) (method : Method) {job : Job} (v : Valid job) {m : ℕ} {f : Figures} (l : List ℕ) {s o o₁ : List ℕ} {a n : ℕ} → m ≡ numberOf method
+    → f ≡ planFigures edition method job → s ≡ planOf job ++ l → Put (planLine m f (take (processors job + 1) s)) a o o₁ n → Put (methodLine edition method job) a o o₁ n
 unfolding methodLine
-method-put method {job} v {m} {f} l {s} e g h p =
+method-put edition method {job} v {m} {f} l {s} e g h p =
     let next : processors job + 1 ≡ suc (processors job) = omega arith in
     let front : take (processors job + 1) s ≡ planOf job = taken (planOf job) l (plan-length v ∙ sym next) h in
-    put-as (ap₂ (λ (k : ℕ) (x : Figures). planLine k x (take (processors job + 1) s)) e g ∙ ap (planLine (numberOf method) (planFigures method job)) front) p
+    put-as (ap₂ (λ (k : ℕ) (x : Figures). planLine k x (take (processors job + 1) s)) e g ∙ ap (planLine (numberOf method) (planFigures edition method job)) front) p
 
 -- The listing of a file that is read, and of one that is refused.
-pub listed-read : (file : List ℕ) {job : Job} → fileRefusal file ≡ 0 → job ≡ jobIn file → jobListing job ≡ listingOf (fileRefusal file) file
+pub listed-read : (file : List ℕ) {edition : Edition} {job : Job} → fileRefusal file ≡ 0 → edition ≡ editionIn file → job ≡ jobIn file → jobListing edition job ≡ listingOf (fileRefusal file) file
 unfolding listingOf
-listed-read file {job} e f = ap jobListing f ∙ sym (ap (λ (k : ℕ). listingOf k file) e)
+listed-read file {edition} {job} e d f = ap₂ jobListing d f ∙ sym (ap (λ (k : ℕ). listingOf k file) e)
 
 pub listed-refused : (file : List ℕ) {k : ℕ} → k ≡ fileRefusal file → k ≢ 0 → refusalLine k ≡ listingOf (fileRefusal file) file
 unfolding listingOf
 listed-refused file {k} e h =
-    sym (ap (λ (b : Bool). cond b (jobListing (jobIn file)) (refusalLine k)) (ne-eqb k 0 h)) ∙ ap (λ (j : ℕ). listingOf j file) e
+    sym (ap (λ (b : Bool). cond b (jobListing (editionIn file) (jobIn file)) (refusalLine k)) (ne-eqb k 0 h)) ∙ ap (λ (j : ℕ). listingOf j file) e
 
 -- A file that is not too long is listed whole.
 pub listed-whole : (file : List ℕ) → length file ≤ intake → listingOf (fileRefusal file) file ≡ listing file

@@ -22,7 +22,7 @@ use Rattle.refusals.proofs.Lent.{lent-refused, lent-front}
 use Rattle.refusals.proofs.Methods.{known-passes, number-chosen}
 use Rattle.refusals.proofs.Tests.{length-enough, heuristic-list, plan-scratch, plan-known}
 use Rattle.parts.proofs.Front.{taken}
-use Rattle.jobs.specs.Parse.{jobIn, fileRefusal}
+use Rattle.jobs.specs.Parse.{editionIn, jobIn, fileRefusal}
 use Rattle.jobs.proofs.RoundTrip.{accepted-valid}
 use Rattle.planner.specs.declared.Planned.the-variants.{Accepted}
 use Rattle.planner.specs.Answers.{planRefusal, planFigures, plannedOf, chosenAnswer, planAnswer, planWrites}
@@ -44,18 +44,18 @@ module _ (file : List ℕ) (read : fileRefusal file ≡ 0) (method : Method) (s 
       (plan-scratch job (length s) (length t) list refl (length-enough (5 * (tasks job + 1)) (length t) (omega arith))))
 
   -- the call answers with the figures of the method's line,
-  pub read-accepted : planAnswer (jobIn file) (numberOf method) s t ≡ Accepted (planFigures method (jobIn file))
+  pub read-accepted : planAnswer (editionIn file) (jobIn file) (numberOf method) s t ≡ Accepted (planFigures (editionIn file) method (jobIn file))
   unfolding planAnswer chosenAnswer plannedOf
   read-accepted =
-      ap (λ (c : Chosen). chosenAnswer (jobIn file) c (planRefusal (jobIn file) (numberOf method) (length s) (length t))) (number-chosen method)
-      ∙ ap (λ (n : ℕ). plannedOf n (planFigures method (jobIn file))) read-planned
+      ap (λ (c : Chosen). chosenAnswer (editionIn file) (jobIn file) c (planRefusal (jobIn file) (numberOf method) (length s) (length t))) (number-chosen method)
+      ∙ ap (λ (n : ℕ). plannedOf n (planFigures (editionIn file) method (jobIn file))) read-planned
 
   -- and leaves its separators.
-  pub read-line : methodLine method (jobIn file)
-      ≡ planLine (numberOf method) (planFigures method (jobIn file)) (take (suc (processors (jobIn file))) (planWrites (jobIn file) (numberOf method) s t))
+  pub read-line : methodLine (editionIn file) method (jobIn file)
+      ≡ planLine (numberOf method) (planFigures (editionIn file) method (jobIn file)) (take (suc (processors (jobIn file))) (planWrites (jobIn file) (numberOf method) s t))
   unfolding methodLine
   read-line =
-      ap (planLine (numberOf method) (planFigures method (jobIn file))) (sym (accepted-separators (jobIn file) (numberOf method) s t read-accepted))
+      ap (planLine (numberOf method) (planFigures (editionIn file) method (jobIn file))) (sym (accepted-separators (editionIn file) (jobIn file) (numberOf method) s t read-accepted))
 
 -- Scope 9.6: "judges a longer file by those bytes": what comes behind them is without effect.
 pub listing-taken : (file : List ℕ) → listing (take intake file) ≡ listing file

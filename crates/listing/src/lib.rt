@@ -110,6 +110,7 @@ fn list_method(
     let mut scratch = [0u32; SCRATCH];
     let figures = plan_in(
         method,
+        second,
         startup,
         speeds,
         weights,

@@ -70,7 +70,7 @@ returns : tie.Need-returns
 returns c =
     let r = c .before .before .before .before .before .before .before .before .before .before .before .read-job .ensures in
     let w = read-taken (c .before .before .before .before .before .before .before .before .before .before .before .before .before .before .before .before .args .file .now) _ _ (r .0) (c .before .before .before .before .before .before .before .read .given .1) (r .1 .0) (r .1 .1) in
-    (put-as (listed-read (c .before .before .before .before .before .before .before .before .before .before .before .before .before .before .before .before .args .file .now) (w .accepted) (taken-job w)) (c .before .before .list-job .ensures .0), omega arith)
+    (put-as (listed-read (c .before .before .before .before .before .before .before .before .before .before .before .before .before .before .before .before .args .file .now) (w .accepted) (w .edition) (taken-job w)) (c .before .before .list-job .ensures .0), omega arith)
 
 same-length-2 : tie.Need-same-length-2
 same-length-2 c = search needs

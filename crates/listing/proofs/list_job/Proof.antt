@@ -37,7 +37,7 @@ returns c =
     let s = c .before .before .before .before .before .before .before .before .before .before .before .before .before .before .before .before .before .before .before .before .before .before .before in
     let first = put-then (c .before .before .before .before .before .before .before .before .before .before .before .before .before .before .before .before .before .before .put-counts-line .ensures .0) (c .before .before .before .before .before .before .before .before .before .before .before .before .before .before .list-method .ensures .0) in
     let second = put-then first (c .before .before .before .before .before .before .before .before .before .before .list-method2 .ensures .0) in
-    (put-then (put-then second (c .before .before .before .before .before .before .list-method3 .ensures .0)) (c .before .before .list-method4 .ensures .0), omega (arith, s .pre .0 .processors-limit))
+    (put-then (put-then second (c .before .before .before .before .before .before .list-method3 .ensures .0)) (c .before .before .list-method4 .ensures .0), omega (arith, s .pre .0 .processors-limit, c .before .before .before .before .before .before .before .before .before .before .before .before .before .before .before .before .before .before .put-counts-line .ensures .1, c .before .before .before .before .before .before .before .before .before .before .before .before .before .before .list-method .ensures .1, c .before .before .before .before .before .before .before .before .before .before .list-method2 .ensures .1, c .before .before .before .before .before .before .list-method3 .ensures .1, c .before .before .list-method4 .ensures .1))
 
 pub list-job-spec : {M : Type 1} → statement M
 list-job-spec =

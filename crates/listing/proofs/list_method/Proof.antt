@@ -6,6 +6,7 @@ use native.Mathlib.Omega.{arith}
 use lib.ListN.{length}
 use lib.Seq.{length-take-le}
 use Rattle.chain.specs.Limits.{maxProcessors, maxTasks}
+use Rattle.chain.specs.Job.{editionOf}
 use Rattle.listing.proofs.Listings.{method-put}
 use borrow.Author.Needs.{needs}
 use Rattle.listing.proofs.list_method.Statement.{statement}
@@ -37,14 +38,14 @@ slice-aggregate-put-plan-line : tie.Need-slice-aggregate-put-plan-line
 unfolding maxProcessors
 slice-aggregate-put-plan-line c =
     let v = c .before .before .before .before .before .before .before .before .before .before .pre .0 in
-    sym (length-take-le _ (c .before .before .before .before .plan-in .last .1 .1 .1 .0) (omega (arith, v .processors-limit)))
+    sym (length-take-le _ (c .before .before .before .before .plan-in .last .1 .1 .1 .1 .1 .0) (omega (arith, v .processors-limit)))
 
 put-plan-line-requires : tie.Need-put-plan-line-requires
 unfolding maxProcessors
 put-plan-line-requires c κs =
     let s = c .before .before .before .before .before .before .before .before .before .before .before in
     let v = s .pre .0 in
-    let t = length-take-le (length (s .args .speeds .now) + 1) (c .before .before .before .before .before .plan-in .last .1 .1 .1 .0) (omega (arith, v .processors-limit)) in
+    let t = length-take-le (length (s .args .speeds .now) + 1) (c .before .before .before .before .before .plan-in .last .1 .1 .1 .1 .1 .0) (omega (arith, v .processors-limit)) in
     omega arith
 
 same-length : tie.Need-same-length
@@ -57,8 +58,8 @@ returns c =
     let v = s .pre .0 in
     let p = c .before .before .before .before .before .before .before .before .plan-in in
     let l = c .before .before .put-plan-line .ensures in
-    let t = length-take-le (length (s .args .speeds .now) + 1) (p .last .1 .1 .1 .0) (omega (arith, v .processors-limit)) in
-    (method-put (s .args .method) v _ (c .before .before .before .before .before .method-number .ensures) (p .ensures .0) (p .ensures .1 .0) (l .0), omega arith)
+    let t = length-take-le (length (s .args .speeds .now) + 1) (p .last .1 .1 .1 .1 .1 .0) (omega (arith, v .processors-limit)) in
+    (method-put (editionOf (s .args .second) (s .args .startup)) (s .args .method) v _ (c .before .before .before .before .before .method-number .ensures) (p .ensures .0) (p .ensures .1 .0) (l .0), omega arith)
 
 pub list-method-spec : {M : Type 1} → statement M
 list-method-spec =
