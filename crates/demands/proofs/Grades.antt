@@ -29,26 +29,26 @@ use Rattle.grading.proofs.Promises.{grade-number, grade-parts, grade-accepts, g
 use Rattle.planner.specs.Answers.{planWrites}
 use Rattle.planner.specs.HostCall.{hostWrites}
 use Rattle.planner.proofs.Numbers.{host-plan, host-valid, host-file}
-use Rattle.demands.specs.Call.{TestJob, Plan, WritePlan, Grade, PlanJob, GradePlan}
+use Rattle.demands.specs.Call.{ByLists, jobBy, listsIn, said, TestJob, Plan, WritePlan, Grade, PlanJob, GradePlan}
 use Rattle.demands.specs.Demands.{Accepts}
 use Rattle.demands.specs.Grades.{GradeLeft, planIn, Grades}
-use Rattle.demands.proofs.Demands.{left}
+use Rattle.demands.proofs.Demands.{left, lists-job}
 
 -- By lists.
-module _ (es ws plan : List ℕ) where
+module _ (g : ByLists) (plan : List ℕ) where
   abbrev job : Job
-  job = jobOf es ws
+  job = jobBy g
 
-  none : Accepts (Grade es ws plan) → refusal job (gradeInputs job plan) ≡ 0
+  none : Accepts (Grade g plan) → refusal job (gradeInputs job plan) ≡ 0
   none e = sym (grade-number job plan) ∙ e
 
-  accepts : Bytes plan → Accepts (Grade es ws plan) ↔ (Accepts (TestJob es ws) × TruePlan job plan)
+  accepts : Bytes plan → Accepts (Grade g plan) ↔ (Accepts (TestJob g) × TruePlan job plan)
   accepts b = (
     λ e. let a = grade-accepts job plan b .0 (none e) in (job-accepted .1 (a .0), a .1),
     λ (e, t). grade-number job plan ∙ grade-accepts job plan b .1 (job-accepted .0 e, t),
   )
 
-  graded : Bytes plan → Accepts (Grade es ws plan) → GradeLeft job plan
+  graded : Bytes plan → Accepts (Grade g plan) → GradeLeft job plan
   graded b e =
       let z = none e in
       let v : Valid job = job-accepted .0 (grade-parts job plan .0 z .0) in
@@ -62,9 +62,9 @@ module _ (es ws plan : List ℕ) where
       }
 
 -- What the writer leaves in its buffer, of an accepted call.
-module _ (es ws s buffer : List ℕ) (e : Accepts (WritePlan es ws s buffer)) where
+module _ (g : ByLists) (s buffer : List ℕ) (e : Accepts (WritePlan g s buffer)) where
   abbrev row : Job
-  row = jobOf es ws
+  row = jobBy g
 
   written : refusal row (writePlanInputs row s (length buffer)) ≡ 0
   written = sym (write-plan-number row s (length buffer)) ∙ e
@@ -79,16 +79,16 @@ module _ (es ws s buffer : List ℕ) (e : Accepts (WritePlan es ws s buffer)) wh
       ap (planIn row) (lent-front (planBytes row front) buffer written (length-plan row front))
       ∙ take-at (planBytes row front) (drop (planNeeded row) buffer) (planNeeded row) (length-plan row front)
 
-  division : Accepts (Grade es ws (planIn row (writePlanBytes row s buffer)))
+  division : Accepts (Grade g (planIn row (writePlanBytes row s buffer)))
   division =
-      subst (λ (l : List ℕ). Accepts (Grade es ws l)) (sym bytes)
+      subst (λ (l : List ℕ). Accepts (Grade g l)) (sym bytes)
       (grade-number row (planBytes row (take (suc (processors row)) s)) ∙ division-accepted (took .valid) (took .divisions .0))
 
-own : (m : ℕ) (es ws s t buffer : List ℕ) → Accepts (Plan m es ws s t) → Accepts (WritePlan es ws (planWrites (jobOf es ws) m s t) buffer)
-    → gradeAnswer (jobOf es ws) (planIn (jobOf es ws) (writePlanBytes (jobOf es ws) (planWrites (jobOf es ws) m s t) buffer)) ≡ Graded.Best
-own m es ws s t buffer e f =
-    ap (gradeAnswer (jobOf es ws)) (bytes es ws (planWrites (jobOf es ws) m s t) buffer f ∙ ap (planBytes (jobOf es ws)) (left m es ws s t e))
-    ∙ plan-graded ((took es ws (planWrites (jobOf es ws) m s t) buffer f) .valid)
+own : (m : ℕ) (g : ByLists) (s t buffer : List ℕ) → Accepts (Plan m g s t) → Accepts (WritePlan g (planWrites (jobBy g) m s t) buffer)
+    → gradeAnswer (jobBy g) (planIn (jobBy g) (writePlanBytes (jobBy g) (planWrites (jobBy g) m s t) buffer)) ≡ Graded.Best
+own m g s t buffer e f =
+    ap (gradeAnswer (jobBy g)) (bytes g (planWrites (jobBy g) m s t) buffer f ∙ ap (planBytes (jobBy g)) (left m g s t e))
+    ∙ plan-graded ((took g (planWrites (jobBy g) m s t) buffer f) .valid)
 
 -- By files.
 host-own : (file plan grade : List ℕ) (m : ℕ) → Accepts (PlanJob file m plan) → 1 ≤ length grade
@@ -119,12 +119,19 @@ host-own file plan grade m e h = (
         (subst (λ (l : List ℕ). refusal (jobIn file) (gradeInputs (jobIn file) l) ≡ 0) (sym is) (division-accepted v best))
 
 host : (file plan grade : List ℕ) → Accepts (GradePlan file plan grade)
-    ↔ ((fileRefusal file ≡ 0) × (1 ≤ length grade) × Accepts (Grade (speedsOf file) (weightsOf file) plan))
+    ↔ ((fileRefusal file ≡ 0) × (1 ≤ length grade) × Accepts (Grade (listsIn file) plan))
 host file plan grade = (
   λ e.
       let p = host-parts file plan (length grade) .0 e in
-      (p .0, p .1, grade-number (jobIn file) plan ∙ host-grade-same file plan (length grade) e),
-  λ (e, h, f). host-grade-takes file plan (length grade) e h (sym (grade-number (jobIn file) plan) ∙ f),
+      (
+        p .0,
+        p .1,
+        ap (λ (job : Job). (gradedSaid (gradeAnswer job plan)) .number) (lists-job file) ∙ grade-number (jobIn file) plan
+            ∙ host-grade-same file plan (length grade) e,
+      ),
+  λ (e, h, f).
+      host-grade-takes file plan (length grade) e h
+      (sym (grade-number (jobIn file) plan) ∙ sym (ap (λ (job : Job). (gradedSaid (gradeAnswer job plan)) .number) (lists-job file)) ∙ f),
 )
 
 pub grades : Grades
@@ -136,5 +143,6 @@ grades =
       own = own;
       host-own = host-own;
       host = host;
-      host-same = λ file plan grade e. host-grade-writes file plan grade e;
+      host-same = λ file plan grade e.
+          host-grade-writes file plan grade e ∙ ap (λ (job : Job). (gradedSaid (gradeAnswer job plan)) .values ++ drop 1 grade) (sym (lists-job file));
     }

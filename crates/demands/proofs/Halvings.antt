@@ -24,27 +24,27 @@ use Rattle.refusals.proofs.Tests.{length-enough}
 use Rattle.calls.specs.declared.Measured.the-variants.{Bottleneck}
 use Rattle.calls.specs.Answers.{measuredOf, halvingAnswer, halvingWrites}
 use Rattle.calls.proofs.Promises.{heuristic-number, halving-number, halving-promise}
-use Rattle.demands.specs.Call.{TestJob, Heuristic, Halving}
+use Rattle.demands.specs.Call.{ByLists, jobBy, TestJob, Heuristic, Halving}
 use Rattle.demands.specs.Demands.{number, Accepts, front}
 use Rattle.demands.specs.Halvings.{HalvedRow, Halvings}
 
-halved : (es ws s : List ℕ) → Accepts (Halving es ws s) → HalvedRow (jobOf es ws) s
+halved : (g : ByLists) (s : List ℕ) → Accepts (Halving g s) → HalvedRow (jobBy g) s
 unfolding halvingAnswer measuredOf
-halved es ws s e =
-    let job = jobOf es ws in
+halved g s e =
+    let job = jobBy g in
     let bound = bottleneck job (splitting.halving job) in
     let answer : halvingAnswer job s ≡ Bottleneck bound = ap (λ (n : ℕ). measuredOf n bound) (sym (halving-number job s) ∙ e) in
-    let g = halving-promise job s answer in
+    let h = halving-promise job s answer in
     record {
       bound = bound;
       answer = answer;
-      separators = g .front;
-      partition = subst (Partition job) (sym (g .front)) (g .partition);
-      measured = g .measured ∙ ap (bottleneck job) (sym (g .front));
-      greatest = λ p h. subst (λ (l : List ℕ). partLoad job (at l p) (at l (suc p)) ≤ bound .load) (sym (g .front)) (g .greatest p h);
-      light = g .light;
-      least = g .least;
-      alone = λ h. g .front ∙ halving-one job (g .row) h;
+      separators = h .front;
+      partition = subst (Partition job) (sym (h .front)) (h .partition);
+      measured = h .measured ∙ ap (bottleneck job) (sym (h .front));
+      greatest = λ p l. subst (λ (xs : List ℕ). partLoad job (at xs p) (at xs (suc p)) ≤ bound .load) (sym (h .front)) (h .greatest p l);
+      light = h .light;
+      least = h .least;
+      alone = λ k. h .front ∙ halving-one job (h .row) k;
     }
 
 -- The tests of the call: those of the job, then the row's and the list's.
@@ -88,8 +88,8 @@ module _ (job : Job) (lent : ℕ) where
       let l = sym (length-enough (separatorsNeeded job) lent h) in
       (past-list z ∙ l, λ row. past-row z row ∙ l)
 
-accepts : (es ws s : List ℕ) → Accepts (Halving es ws s) ↔ (Accepts (Heuristic es ws s) × Halvable es)
-accepts es ws s = (
+accepts : (g : ByLists) (s : List ℕ) → Accepts (Halving g s) ↔ (Accepts (Heuristic g s) × Halvable (g .speeds))
+accepts g s = (
   λ e.
       let a = accepted (sym (halving-number job s) ∙ e) in
       (heuristic-number job s ∙ accepted-list job (length s) (a .valid) (a .lists .0) .0, a .rows .0),
@@ -99,7 +99,7 @@ accepts es ws s = (
 )
   where
     job : Job
-    job = jobOf es ws
+    job = jobBy g
 
 -- A number that is none of these is none of them.
 not-one : (n : ℕ) (ns : List ℕ) → T (not (oneOf ns n)) → List·Memᴰ n ns → ⊥
@@ -119,23 +119,23 @@ list-number : (needed given : ℕ) → firstRefusal (lengthTest needed given ∷
 unfolding lengthTest
 list-number needed given e = not-one 14 (0 ∷ 9 ∷ []) tt (given-number (9 ∷ []) (lengthTest needed given ∷ []) (sym e) tt)
 
-refuses : (es ws s : List ℕ) → (number (Halving es ws s) ≡ 14) ↔ (Accepts (TestJob es ws) × (Halvable es → ⊥))
-refuses es ws s = (
+refuses : (g : ByLists) (s : List ℕ) → (number (Halving g s) ≡ 14) ↔ (Accepts (TestJob g) × (Halvable (g .speeds) → ⊥))
+refuses g s = (
   λ e. let z = within (sym (halving-number job s) ∙ e) in (z, λ row. list-number (separatorsNeeded job) (length s) (sym (past-row job (length s) z row) ∙ sym (halving-number job s) ∙ e)),
   λ (z, none). halving-number job s ∙ tests-are job (length s) ∙ fourteen z none,
 )
   where
     job : Job
-    job = jobOf es ws
+    job = jobBy g
 
-    fourteen : firstRefusal (jobTests job) ≡ 0 → (Halvable es → ⊥) → firstRefusal (jobTests job ++ row-and-list job (length s)) ≡ 14
-    fourteen z none = row-fails job (length s) z (λ t. none ((row-test es) .0 t))
+    fourteen : firstRefusal (jobTests job) ≡ 0 → (Halvable (g .speeds) → ⊥) → firstRefusal (jobTests job ++ row-and-list job (length s)) ≡ 14
+    fourteen z none = row-fails job (length s) z (λ t. none ((row-test (g .speeds)) .0 t))
 
     within : refusal job (halvingInputs job (length s)) ≡ 14 → firstRefusal (jobTests job) ≡ 0
     within e =
         elim (ℕ-discrete (firstRefusal (jobTests job)) 0) [
           | yes z ↦ z
-          | no z ↦ absurd (not-one 14 (0 ∷ 5 ∷ 6 ∷ 7 ∷ 8 ∷ []) tt (subst (λ (n : ℕ). List·Memᴰ n (0 ∷ 5 ∷ 6 ∷ 7 ∷ 8 ∷ [])) (sym (first-refusal-before (jobTests job) (row-and-list job (length s)) z) ∙ sym (tests-are job (length s)) ∙ e) (job-numbers job)))
+          | no z ↦ absurd (not-one 14 (0 ∷ 16 ∷ 5 ∷ 6 ∷ 7 ∷ 8 ∷ []) tt (subst (λ (n : ℕ). List·Memᴰ n (0 ∷ 16 ∷ 5 ∷ 6 ∷ 7 ∷ 8 ∷ [])) (sym (first-refusal-before (jobTests job) (row-and-list job (length s)) z) ∙ sym (tests-are job (length s)) ∙ e) (job-numbers job)))
         ]
 
 pub halvings : Halvings

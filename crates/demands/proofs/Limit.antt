@@ -11,16 +11,16 @@ use lib.ListN.{length, take}
 use lib.Seq.{take-all}
 use borrow.Author.Tests.{le-leb}
 use Rattle.chain.specs.Limits.{maxProcessors}
-use Rattle.chain.specs.Job.{Job, processors, speedOf}
+use Rattle.chain.specs.Job.{Edition, First, Second, Job, processors, speedOf}
 use Rattle.chain.specs.Plan.{planOf, Best}
-use Rattle.chain.specs.Refusal.{Test, test, between, methodTest, speedsTest, weightsTest, processorsTest, tasksTest, rowTest, lengthTest, boundTest, partitionTest, planLengthTest, joinedTest, trueTest, firstRefusal, jobTests, planTests, callTests, refusal}
+use Rattle.chain.specs.Refusal.{Test, test, between, methodTest, startupTest, speedsTest, weightsTest, processorsTest, tasksTest, rowTest, lengthTest, boundTest, partitionTest, planLengthTest, joinedTest, trueTest, firstRefusal, jobTests, planTests, callTests, refusal}
 use Rattle.chain.proofs.Best.{best-unique}
 use Rattle.chain.proofs.Refusals.{Numbered, numbered-tail, pass-head, pass-skip}
 use Rattle.chain.proofs.Tests.{and-right}
 use Rattle.chain.proofs.Demand.{plan-of-best}
-use Rattle.refusals.specs.Inputs.{planNeeded}
+use Rattle.refusals.specs.Inputs.{headRecords, planNeeded}
 use Rattle.refusals.specs.Answers.{saidBy}
-use Rattle.jobs.specs.Parse.{multipleTest, formTest, orderTest, speedTest, weightTest, recordTests, recordsTests, recordCount, speedsOf, weightsOf, jobIn, fileTests, fileRefusal}
+use Rattle.jobs.specs.Parse.{secondIn, startupIn, editionIn, multipleTest, formTest, orderTest, placeTest, speedTest, weightTest, workTest, recordTests, recordsTests, recordCount, speedsOf, weightsOf, jobIn, fileTests, fileRefusal}
 use Rattle.jobs.specs.Answers.{readTests, readRefusal, readSpeeds, readWeights, writeBytes}
 use Rattle.jobs.specs.Inner.{Counted}
 use Rattle.jobs.proofs.Reading.{accepted-multiple, accepted-counts, file-early}
@@ -47,7 +47,7 @@ limits-same {l} {m} {p} h k ts =
 
 -- The tests of records are as they are with every limit,
 records-limited : (file : List ℕ) (l p n : ℕ) → limitedTo l p (recordsTests file n) ≡ recordsTests file n
-unfolding recordsTests recordTests formTest orderTest speedTest weightTest
+unfolding recordsTests recordTests formTest orderTest placeTest speedTest weightTest workTest
 records-limited file l p zero = refl
 records-limited file l p (suc n) =
     map-append (limited l p) (recordsTests file n) (recordTests file n)
@@ -72,18 +72,18 @@ file-and file ts e =
 
 -- and those of every call.
 call-ours : (call : Call) → limitedTo maxProcessors (processorsIn call) (tests call) ≡ tests call
-unfolding readTests hostTests hostFileTests listTests gradeTests planTests callTests jobTests methodTest speedsTest weightsTest processorsTest tasksTest rowTest lengthTest boundTest partitionTest planLengthTest joinedTest trueTest
-call-ours (TestJob es ws) = refl
+unfolding readTests hostTests hostFileTests listTests gradeTests planTests callTests jobTests methodTest startupTest speedsTest weightsTest processorsTest tasksTest rowTest lengthTest boundTest partitionTest planLengthTest joinedTest trueTest
+call-ours (TestJob g) = refl
 call-ours (ReadJob file es ws) =
     file-and file (lengthTest (length (weightsOf file)) (length ws) ∷ lengthTest (length (speedsOf file)) (length es) ∷ []) refl
-call-ours (WriteJob es ws file) = refl
-call-ours (Measure es ws s) = refl
-call-ours (Probe es ws B s) = refl
-call-ours (Heuristic es ws s) = refl
-call-ours (Halving es ws s) = refl
-call-ours (Plan m es ws s t) = refl
-call-ours (WritePlan es ws s plan) = refl
-call-ours (Grade es ws plan) = refl
+call-ours (WriteJob g file) = refl
+call-ours (Measure g s) = refl
+call-ours (Probe g B s) = refl
+call-ours (Heuristic g s) = refl
+call-ours (Halving g s) = refl
+call-ours (Plan m g s t) = refl
+call-ours (WritePlan g s plan) = refl
+call-ours (Grade g plan) = refl
 call-ours (ListJob file out) = refl
 call-ours (PlanJob file m plan) =
     ap (λ (ts : List Test). methodTest m ∷ ts) (file-and file (lengthTest (planNeeded (jobIn file)) (length plan) ∷ []) refl)
@@ -93,16 +93,16 @@ call-ours (GradePlan file plan grade) =
 -- What a call leaves is by the number that it gives.
 left-by : (call : Call) (left : List (List ℕ)) → LeavesBy (firstRefusal (tests call)) call left ↔ Leaves call left
 unfolding readRefusal refusal planRefusal hostAnswer listRefusal hostGrade gradeRefusal readSpeeds readWeights writeBytes probeWrites heuristicWrites halvingWrites planWrites writePlanBytes listWrites bytesAfter hostWrites hostGrades
-left-by (TestJob es ws) left = (λ e. e, λ e. e)
+left-by (TestJob g) left = (λ e. e, λ e. e)
 left-by (ReadJob file es ws) left = (λ e. e, λ e. e)
-left-by (WriteJob es ws file) left = (λ e. e, λ e. e)
-left-by (Measure es ws s) left = (λ e. e, λ e. e)
-left-by (Probe es ws B s) left = (λ e. e, λ e. e)
-left-by (Heuristic es ws s) left = (λ e. e, λ e. e)
-left-by (Halving es ws s) left = (λ e. e, λ e. e)
-left-by (Plan m es ws s t) left = (λ e. e, λ e. e)
-left-by (WritePlan es ws s plan) left = (λ e. e, λ e. e)
-left-by (Grade es ws plan) left = (λ e. e, λ e. e)
+left-by (WriteJob g file) left = (λ e. e, λ e. e)
+left-by (Measure g s) left = (λ e. e, λ e. e)
+left-by (Probe g B s) left = (λ e. e, λ e. e)
+left-by (Heuristic g s) left = (λ e. e, λ e. e)
+left-by (Halving g s) left = (λ e. e, λ e. e)
+left-by (Plan m g s t) left = (λ e. e, λ e. e)
+left-by (WritePlan g s plan) left = (λ e. e, λ e. e)
+left-by (Grade g plan) left = (λ e. e, λ e. e)
 left-by (ListJob file out) left = (λ e. e, λ e. e)
 left-by (PlanJob file m plan) left = (λ e. e, λ e. e)
 left-by (GradePlan file plan grade) left = (λ e. e, λ e. e)
@@ -146,16 +146,16 @@ unfolding fileOrder
 in-file file = List·Memᴰ·tail (Memᴰ·append-right (recordsOrder (recordCount file)) (List·Memᴰ·head refl))
 
 in-order : (call : Call) → Counts call → List·Memᴰ 7 (order call)
-in-order (TestJob es ws) c = c
+in-order (TestJob g) c = c
 in-order (ReadJob file es ws) c = Memᴰ·append-left (9 ∷ 9 ∷ []) (in-file file)
-in-order (WriteJob es ws file) c = c
-in-order (Measure es ws s) c = c
-in-order (Probe es ws B s) c = c
-in-order (Heuristic es ws s) c = c
-in-order (Halving es ws s) c = c
-in-order (Plan m es ws s t) c = Memᴰ·append-left (9 ∷ []) c
-in-order (WritePlan es ws s plan) c = List·Memᴰ·tail (List·Memᴰ·tail (List·Memᴰ·head refl))
-in-order (Grade es ws plan) c = c
+in-order (WriteJob g file) c = c
+in-order (Measure g s) c = c
+in-order (Probe g B s) c = c
+in-order (Heuristic g s) c = c
+in-order (Halving g s) c = c
+in-order (Plan m g s t) c = Memᴰ·append-left (9 ∷ []) c
+in-order (WritePlan g s plan) c = List·Memᴰ·tail (List·Memᴰ·tail (List·Memᴰ·tail (List·Memᴰ·head refl)))
+in-order (Grade g plan) c = c
 in-order (ListJob file out) c = c
 in-order (PlanJob file m plan) c = List·Memᴰ·tail (Memᴰ·append-left (9 ∷ []) (in-file file))
 in-order (GradePlan file plan grade) c = Memᴰ·append-left (9 ∷ 12 ∷ 11 ∷ 13 ∷ []) (in-file file)
@@ -170,22 +170,28 @@ kept limit call c k z =
     (tested call ∙ ap firstRefusal (sym same) ∙ z, alike-by limit call same)
 
 -- An accepted file has the records of its job and no byte more.
-file-length : (file : List ℕ) → fileRefusal file ≡ 0 → length file ≡ 8 * (length (speedsOf file) + length (weightsOf file))
+file-length : (file : List ℕ) → fileRefusal file ≡ 0
+    → length file ≡ 8 * (headRecords (editionIn file) + (length (speedsOf file) + length (weightsOf file)))
 file-length file e =
     let r = file-early file e in
-    let c : Counted file (length (speedsOf file)) (length (weightsOf file)) = accepted-counts file r in
+    let c : Counted file (secondIn file) (startupIn file) (length (speedsOf file)) (length (weightsOf file)) = accepted-counts file r in
     let m : length file % 8 ≡ 0 = accepted-multiple file r in
-    let t : length (speedsOf file) + length (weightsOf file) ≡ length file / 8 = c .together in
+    let t : headRecords (editionIn file) + (length (speedsOf file) + length (weightsOf file)) ≡ length file / 8 = c .together in
     omega (arith, m, t)
+
+one-head : (edition : Edition) → headRecords edition ≤ 1
+unfolding headRecords
+one-head First = omega arith
+one-head (Second c) = omega arith
 
 listed : (limit : ℕ) (file : List ℕ) → fileRefusal file ≡ 0 → length (speedsOf file) ≤ limit → listingWith limit file ≡ listing file
 unfolding intake fileRefusal
 listed limit file e h =
     let v = accepted-valid file e in
     let l = file-length file e in
-    ap (λ (f : List ℕ). listingOf (firstRefusal (limitedTo limit (length (speedsOf f)) (fileTests f))) f) (take-all (intakeFor limit) file (omega (arith, l, v .tasks-limit)))
+    ap (λ (f : List ℕ). listingOf (firstRefusal (limitedTo limit (length (speedsOf f)) (fileTests f))) f) (take-all (intakeFor limit) file (omega (arith, l, one-head (editionIn file), v .tasks-limit)))
     ∙ ap (λ (ts : List Test). listingOf (firstRefusal ts) file) (limits-same {l = limit} {m = maxProcessors} h (v .processors-limit) (fileTests file) ∙ file-ours file)
-    ∙ listed-whole file (omega (arith, l, v .tasks-limit, v .processors-limit))
+    ∙ listed-whole file (omega (arith, l, one-head (editionIn file), v .tasks-limit, v .processors-limit))
 
 ours-listing : (file : List ℕ) → listingWith maxProcessors file ≡ listing file
 unfolding intake listing fileRefusal

@@ -22,18 +22,18 @@ use Rattle.calls.specs.Answers.{probedOf, probeAnswer, probeWrites}
 use Rattle.calls.proofs.Promises.{probe-number, probe-front, probe-behind}
 use Rattle.planner.specs.Answers.{planWrites}
 use Rattle.planner.proofs.Promises.{plan-number, plan-accepted, accepted-written}
-use Rattle.demands.specs.Call.{Probe, Plan}
+use Rattle.demands.specs.Call.{ByLists, editionBy, jobBy, Probe, Plan}
 use Rattle.demands.specs.Demands.{Accepts, front}
 use Rattle.demands.specs.Trials.{TrialLeft, Trials}
 
 -- No test refuses an accepted trial.
-unrefused : (es ws : List ℕ) (B : Bound) (s : List ℕ) → Accepts (Probe es ws B s) → refusal (jobOf es ws) (probeInputs (jobOf es ws) B (length s)) ≡ 0
-unrefused es ws B s e = sym (probe-number (jobOf es ws) B s) ∙ e
+unrefused : (g : ByLists) (B : Bound) (s : List ℕ) → Accepts (Probe g B s) → refusal (jobBy g) (probeInputs (jobBy g) B (length s)) ≡ 0
+unrefused g B s e = sym (probe-number (jobBy g) B s) ∙ e
 
 -- An accepted trial,
-trial : (es ws : List ℕ) (B : Bound) (s : List ℕ) → Accepts (Probe es ws B s) → TrialLeft (jobOf es ws) B s
+trial : (g : ByLists) (B : Bound) (s : List ℕ) → Accepts (Probe g B s) → TrialLeft (jobBy g) B s
 unfolding probeAnswer probedOf
-trial es ws B s e =
+trial g B s e =
     record {
       outcome = probe job B;
       answer = ap (λ (n : ℕ). probedOf n (probe job B)) none;
@@ -50,10 +50,10 @@ trial es ws B s e =
     }
   where
     job : Job
-    job = jobOf es ws
+    job = jobBy g
 
     none : refusal job (probeInputs job B (length s)) ≡ 0
-    none = unrefused es ws B s e
+    none = unrefused g B s e
 
     ok : Proper job
     ok = valid-proper ((accepted none) .valid)
@@ -62,23 +62,23 @@ trial es ws B s e =
     left = probe-front job B s none
 
 -- two of them, at a bound and at a greater one,
-grows : (es ws : List ℕ) (B C : Bound) (s t : List ℕ) → Accepts (Probe es ws B s) → Accepts (Probe es ws C t) → B ≼ C
-    → (p : ℕ) → p ≤ processors (jobOf es ws)
-    → at (front (jobOf es ws) (probeWrites (jobOf es ws) B s)) p ≤ at (front (jobOf es ws) (probeWrites (jobOf es ws) C t)) p
-grows es ws B C s t e f h p l =
-    omega (arith, left B s e, left C t f, growing job (speed-real (omega (arith, (accepted (unrefused es ws B s e)) .bounds .0 .speed-positive))) h p)
+grows : (g : ByLists) (B C : Bound) (s t : List ℕ) → Accepts (Probe g B s) → Accepts (Probe g C t) → B ≼ C
+    → (p : ℕ) → p ≤ processors (jobBy g)
+    → at (front (jobBy g) (probeWrites (jobBy g) B s)) p ≤ at (front (jobBy g) (probeWrites (jobBy g) C t)) p
+grows g B C s t e f h p l =
+    omega (arith, left B s e, left C t f, growing job (speed-real (omega (arith, (accepted (unrefused g B s e)) .bounds .0 .speed-positive))) h p)
   where
     job : Job
-    job = jobOf es ws
+    job = jobBy g
 
-    left : (D : Bound) (u : List ℕ) → Accepts (Probe es ws D u) → at (front job (probeWrites job D u)) p ≡ separator job D p
-    left D u g = ap (λ (xs : List ℕ). at xs p) (probe-front job D u (unrefused es ws D u g)) ∙ walked-at job D p l
+    left : (D : Bound) (u : List ℕ) → Accepts (Probe g D u) → at (front job (probeWrites job D u)) p ≡ separator job D p
+    left D u a = ap (λ (xs : List ℕ). at xs p) (probe-front job D u (unrefused g D u a)) ∙ walked-at job D p l
 
 -- and an accepted plan.
-plan : (m : ℕ) (es ws s t : List ℕ) → Accepts (Plan m es ws s t)
-    → planWrites (jobOf es ws) m s t ≡ planOf (jobOf es ws) ++ drop (suc (processors (jobOf es ws))) s
-plan m es ws s t e =
-    accepted-written (jobOf es ws) m s t (plan-accepted (jobOf es ws) m s t (sym (plan-number (jobOf es ws) m s t) ∙ e) .1)
+plan : (m : ℕ) (g : ByLists) (s t : List ℕ) → Accepts (Plan m g s t)
+    → planWrites (jobBy g) m s t ≡ planOf (jobBy g) ++ drop (suc (processors (jobBy g))) s
+plan m g s t e =
+    accepted-written (editionBy g) (jobBy g) m s t (plan-accepted (editionBy g) (jobBy g) m s t (sym (plan-number (editionBy g) (jobBy g) m s t) ∙ e) .1)
 
 pub trials : Trials
 trials = record { trial = trial; grows = grows; plan = plan }

@@ -5,10 +5,10 @@ use mathlib.Core.List.{List, _∷_, _++_}
 use mathlib.Core.Logic.{_↔_}
 use lib.ListN.{length, take, drop}
 use Rattle.bound.specs.Order.{_≼_, _≺_}
-use Rattle.chain.specs.Job.{Job, jobOf, Partition, bottleneck}
+use Rattle.chain.specs.Job.{Job, Partition, bottleneck}
 use Rattle.fields.specs.Field.{Bytes}
 use Rattle.refusals.specs.Inputs.{planNeeded}
-use Rattle.jobs.specs.Parse.{speedsOf, weightsOf, jobIn, fileRefusal}
+use Rattle.jobs.specs.Parse.{jobIn, fileRefusal}
 use Rattle.planfile.specs.PlanFile.{TruePlan}
 use Rattle.planfile.specs.Answers.{writePlanBytes}
 use Rattle.grading.specs.declared.Graded.{Graded}
@@ -16,7 +16,7 @@ use Rattle.grading.specs.Answers.{gradeAnswer}
 use Rattle.grading.specs.Files.{hostGrades}
 use Rattle.planner.specs.Answers.{planWrites}
 use Rattle.planner.specs.HostCall.{hostWrites}
-use Rattle.demands.specs.Call.{TestJob, Plan, WritePlan, Grade, PlanJob, GradePlan, said}
+use Rattle.demands.specs.Call.{ByLists, jobBy, listsIn, TestJob, Plan, WritePlan, Grade, PlanJob, GradePlan, said}
 use Rattle.demands.specs.Demands.{Accepts}
 
 -- An accepted plan file beside its job. Its bytes are the plan file of a division;
@@ -33,15 +33,15 @@ planIn job buffer = take (planNeeded job) buffer
 -- Grading, of accepted calls. The entries of a plan file are bytes.
 pub record Grades : Type 0 where
   -- Scope 14.5: "Beside a job that is accepted every true plan file is accepted, and no other."
-  pub accepted : (es ws plan : List ℕ) → Bytes plan → Accepts (Grade es ws plan) ↔ (Accepts (TestJob es ws) × TruePlan (jobOf es ws) plan)
-  pub graded : (es ws plan : List ℕ) → Bytes plan → Accepts (Grade es ws plan) → GradeLeft (jobOf es ws) plan
+  pub accepted : (g : ByLists) (plan : List ℕ) → Bytes plan → Accepts (Grade g plan) ↔ (Accepts (TestJob g) × TruePlan (jobBy g) plan)
+  pub graded : (g : ByLists) (plan : List ℕ) → Bytes plan → Accepts (Grade g plan) → GradeLeft (jobBy g) plan
   -- The file that the writer makes of a division is accepted, whichever division it is.
-  pub division : (es ws s buffer : List ℕ) → Accepts (WritePlan es ws s buffer)
-      → Accepts (Grade es ws (planIn (jobOf es ws) (writePlanBytes (jobOf es ws) s buffer)))
+  pub division : (g : ByLists) (s buffer : List ℕ) → Accepts (WritePlan g s buffer)
+      → Accepts (Grade g (planIn (jobBy g) (writePlanBytes (jobBy g) s buffer)))
   -- Scope 14.6: "The files that the writer and the C call make of a plan are best, by whichever method it was made." The writer's,
-  pub own : (m : ℕ) (es ws s t buffer : List ℕ) → Accepts (Plan m es ws s t)
-      → Accepts (WritePlan es ws (planWrites (jobOf es ws) m s t) buffer)
-      → gradeAnswer (jobOf es ws) (planIn (jobOf es ws) (writePlanBytes (jobOf es ws) (planWrites (jobOf es ws) m s t) buffer)) ≡ Graded.Best
+  pub own : (m : ℕ) (g : ByLists) (s t buffer : List ℕ) → Accepts (Plan m g s t)
+      → Accepts (WritePlan g (planWrites (jobBy g) m s t) buffer)
+      → gradeAnswer (jobBy g) (planIn (jobBy g) (writePlanBytes (jobBy g) (planWrites (jobBy g) m s t) buffer)) ≡ Graded.Best
   -- and that of the C call, graded by the C call: the buffer's first byte becomes 1.
   pub host-own : (file plan grade : List ℕ) (m : ℕ) → Accepts (PlanJob file m plan) → 1 ≤ length grade
       → Accepts (GradePlan file (planIn (jobIn file) (hostWrites file m plan)) grade)
@@ -49,6 +49,6 @@ pub record Grades : Type 0 where
   -- The C call accepts what the call by lists accepts of the job in an accepted file, where there is room for the grade, and leaves the
   -- grade that the call by lists says.
   pub host : (file plan grade : List ℕ) → Accepts (GradePlan file plan grade)
-      ↔ ((fileRefusal file ≡ 0) × (1 ≤ length grade) × Accepts (Grade (speedsOf file) (weightsOf file) plan))
+      ↔ ((fileRefusal file ≡ 0) × (1 ≤ length grade) × Accepts (Grade (listsIn file) plan))
   pub host-same : (file plan grade : List ℕ) → Accepts (GradePlan file plan grade)
-      → hostGrades file plan grade ≡ (said (Grade (speedsOf file) (weightsOf file) plan)) .values ++ drop 1 grade
+      → hostGrades file plan grade ≡ (said (Grade (listsIn file) plan)) .values ++ drop 1 grade

@@ -5,12 +5,12 @@ use mathlib.Core.List.{List, [], _∷_}
 use mathlib.Core.Logic.{_↔_}
 use Rattle.bound.specs.declared.Bound.{Bound}
 use Rattle.bound.specs.Order.{_≼_}
-use Rattle.chain.specs.Job.{Job, jobOf, tasks, processors, last, partLoad, totalWeight, heaviest, at, Partition, bottleneck}
+use Rattle.chain.specs.Job.{Job, tasks, processors, last, partLoad, totalWeight, heaviest, at, Partition, bottleneck}
 use Rattle.chain.specs.Halving.{Halvable, halving}
 use Rattle.chain.specs.Plan.{planOf}
 use Rattle.calls.specs.declared.Measured.the-variants.{Bottleneck}
 use Rattle.calls.specs.Answers.{halvingAnswer, halvingWrites}
-use Rattle.demands.specs.Call.{TestJob, Heuristic, Halving}
+use Rattle.demands.specs.Call.{ByLists, jobBy, TestJob, Heuristic, Halving}
 use Rattle.demands.specs.Demands.{number, Accepts, front}
 
 -- An accepted halving of the job's row, with the list s lent.
@@ -21,18 +21,19 @@ pub record HalvedRow (job : Job) (s : List ℕ) : Type 0 where
   pub separators : front job (halvingWrites job s) ≡ halving job
   pub partition : Partition job (front job (halvingWrites job s))
   pub measured : bound ≡ bottleneck job (front job (halvingWrites job s))
-  -- Scope 16.7: "The greatest load is at most Wtot/P + heaviest × (P − 1)/P." The answer's load is the greatest, and it is so, times P.
+  -- Scope 16.7: "The greatest load is at most Wtot/P + heaviest × (P − 1)/P". Scope 17.6: "The greatest load of a halved row is at most c more
+  -- than 16.7 says." The answer's load is the greatest, and it is so, times P.
   pub greatest : (p : ℕ) → p < processors job
       → partLoad job (at (front job (halvingWrites job s)) p) (at (front job (halvingWrites job s)) (suc p)) ≤ bound .load
-  pub light : processors job * bound .load ≤ totalWeight job + heaviest job * last job
+  pub light : processors job * bound .load ≤ totalWeight job + heaviest job * last job + job .startup * processors job
   -- Scope 16.8: "The bottleneck is no smaller than the plan's."
   pub least : bottleneck job (planOf job) ≼ bound
   -- Scope 16.9: "One machine takes all tiles."
   pub alone : processors job ≡ 1 → front job (halvingWrites job s) ≡ 0 ∷ tasks job ∷ []
 
 pub record Halvings : Type 0 where
-  pub halved : (es ws s : List ℕ) → Accepts (Halving es ws s) → HalvedRow (jobOf es ws) s
+  pub halved : (g : ByLists) (s : List ℕ) → Accepts (Halving g s) → HalvedRow (jobBy g) s
   -- Scope 16.11: "What the quick plan accepts is accepted where the row is such a one; a job within its limits whose row is none is refused
   -- with 14, whatever list is lent." No other call is accepted, and none other is refused with 14.
-  pub accepted : (es ws s : List ℕ) → Accepts (Halving es ws s) ↔ (Accepts (Heuristic es ws s) × Halvable es)
-  pub refused : (es ws s : List ℕ) → (number (Halving es ws s) ≡ 14) ↔ (Accepts (TestJob es ws) × (Halvable es → ⊥))
+  pub accepted : (g : ByLists) (s : List ℕ) → Accepts (Halving g s) ↔ (Accepts (Heuristic g s) × Halvable (g .speeds))
+  pub refused : (g : ByLists) (s : List ℕ) → (number (Halving g s) ≡ 14) ↔ (Accepts (TestJob g) × (Halvable (g .speeds) → ⊥))

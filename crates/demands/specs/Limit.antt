@@ -7,7 +7,7 @@ use mathlib.Core.Logic.{_↔_}
 use lib.Dec.{eqb}
 use lib.ListN.{length, take}
 use Rattle.chain.specs.Limits.{maxProcessors}
-use Rattle.chain.specs.Job.{Job, jobOf, processors, speedOf}
+use Rattle.chain.specs.Job.{Job, processors, speedOf}
 use Rattle.chain.specs.Probe as probing
 use Rattle.chain.specs.Heuristic as guessing
 use Rattle.chain.specs.Halving as splitting
@@ -21,21 +21,21 @@ use Rattle.grading.specs.Answers.{gradedSaid, readGrade}
 use Rattle.planner.specs.Answers.{planWrites, ScratchAfter}
 use Rattle.listing.specs.Room.{roomFor, listingRoom}
 use Rattle.listing.specs.Listing.{listingOf, intakeFor, listing}
-use Rattle.demands.specs.Call.{Call, TestJob, ReadJob, WriteJob, Measure, Probe, Heuristic, Halving, Plan, WritePlan, Grade, ListJob, PlanJob, GradePlan, said, values, tests, numbers, Leaves}
+use Rattle.demands.specs.Call.{ByLists, editionBy, jobBy, Call, TestJob, ReadJob, WriteJob, Measure, Probe, Heuristic, Halving, Plan, WritePlan, Grade, ListJob, PlanJob, GradePlan, said, values, tests, numbers, Leaves}
 use Rattle.demands.specs.Demands.{Accepts, front}
 
 -- How many machines the job of a call has.
 abbrev pub processorsIn : Call → ℕ
-processorsIn (TestJob es ws) = length es
+processorsIn (TestJob g) = length (g .speeds)
 processorsIn (ReadJob file es ws) = length (speedsOf file)
-processorsIn (WriteJob es ws file) = length es
-processorsIn (Measure es ws s) = length es
-processorsIn (Probe es ws B s) = length es
-processorsIn (Heuristic es ws s) = length es
-processorsIn (Halving es ws s) = length es
-processorsIn (Plan m es ws s t) = length es
-processorsIn (WritePlan es ws s plan) = length es
-processorsIn (Grade es ws plan) = length es
+processorsIn (WriteJob g file) = length (g .speeds)
+processorsIn (Measure g s) = length (g .speeds)
+processorsIn (Probe g B s) = length (g .speeds)
+processorsIn (Heuristic g s) = length (g .speeds)
+processorsIn (Halving g s) = length (g .speeds)
+processorsIn (Plan m g s t) = length (g .speeds)
+processorsIn (WritePlan g s plan) = length (g .speeds)
+processorsIn (Grade g plan) = length (g .speeds)
 processorsIn (ListJob file out) = length (speedsOf file)
 processorsIn (PlanJob file m plan) = length (speedsOf file)
 processorsIn (GradePlan file plan grade) = length (speedsOf file)
@@ -57,17 +57,17 @@ saidWith limit call = saidBy (numberWith limit call) (values call)
 
 -- It leaves these, by the number that it gives: where that is 0 what it writes, else what was lent.
 abbrev pub LeavesBy : ℕ → Call → List (List ℕ) → Type 0
-LeavesBy number (TestJob es ws) left = left ≡ []
+LeavesBy number (TestJob g) left = left ≡ []
 LeavesBy number (ReadJob file es ws) left = left ≡ lentAfter number (speedsOf file) es ∷ lentAfter number (weightsOf file) ws ∷ []
-LeavesBy number (WriteJob es ws file) left = left ≡ lentAfter number (jobBytes (jobOf es ws)) file ∷ []
-LeavesBy number (Measure es ws s) left = left ≡ []
-LeavesBy number (Probe es ws B s) left = left ≡ lentAfter number (probing.walked (jobOf es ws) B) s ∷ []
-LeavesBy number (Heuristic es ws s) left = left ≡ lentAfter number (guessing.heuristic (jobOf es ws)) s ∷ []
-LeavesBy number (Halving es ws s) left = left ≡ lentAfter number (splitting.halving (jobOf es ws)) s ∷ []
-LeavesBy number (Plan m es ws s t) left =
-    (t′ : List ℕ) × ScratchAfter number (jobOf es ws) t t′ × (left ≡ lentAfter number (planOf (jobOf es ws)) s ∷ t′ ∷ [])
-LeavesBy number (WritePlan es ws s plan) left = left ≡ lentAfter number (planBytes (jobOf es ws) (front (jobOf es ws) s)) plan ∷ []
-LeavesBy number (Grade es ws plan) left = left ≡ []
+LeavesBy number (WriteJob g file) left = left ≡ lentAfter number (jobBytes (editionBy g) (jobBy g)) file ∷ []
+LeavesBy number (Measure g s) left = left ≡ []
+LeavesBy number (Probe g B s) left = left ≡ lentAfter number (probing.walked (jobBy g) B) s ∷ []
+LeavesBy number (Heuristic g s) left = left ≡ lentAfter number (guessing.heuristic (jobBy g)) s ∷ []
+LeavesBy number (Halving g s) left = left ≡ lentAfter number (splitting.halving (jobBy g)) s ∷ []
+LeavesBy number (Plan m g s t) left =
+    (t′ : List ℕ) × ScratchAfter number (jobBy g) t t′ × (left ≡ lentAfter number (planOf (jobBy g)) s ∷ t′ ∷ [])
+LeavesBy number (WritePlan g s plan) left = left ≡ lentAfter number (planBytes (jobBy g) (front (jobBy g) s)) plan ∷ []
+LeavesBy number (Grade g plan) left = left ≡ []
 LeavesBy number (ListJob file out) left = left ≡ lentAfter number (listing file) out ∷ []
 LeavesBy number (PlanJob file m plan) left = left ≡ lentAfter number (planBytes (jobIn file) (planOf (jobIn file))) plan ∷ []
 LeavesBy number (GradePlan file plan grade) left = left ≡ lentAfter number ((gradedSaid (readGrade (jobIn file) plan)) .values) grade ∷ []
@@ -103,8 +103,8 @@ pub record AnyLimit : Type 0 where
   pub kept : (limit : ℕ) (call : Call) → Counts call → processorsIn call ≤ maxProcessors → numberWith limit call ≡ 0
       → Accepts call × Alike limit call
   -- the plan that a call leaves is the definition's,
-  pub plan : (m : ℕ) (es ws s t : List ℕ) → Accepts (Plan m es ws s t)
-      → front (jobOf es ws) (planWrites (jobOf es ws) m s t) ≡ planOf (jobOf es ws)
+  pub plan : (m : ℕ) (g : ByLists) (s t : List ℕ) → Accepts (Plan m g s t)
+      → front (jobBy g) (planWrites (jobBy g) m s t) ≡ planOf (jobBy g)
   -- and that is the one best division of every job of machines with speeds above 0, however many they are.
   pub best : (job : Job) → 1 ≤ processors job → ((p : ℕ) → 1 ≤ speedOf job p) → Best job (planOf job) × ((d : List ℕ) → Best job d → d ≡ planOf job)
   -- Scope 15.4: "An accepted file has the same listing with every limit that its job is within; a buffer with room by a greater limit has

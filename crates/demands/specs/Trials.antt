@@ -8,13 +8,13 @@ use Rattle.bound.specs.declared.Bound.{Bound}
 use Rattle.bound.specs.Order.{_≼_}
 use Rattle.chain.specs.declared.Outcome.{Outcome}
 use Rattle.chain.specs.declared.Outcome.the-variants.{Fits, Fails}
-use Rattle.chain.specs.Job.{Job, jobOf, tasks, processors, at}
+use Rattle.chain.specs.Job.{Job, tasks, processors, at}
 use Rattle.chain.specs.Probe.{walk, walked, Begins, nextBid}
 use Rattle.chain.specs.Plan.{planOf}
 use Rattle.calls.specs.declared.Probed.the-variants.{Answered}
 use Rattle.calls.specs.Answers.{probeAnswer, probeWrites}
 use Rattle.planner.specs.Answers.{planWrites}
-use Rattle.demands.specs.Call.{Probe, Plan}
+use Rattle.demands.specs.Call.{ByLists, jobBy, Probe, Plan}
 use Rattle.demands.specs.Demands.{Accepts, front}
 
 -- An accepted trial of the job at the bound B, with the list s lent.
@@ -36,11 +36,11 @@ pub record TrialLeft (job : Job) (B : Bound) (s : List ℕ) : Type 0 where
   pub furthest : (p : ℕ) (t : List ℕ) → p ≤ processors job → Begins job B p t → at t p ≤ at (front job (probeWrites job B s)) p
 
 pub record Trials : Type 0 where
-  pub trial : (es ws : List ℕ) (B : Bound) (s : List ℕ) → Accepts (Probe es ws B s) → TrialLeft (jobOf es ws) B s
+  pub trial : (g : ByLists) (B : Bound) (s : List ℕ) → Accepts (Probe g B s) → TrialLeft (jobBy g) B s
   -- Scope 3.10: "a plan leaves its own P + 1 separators, and behind them the entries that were there"
-  pub plan : (m : ℕ) (es ws s t : List ℕ) → Accepts (Plan m es ws s t)
-      → planWrites (jobOf es ws) m s t ≡ planOf (jobOf es ws) ++ drop (suc (processors (jobOf es ws))) s
+  pub plan : (m : ℕ) (g : ByLists) (s t : List ℕ) → Accepts (Plan m g s t)
+      → planWrites (jobBy g) m s t ≡ planOf (jobBy g) ++ drop (suc (processors (jobBy g))) s
   -- Scope 3.11: "With a bound at least as great, no separator that a trial writes is smaller."
-  pub grows : (es ws : List ℕ) (B C : Bound) (s t : List ℕ) → Accepts (Probe es ws B s) → Accepts (Probe es ws C t) → B ≼ C
-      → (p : ℕ) → p ≤ processors (jobOf es ws)
-      → at (front (jobOf es ws) (probeWrites (jobOf es ws) B s)) p ≤ at (front (jobOf es ws) (probeWrites (jobOf es ws) C t)) p
+  pub grows : (g : ByLists) (B C : Bound) (s t : List ℕ) → Accepts (Probe g B s) → Accepts (Probe g C t) → B ≼ C
+      → (p : ℕ) → p ≤ processors (jobBy g)
+      → at (front (jobBy g) (probeWrites (jobBy g) B s)) p ≤ at (front (jobBy g) (probeWrites (jobBy g) C t)) p
