@@ -16,7 +16,7 @@ use Rattle.bound.specs.Order.{over, _≼_, Real, Finite}
 use Rattle.bound.proofs.Order.{make-le, zero-load-le, finite-real}
 use Rattle.chain.specs.Lists.{sum, sumTo}
 use Rattle.chain.specs.Job.{Job, tasks, processors, speedOf, partOf, partWeight, loadOf, partLoad, totalWeight, partBound, Valid, at, Partition, busy}
-use Rattle.chain.proofs.Sums.{sum-append, sum-take, sum-drop, sum-same}
+use Rattle.chain.proofs.Sums.{sum-append, sum-take, sum-drop}
 
 -- What the theorems ask of a job: a processor, and speeds above 0.
 pub record Proper (job : Job) : Type 0 where

@@ -6,7 +6,7 @@ use mathlib.Core.List.{List, [], _∷_, _++_, map, List·Memᴰ}
 use mathlib.Core.Logic.{_≢_, _↔_}
 use native.Mathlib.Omega.{arith}
 use lib.Dec.{T}
-use lib.ListN.{length, take, drop}
+use lib.ListN.{length, take}
 use Rattle.bound.specs.declared.Bound.{Bound}
 use Rattle.chain.specs.declared.Outcome.{Outcome}
 use Rattle.chain.specs.declared.Outcome.the-variants.{Fits}
@@ -19,7 +19,6 @@ use Rattle.chain.proofs.Demand.{plan-of-best}
 use Rattle.chain.proofs.Parts.{valid-plannable}
 use Rattle.chain.proofs.Refusals.{Numbered, numbered-nil, numbered-cons, numbered-append, job-numbered, call-numbered, plan-numbered, accepted-passes, passes-accepted, gives}
 use Rattle.fields.specs.Field.{Bytes}
-use Rattle.refusals.specs.declared.Written.{Written}
 use Rattle.refusals.specs.Inputs.{planNeeded, probeInputs, heuristicInputs, planInputs, writeInputs, writePlanInputs}
 use Rattle.refusals.specs.Answers.{Said, saidBy}
 use Rattle.refusals.proofs.Answering.{said-alone, said-nothing, number-of}

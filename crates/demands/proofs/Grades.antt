@@ -6,7 +6,7 @@ use mathlib.Core.List.{List, _∷_, _++_}
 use mathlib.Core.Logic.{_↔_}
 use lib.ListN.{length, take, drop}
 use lib.Seq.{take-at}
-use Rattle.chain.specs.Job.{Job, jobOf, Valid, processors, Partition}
+use Rattle.chain.specs.Job.{Job, Valid, processors, Partition}
 use Rattle.chain.specs.Plan.{planOf}
 use Rattle.chain.specs.Refusal.{separatorsOf, refusal}
 use Rattle.chain.proofs.Demand.{plan-of-best}
@@ -16,7 +16,7 @@ use Rattle.fields.specs.Field.{Bytes}
 use Rattle.refusals.specs.Inputs.{planNeeded, writePlanInputs}
 use Rattle.refusals.proofs.Accepted.{Accepted, accepted}
 use Rattle.refusals.proofs.Lent.{lent-front}
-use Rattle.jobs.specs.Parse.{speedsOf, weightsOf, jobIn, fileRefusal}
+use Rattle.jobs.specs.Parse.{jobIn, fileRefusal}
 use Rattle.planfile.specs.PlanFile.{planBytes, TruePlan, planRead, gradeInputs}
 use Rattle.planfile.specs.Answers.{writePlanBytes}
 use Rattle.planfile.proofs.Records.{length-plan}
@@ -29,7 +29,7 @@ use Rattle.grading.proofs.Promises.{grade-number, grade-parts, grade-accepts, g
 use Rattle.planner.specs.Answers.{planWrites}
 use Rattle.planner.specs.HostCall.{hostWrites}
 use Rattle.planner.proofs.Numbers.{host-plan, host-valid, host-file}
-use Rattle.demands.specs.Call.{ByLists, jobBy, listsIn, said, TestJob, Plan, WritePlan, Grade, PlanJob, GradePlan}
+use Rattle.demands.specs.Call.{ByLists, jobBy, listsIn, TestJob, Plan, WritePlan, Grade, PlanJob, GradePlan}
 use Rattle.demands.specs.Demands.{Accepts}
 use Rattle.demands.specs.Grades.{GradeLeft, planIn, Grades}
 use Rattle.demands.proofs.Demands.{left, lists-job}
@@ -122,8 +122,7 @@ host : (file plan grade : List ℕ) → Accepts (GradePlan file plan grade)
     ↔ ((fileRefusal file ≡ 0) × (1 ≤ length grade) × Accepts (Grade (listsIn file) plan))
 host file plan grade = (
   λ e.
-      let p = host-parts file plan (length grade) .0 e in
-      (
+      let p = host-parts file plan (length grade) .0 e in (
         p .0,
         p .1,
         ap (λ (job : Job). (gradedSaid (gradeAnswer job plan)) .number) (lists-job file) ∙ grade-number (jobIn file) plan

@@ -1,17 +1,16 @@
 -- What halving the row gives: `halvings`.
 -- Assumes nothing.
-use Prim.Native.Nat.{ℕ, suc, _≤_, _<_}
+use Prim.Native.Nat.{ℕ, suc, _≤_}
 use mathlib.Core.Path.{_≡_, refl, sym, ap, subst, _∙_}
 use mathlib.Core.Bool.{Bool, true, false, not, _||_}
 use mathlib.Core.List.{List, [], _∷_, _++_, List·Memᴰ, List·Memᴰ·not-nil, List·Memᴰ·cases-cons}
-use mathlib.Core.Logic.{_≢_, _↔_, inl, inr}
+use mathlib.Core.Logic.{_↔_, inl, inr}
 use native.Mathlib.Omega.{arith}
 use native.Mathlib.Decide.{ℕ-discrete}
 use lib.Dec.{T, eqb}
 use borrow.Author.Tests.{eq-eqb}
 use lib.ListN.{length}
-use Rattle.bound.specs.declared.Bound.{Bound}
-use Rattle.chain.specs.Job.{Job, jobOf, Valid, Partition, processors, partLoad, at, bottleneck}
+use Rattle.chain.specs.Job.{Job, Valid, Partition, partLoad, at, bottleneck}
 use Rattle.chain.specs.Halving.{Halvable}
 use Rattle.chain.specs.Halving as splitting
 use Rattle.chain.specs.Refusal.{Test, rowTest, lengthTest, firstRefusal, jobTests, separatorsNeeded, halvingInputs, callTests, refusal}
@@ -22,7 +21,7 @@ use Rattle.refusals.proofs.Accepted.{accepted}
 use Rattle.refusals.proofs.Promises.{job-numbers}
 use Rattle.refusals.proofs.Tests.{length-enough}
 use Rattle.calls.specs.declared.Measured.the-variants.{Bottleneck}
-use Rattle.calls.specs.Answers.{measuredOf, halvingAnswer, halvingWrites}
+use Rattle.calls.specs.Answers.{measuredOf, halvingAnswer}
 use Rattle.calls.proofs.Promises.{heuristic-number, halving-number, halving-promise}
 use Rattle.demands.specs.Call.{ByLists, jobBy, TestJob, Heuristic, Halving}
 use Rattle.demands.specs.Demands.{number, Accepts, front}

@@ -8,7 +8,7 @@ use lib.ListN.{length, drop}
 use Rattle.bound.specs.declared.Bound.{Bound}
 use Rattle.bound.specs.Order.{_≼_}
 use Rattle.bound.proofs.Order.{speed-real}
-use Rattle.chain.specs.Job.{Job, jobOf, processors, at}
+use Rattle.chain.specs.Job.{Job, processors, at}
 use Rattle.chain.specs.Probe.{separator, walked, Begins, fits, probe}
 use Rattle.chain.specs.Plan.{planOf}
 use Rattle.chain.specs.Refusal.{refusal}

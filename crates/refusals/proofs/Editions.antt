@@ -1,9 +1,8 @@
 -- The two editions, as the calls take them: a yes or no, and the start-up work beside it.
 -- Assumes nothing.
-use Prim.Native.Nat.{ℕ, _≤_}
-use mathlib.Core.Path.{_≡_, refl, sym, ap, _∙_}
+use Prim.Native.Nat.{ℕ}
+use mathlib.Core.Path.{_≡_, refl, sym, ap}
 use mathlib.Core.Bool.{Bool, true, false}
-use native.Mathlib.Omega.{arith}
 use Rattle.chain.specs.Job.{startupOf, editionOf, effective}
 use Rattle.refusals.specs.Inputs.{headRecords}
 

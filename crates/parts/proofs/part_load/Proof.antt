@@ -3,7 +3,6 @@
 use native.Mathlib.Omega.{arith}
 use Rattle.parts.specs.Prefix.{weightBetween}
 use Rattle.parts.proofs.Laws.{between-some, between-none}
-use borrow.Author.Needs.{needs}
 use Rattle.parts.proofs.part_load.Statement.{statement}
 use Rattle.parts.proofs.part_load.Tie as tie
 
