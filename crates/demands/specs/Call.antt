@@ -33,6 +33,9 @@ pub record ByLists : Type 0 where
   pub speeds : List ℕ
   pub weights : List ℕ
 
+abbrev pub byLists : Bool → ℕ → List ℕ → List ℕ → ByLists
+byLists second c es ws = record { second = second; startup = c; speeds = es; weights = ws }
+
 abbrev pub editionBy : ByLists → Edition
 editionBy g = editionOf (g .second) (g .startup)
 
@@ -41,7 +44,7 @@ jobBy g = jobOf (startupOf (editionBy g)) (g .speeds) (g .weights)
 
 -- What reading answers and leaves of a file, as a call by lists takes it.
 abbrev pub listsIn : List ℕ → ByLists
-listsIn file = record { second = secondIn file; startup = startupIn file; speeds = speedsOf file; weights = weightsOf file }
+listsIn file = byLists (secondIn file) (startupIn file) (speedsOf file) (weightsOf file)
 
 -- A call with all that it is given. Scope 10.1: "with whichever file, list, method or bound".
 pub data Call : Type 0 where

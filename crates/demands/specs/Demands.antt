@@ -32,7 +32,7 @@ use Rattle.planner.specs.declared.Figures.{Figures}
 use Rattle.planner.specs.declared.Planned.the-variants.{Accepted}
 use Rattle.planner.specs.Answers.{planAnswer, planWrites}
 use Rattle.planner.specs.HostCall.{hostWrites}
-use Rattle.demands.specs.Call.{ByLists, editionBy, jobBy, listsIn, Call, ReadJob, Probe, Heuristic, Plan, PlanJob, said, values, tests, numbers, order, lent, Leaves}
+use Rattle.demands.specs.Call.{ByLists, byLists, editionBy, jobBy, listsIn, Call, ReadJob, Probe, Heuristic, Plan, PlanJob, said, values, tests, numbers, order, lent, Leaves}
 
 -- The number that a call answers with; it is accepted where that is 0.
 abbrev pub number : Call → ℕ
@@ -89,8 +89,7 @@ pub record QuickPlan (job : Job) (s : List ℕ) : Type 0 where
 -- The edition and the start-up work that reading answers, and the first p and n entries of the lists that it leaves, es and ws being lent: as
 -- the call that writes takes them.
 abbrev pub listsRead : List ℕ → List ℕ → List ℕ → Bool → ℕ → ℕ → ℕ → ByLists
-listsRead file es ws second startup p n =
-    record { second = second; startup = startup; speeds = take p (readSpeeds file es ws); weights = take n (readWeights file es ws) }
+listsRead file es ws second startup p n = byLists second startup (take p (readSpeeds file es ws)) (take n (readWeights file es ws))
 
 -- An accepted file, read into es and ws, and the job that was read then written into a buffer. Scope 10.4: "A job file that is written
 -- from what was read has the bytes that were read."

@@ -24,12 +24,12 @@ use Rattle.planner.specs.declared.Figures.{Figures}
 use Rattle.planner.specs.declared.Planned.the-variants.{Accepted}
 use Rattle.planner.specs.Answers.{planAnswer}
 use Rattle.planner.specs.HostCall.{hostWrites}
-use Rattle.demands.specs.Call.{ByLists, editionBy, jobBy, Call, TestJob, ReadJob, WriteJob, Measure, Probe, Heuristic, Halving, Plan, WritePlan, Grade, ListJob, PlanJob, GradePlan, said, Leaves}
+use Rattle.demands.specs.Call.{ByLists, byLists, editionBy, jobBy, Call, TestJob, ReadJob, WriteJob, Measure, Probe, Heuristic, Halving, Plan, WritePlan, Grade, ListJob, PlanJob, GradePlan, said, Leaves}
 use Rattle.demands.specs.Demands.{number, Accepts, front}
 
 -- A job by lists in the edition that this yes or no says, with this start-up work beside it;
 abbrev pub inEdition : Bool → ℕ → ByLists → ByLists
-inEdition second c g = record { second = second; startup = c; speeds = g .speeds; weights = g .weights }
+inEdition second c g = byLists second c (g .speeds) (g .weights)
 
 -- a call by lists so, and one by a file as it is.
 abbrev pub callAs : Bool → ℕ → Call → Call

@@ -2,9 +2,9 @@
 // Each wrapper returns 0 or the refusal's number. What the function answers goes into the lent `answer`, one number an entry;
 // entries past its end are dropped, and a refusal leaves `answer` as it was.
 ghost use mathlib.Core.Path.{_≡_};
+ghost use mathlib.Core.Bool.{cond};
 ghost use mathlib.Core.List.{[], _∷_};
 ghost use lib.ListN.{set};
-ghost use Rattle.chain.specs.Job.{jobOf};
 ghost use Rattle.refusals.specs.Answers.{writtenSaid};
 ghost use Rattle.jobs.specs.Answers.{readSaid};
 ghost use Rattle.calls.specs.Answers.{measuredSaid, probedSaid, probeAnswer};
@@ -12,7 +12,7 @@ ghost use Rattle.grading.specs.Answers.{gradedSaid};
 ghost use Rattle.planner.specs.Answers.{plannedSaid};
 ghost use Rattle.demands.specs.Call.{TestJob, ReadJob, WriteJob, Measure, Probe, Heuristic, Halving, Plan, WritePlan, Grade, ListJob, PlanJob};
 ghost use Rattle.demands.specs.Call.{GradePlan};
-ghost use Rattle.demands.specs.Call.{said, Leaves};
+ghost use Rattle.demands.specs.Call.{byLists, jobBy, said, Leaves};
 ghost use Rattle.demands.specs.Demands.{number};
 ghost use Rattle.test_exports.specs.Answer.{boundPut, saidPut, outcomePut, probedPut};
 use bound::Bound;
@@ -55,6 +55,13 @@ fn put_bound(answer: &mut [u64], i: usize, j: usize, bound: Bound)
     put(answer, j, bound.speed);
 }
 
+// Inner. The edition by its number.
+fn edition_number(second: bool) -> u64
+    ensures { λ r. ⌜ r ≡ cond second 2 1 ⌝ }
+{
+    if second { 2 } else { 1 }
+}
+
 // Inner. What reading answers.
 fn put_read(answer: &mut [u64], read: JobRead) -> u32
     ensures number { λ r. ⌜ r ≡ (readSaid read) .number ⌝ }
@@ -62,9 +69,16 @@ fn put_read(answer: &mut [u64], read: JobRead) -> u32
 {
     match read {
         JobRead::Refused(number) => number,
-        JobRead::Read { processors, tasks } => {
-            put(answer, 0, processors as u64);
-            put(answer, 1, tasks as u64);
+        JobRead::Read {
+            second,
+            startup,
+            processors,
+            tasks,
+        } => {
+            put(answer, 0, edition_number(second));
+            put(answer, 1, wide(startup));
+            put(answer, 2, processors as u64);
+            put(answer, 3, tasks as u64);
             0
         }
     }
@@ -163,15 +177,20 @@ fn put_graded(answer: &mut [u64], graded: Graded) -> u32
 }
 
 #[no_mangle]
-pub extern "C" fn exported_test_job(speeds: &[u32], weights: &[u32]) -> u32
+pub extern "C" fn exported_test_job(
+    second: bool,
+    startup: u32,
+    speeds: &[u32],
+    weights: &[u32],
+) -> u32
     ensures { λ r.
-        let call = TestJob (now (speeds .entry)) (now (weights .entry)) in
+        let call = TestJob (byLists second startup (now (speeds .entry)) (now (weights .entry))) in
         ⌜ r ≡ number call ⌝ }
 {
-    test_job(speeds, weights)
+    test_job(second, startup, speeds, weights)
 }
 
-// The answer: P, N.
+// The answer: the edition, c, P, N.
 #[no_mangle]
 pub extern "C" fn exported_read_job(
     file: &[u8],
@@ -196,22 +215,24 @@ pub extern "C" fn exported_read_job(
 // The answer: the bytes written.
 #[no_mangle]
 pub extern "C" fn exported_write_job(
+    second: bool,
+    startup: u32,
     speeds: &[u32],
     weights: &[u32],
     file: &mut [u8],
     answer: &mut [u64],
 ) -> u32
     ensures number { λ r.
-        let call = WriteJob (now (speeds .entry)) (now (weights .entry)) (now (file .entry)) in
+        let call = WriteJob (byLists second startup (now (speeds .entry)) (now (weights .entry))) (now (file .entry)) in
         ⌜ r ≡ number call ⌝ }
     ensures left { λ _.
-        let call = WriteJob (now (speeds .entry)) (now (weights .entry)) (now (file .entry)) in
+        let call = WriteJob (byLists second startup (now (speeds .entry)) (now (weights .entry))) (now (file .entry)) in
         ⌜ Leaves call (now (file .exit) ∷ []) ⌝ }
     ensures answer { λ _.
-        let call = WriteJob (now (speeds .entry)) (now (weights .entry)) (now (file .entry)) in
+        let call = WriteJob (byLists second startup (now (speeds .entry)) (now (weights .entry))) (now (file .entry)) in
         ⌜ now (answer .exit) ≡ saidPut (said call) (now (answer .entry)) ⌝ }
 {
-    let written = write_job(speeds, weights, file);
+    let written = write_job(second, startup, speeds, weights, file);
     put_written(answer, written)
 }
 
@@ -235,25 +256,29 @@ pub extern "C" fn exported_list(file: &[u8], text: &mut [u8], answer: &mut [u64]
 // The answer: the bottleneck's load, speed.
 #[no_mangle]
 pub extern "C" fn exported_measure(
+    second: bool,
+    startup: u32,
     speeds: &[u32],
     weights: &[u32],
     separators: &[u32],
     answer: &mut [u64],
 ) -> u32
     ensures number { λ r.
-        let call = Measure (now (speeds .entry)) (now (weights .entry)) (now (separators .entry)) in
+        let call = Measure (byLists second startup (now (speeds .entry)) (now (weights .entry))) (now (separators .entry)) in
         ⌜ r ≡ number call ⌝ }
     ensures answer { λ _.
-        let call = Measure (now (speeds .entry)) (now (weights .entry)) (now (separators .entry)) in
+        let call = Measure (byLists second startup (now (speeds .entry)) (now (weights .entry))) (now (separators .entry)) in
         ⌜ now (answer .exit) ≡ saidPut (said call) (now (answer .entry)) ⌝ }
 {
-    let measured = measure(speeds, weights, separators);
+    let measured = measure(second, startup, speeds, weights, separators);
     put_measured(answer, measured)
 }
 
 // The answer: 1 for a fit; or 0 and the next bid's load, speed.
 #[no_mangle]
 pub extern "C" fn exported_probe(
+    second: bool,
+    startup: u32,
     speeds: &[u32],
     weights: &[u32],
     load: u64,
@@ -262,61 +287,72 @@ pub extern "C" fn exported_probe(
     answer: &mut [u64],
 ) -> u32
     ensures number { λ r.
-        let call = Probe (now (speeds .entry)) (now (weights .entry)) (record { load = load; speed = speed }) (now (separators .entry)) in
+        let call = Probe (byLists second startup (now (speeds .entry)) (now (weights .entry))) (record { load = load; speed = speed }) (now (separators .entry)) in
         ⌜ r ≡ number call ⌝ }
     ensures left { λ _.
-        let call = Probe (now (speeds .entry)) (now (weights .entry)) (record { load = load; speed = speed }) (now (separators .entry)) in
+        let call = Probe (byLists second startup (now (speeds .entry)) (now (weights .entry))) (record { load = load; speed = speed }) (now (separators .entry)) in
         ⌜ Leaves call (now (separators .exit) ∷ []) ⌝ }
     ensures answer { λ _.
-        let job = jobOf (now (speeds .entry)) (now (weights .entry)) in
+        let job = jobBy (byLists second startup (now (speeds .entry)) (now (weights .entry))) in
         let answered = probeAnswer job (record { load = load; speed = speed }) (now (separators .entry)) in
         ⌜ now (answer .exit) ≡ probedPut answered (now (answer .entry)) ⌝ }
 {
-    let probed = probe(speeds, weights, Bound { load, speed }, separators);
+    let probed = probe(
+        second,
+        startup,
+        speeds,
+        weights,
+        Bound { load, speed },
+        separators,
+    );
     put_probed(answer, probed)
 }
 
 // The answer: the bottleneck's load, speed.
 #[no_mangle]
 pub extern "C" fn exported_heuristic(
+    second: bool,
+    startup: u32,
     speeds: &[u32],
     weights: &[u32],
     separators: &mut [u32],
     answer: &mut [u64],
 ) -> u32
     ensures number { λ r.
-        let call = Heuristic (now (speeds .entry)) (now (weights .entry)) (now (separators .entry)) in
+        let call = Heuristic (byLists second startup (now (speeds .entry)) (now (weights .entry))) (now (separators .entry)) in
         ⌜ r ≡ number call ⌝ }
     ensures left { λ _.
-        let call = Heuristic (now (speeds .entry)) (now (weights .entry)) (now (separators .entry)) in
+        let call = Heuristic (byLists second startup (now (speeds .entry)) (now (weights .entry))) (now (separators .entry)) in
         ⌜ Leaves call (now (separators .exit) ∷ []) ⌝ }
     ensures answer { λ _.
-        let call = Heuristic (now (speeds .entry)) (now (weights .entry)) (now (separators .entry)) in
+        let call = Heuristic (byLists second startup (now (speeds .entry)) (now (weights .entry))) (now (separators .entry)) in
         ⌜ now (answer .exit) ≡ saidPut (said call) (now (answer .entry)) ⌝ }
 {
-    let measured = heuristic(speeds, weights, separators);
+    let measured = heuristic(second, startup, speeds, weights, separators);
     put_measured(answer, measured)
 }
 
 // The answer: the bottleneck's load, speed.
 #[no_mangle]
 pub extern "C" fn exported_halving(
+    second: bool,
+    startup: u32,
     speeds: &[u32],
     weights: &[u32],
     separators: &mut [u32],
     answer: &mut [u64],
 ) -> u32
     ensures number { λ r.
-        let call = Halving (now (speeds .entry)) (now (weights .entry)) (now (separators .entry)) in
+        let call = Halving (byLists second startup (now (speeds .entry)) (now (weights .entry))) (now (separators .entry)) in
         ⌜ r ≡ number call ⌝ }
     ensures left { λ _.
-        let call = Halving (now (speeds .entry)) (now (weights .entry)) (now (separators .entry)) in
+        let call = Halving (byLists second startup (now (speeds .entry)) (now (weights .entry))) (now (separators .entry)) in
         ⌜ Leaves call (now (separators .exit) ∷ []) ⌝ }
     ensures answer { λ _.
-        let call = Halving (now (speeds .entry)) (now (weights .entry)) (now (separators .entry)) in
+        let call = Halving (byLists second startup (now (speeds .entry)) (now (weights .entry))) (now (separators .entry)) in
         ⌜ now (answer .exit) ≡ saidPut (said call) (now (answer .entry)) ⌝ }
 {
-    let measured = halving(speeds, weights, separators);
+    let measured = halving(second, startup, speeds, weights, separators);
     put_measured(answer, measured)
 }
 
@@ -324,6 +360,8 @@ pub extern "C" fn exported_halving(
 #[no_mangle]
 pub extern "C" fn exported_plan(
     method: u32,
+    second: bool,
+    startup: u32,
     speeds: &[u32],
     weights: &[u32],
     separators: &mut [u32],
@@ -331,22 +369,32 @@ pub extern "C" fn exported_plan(
     answer: &mut [u64],
 ) -> u32
     ensures number { λ r.
-        let call = Plan method (now (speeds .entry)) (now (weights .entry)) (now (separators .entry)) (now (scratch .entry)) in
+        let call = Plan method (byLists second startup (now (speeds .entry)) (now (weights .entry))) (now (separators .entry)) (now (scratch .entry)) in
         ⌜ r ≡ number call ⌝ }
     ensures left { λ _.
-        let call = Plan method (now (speeds .entry)) (now (weights .entry)) (now (separators .entry)) (now (scratch .entry)) in
+        let call = Plan method (byLists second startup (now (speeds .entry)) (now (weights .entry))) (now (separators .entry)) (now (scratch .entry)) in
         ⌜ Leaves call (now (separators .exit) ∷ now (scratch .exit) ∷ []) ⌝ }
     ensures answer { λ _.
-        let call = Plan method (now (speeds .entry)) (now (weights .entry)) (now (separators .entry)) (now (scratch .entry)) in
+        let call = Plan method (byLists second startup (now (speeds .entry)) (now (weights .entry))) (now (separators .entry)) (now (scratch .entry)) in
         ⌜ now (answer .exit) ≡ saidPut (said call) (now (answer .entry)) ⌝ }
 {
-    let planned = plan(method, speeds, weights, separators, scratch);
+    let planned = plan(
+        method,
+        second,
+        startup,
+        speeds,
+        weights,
+        separators,
+        scratch,
+    );
     put_planned(answer, planned)
 }
 
 // The answer: the bytes written.
 #[no_mangle]
 pub extern "C" fn exported_write_plan(
+    second: bool,
+    startup: u32,
     speeds: &[u32],
     weights: &[u32],
     separators: &[u32],
@@ -354,16 +402,16 @@ pub extern "C" fn exported_write_plan(
     answer: &mut [u64],
 ) -> u32
     ensures number { λ r.
-        let call = WritePlan (now (speeds .entry)) (now (weights .entry)) (now (separators .entry)) (now (plan .entry)) in
+        let call = WritePlan (byLists second startup (now (speeds .entry)) (now (weights .entry))) (now (separators .entry)) (now (plan .entry)) in
         ⌜ r ≡ number call ⌝ }
     ensures left { λ _.
-        let call = WritePlan (now (speeds .entry)) (now (weights .entry)) (now (separators .entry)) (now (plan .entry)) in
+        let call = WritePlan (byLists second startup (now (speeds .entry)) (now (weights .entry))) (now (separators .entry)) (now (plan .entry)) in
         ⌜ Leaves call (now (plan .exit) ∷ []) ⌝ }
     ensures answer { λ _.
-        let call = WritePlan (now (speeds .entry)) (now (weights .entry)) (now (separators .entry)) (now (plan .entry)) in
+        let call = WritePlan (byLists second startup (now (speeds .entry)) (now (weights .entry))) (now (separators .entry)) (now (plan .entry)) in
         ⌜ now (answer .exit) ≡ saidPut (said call) (now (answer .entry)) ⌝ }
 {
-    let written = write_plan(speeds, weights, separators, plan);
+    let written = write_plan(second, startup, speeds, weights, separators, plan);
     put_written(answer, written)
 }
 
@@ -383,19 +431,21 @@ pub extern "C" fn exported_plan_job(job: &[u8], method: u32, plan: &mut [u8]) ->
 // The answer: 1 best, 2 valid.
 #[no_mangle]
 pub extern "C" fn exported_grade(
+    second: bool,
+    startup: u32,
     speeds: &[u32],
     weights: &[u32],
     plan: &[u8],
     answer: &mut [u64],
 ) -> u32
     ensures number { λ r.
-        let call = Grade (now (speeds .entry)) (now (weights .entry)) (now (plan .entry)) in
+        let call = Grade (byLists second startup (now (speeds .entry)) (now (weights .entry))) (now (plan .entry)) in
         ⌜ r ≡ number call ⌝ }
     ensures answer { λ _.
-        let call = Grade (now (speeds .entry)) (now (weights .entry)) (now (plan .entry)) in
+        let call = Grade (byLists second startup (now (speeds .entry)) (now (weights .entry))) (now (plan .entry)) in
         ⌜ now (answer .exit) ≡ saidPut (said call) (now (answer .entry)) ⌝ }
 {
-    let graded = grade(speeds, weights, plan);
+    let graded = grade(second, startup, speeds, weights, plan);
     put_graded(answer, graded)
 }
 
