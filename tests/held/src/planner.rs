@@ -86,6 +86,23 @@ impl Call {
             Call::Read | Call::List | Call::Host { .. } | Call::HostGrade => None,
         }
     }
+
+    /// The same call with this edition beside its lists.
+    #[cfg(feature = "faults")]
+    pub fn beside(self, n: Edition) -> Call {
+        match self {
+            Call::Test(_) => Call::Test(n),
+            Call::Write(_) => Call::Write(n),
+            Call::Measure(_) => Call::Measure(n),
+            Call::Trial(_, load, speed) => Call::Trial(n, load, speed),
+            Call::Quick(_) => Call::Quick(n),
+            Call::Halving(_) => Call::Halving(n),
+            Call::Plan(_, method) => Call::Plan(n, method),
+            Call::PlanFile(_) => Call::PlanFile(n),
+            Call::Grade(_) => Call::Grade(n),
+            Call::Read | Call::List | Call::Host { .. } | Call::HostGrade => self,
+        }
+    }
 }
 
 /// Where a list is and how many entries it has.
