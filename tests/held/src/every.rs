@@ -256,10 +256,21 @@ fn count_edition(c: &mut Check, s: &Solved) {
     c.editions[2] += (startup > 0) as u64;
     c.editions[3] += (startup == STARTUP) as u64;
     c.editions[6] += (s.job.speeds.len() == 1 && s.counts[1] == 2) as u64;
-    if startup == 0 || !is_tiny(&s.job) || !c.rng.once_in(8) {
+    if !is_tiny(&s.job) || !c.rng.once_in(8) {
         return;
     }
-    let (without, _) = crate::fast::solve(&Job { startup: None, ..s.job.clone() });
+    let first = Job { startup: None, ..s.job.clone() };
+    if startup == 0 {
+        let f = Solved::of(&first);
+        let same = (&f.best, f.bottleneck, f.counts, f.imbalance, &f.quick) == (&s.best, s.bottleneck, s.counts, s.imbalance, &s.quick);
+        let one = |method: u32| method == 2 && s.job.speeds.len() == 1;
+        let allowed = (1..=4).all(|m| one(m) || methods::allowance(&first, m) == methods::allowance(&s.job, m));
+        if !same || !allowed {
+            c.fail("the solver's own second edition without start-up work is not as the first", format!("  {:?}", s));
+        }
+        return;
+    }
+    let (without, _) = crate::fast::solve(&first);
     let busy = |list: &[usize]| list.windows(2).filter(|two| two[0] < two[1]).count();
     c.editions[4] += (without != s.best) as u64;
     c.editions[5] += (busy(&s.best) < busy(&without)) as u64;

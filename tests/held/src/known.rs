@@ -1,11 +1,11 @@
-//! The jobs A to E, the edge lines of the scope, section 11, and the rows F to L of section 16, with the values written there, and more
-//! jobs, of both editions, worked by hand.
+//! The jobs A to E, the edge lines of the scope, section 11, the rows F to L of section 16 and the jobs M to Q of section 17, with the values
+//! written there, and more jobs, of both editions, worked by hand.
 
 use crate::answers::{bytes_of, After, Solved};
 use crate::check::Check;
 use crate::damage::is_tiny;
 use crate::job::{self, head, machine, tile, Job, Record};
-use crate::limits::{BOUND_LOAD, BOUND_SPEED, LISTING, LONGEST_HALVED, LONGEST_PLAN, MACHINES, PLAN_INTAKE};
+use crate::limits::{BOUND_LOAD, BOUND_SPEED, LISTING, LONGEST_HALVED, LONGEST_JOB, LONGEST_PLAN, MACHINES, PLAN_INTAKE};
 use crate::limits::{SPEED, STARTUP, TILES, TOO_MANY, WEIGHT};
 use crate::methods::{self, Trial};
 use crate::planner::{Call, Edition};
@@ -55,6 +55,15 @@ const ROUNDED: [Known; 5] = [
     Known { name: "more than a thousandth", weights: &[1_000_000, 998_001], speeds: &[1, 1], separators: &[0, 1, 2], bottleneck: (1_000_000, 1), counts: [1, 2, 1, 2], allowances: [2, 3, 21, 2], imbalance: 2 },
     Known { name: "the ideal 6/3 met by 4/2", weights: &[4, 2], speeds: &[2, 1], separators: &[0, 1, 2], bottleneck: (4, 2), counts: [1, 1, 1, 2], allowances: [2, 3, 6, 2], imbalance: 0 },
     Known { name: "a long row, one unit from even", weights: &ONE_LIGHTER, speeds: &[1, 1], separators: &[0, 1024, 2048], bottleneck: (1_024_000_000, 1), counts: [1025, 2, 1, 11], allowances: [2048, 2049, 21, 12], imbalance: 1 },
+];
+
+/// The jobs of the second edition of the scope, section 17, each with its start-up work.
+#[rustfmt::skip]
+const STARTED: [(u32, Known); 4] = [
+    (2, Known { name: "M", weights: &[1, 3, 8], speeds: &[1, 3], separators: &[0, 1, 3], bottleneck: (13, 3), counts: [2, 2, 2, 2], allowances: [3, 4, 8, 2], imbalance: 445 }),
+    (3, Known { name: "N", weights: &[1, 4, 4], speeds: &[1, 4], separators: &[0, 0, 3], bottleneck: (12, 4), counts: [1, 2, 2, 2], allowances: [3, 4, 8, 2], imbalance: 667 }),
+    (5, Known { name: "O", weights: &[0, 0], speeds: &[1, 1], separators: &[0, 2, 2], bottleneck: (5, 1), counts: [1, 2, 1, 2], allowances: [2, 3, 4, 2], imbalance: 0 }),
+    (4, Known { name: "Q", weights: &[5, 2], speeds: &[3], separators: &[0, 2], bottleneck: (11, 3), counts: [0, 2, 1, 0], allowances: [0, 2, 6, 0], imbalance: 572 }),
 ];
 
 /// Of the second edition, worked by hand, each with its start-up work: A, which one machine does alone; one machine, without start-up work,
@@ -265,6 +274,34 @@ fn lines_of_a(c: &mut Check) {
     on_lists(c, &a, Call::Measure(Edition { second: true, startup: 5 }), &bytes_of(&[0, 0, 3]), Ok((&[0, 0, 3], &[17, 3])));
 }
 
+/// The rows of section 17 and the sentences beside them: the quick plan of M, N without its start-up work, and no tiles.
+fn lines_of_section_17(c: &mut Check) {
+    for (startup, k) in &STARTED {
+        let (weights, speeds) = (text(k.weights), text(k.speeds));
+        let separators = text(&k.separators.iter().map(|&s| s as u32).collect::<Vec<_>>());
+        let list = |four: [u64; 4]| four.map(|n| n.to_string()).join(", ");
+        let ((load, speed), counts, allowances) = (k.bottleneck, list(k.counts), list(k.allowances));
+        let front = format!("| {} | {} | {} | {} | {} | {}/{} |", k.name, weights, speeds, startup, separators, load, speed);
+        in_scope(c, &format!("{} {} | {} | {} |", front, k.imbalance, counts, allowances));
+    }
+    let (startup, m) = &STARTED[0];
+    let n = Edition { second: true, startup: *startup };
+    let m = Job::of(n.counts(), m.speeds, m.weights);
+    on_lists(c, &m, Call::Quick(n), &bytes_of(&[9, 8, 7]), Ok((&[0, 2, 3], &[6, 1])));
+    in_scope(c, "The quick plan of M is 0 2 3 with bottleneck 6/1.");
+    let without = Job::new(STARTED[1].1.speeds, STARTED[1].1.weights);
+    let good = slow::solve(&without).0 == [0, 1, 3] && slow::less((8, 4), slow::bottleneck(&without, &[0, 0, 3]));
+    if !good {
+        c.fail("the solver's plan of N without start-up work is another", String::new());
+    }
+    every::job(c, &Solved::of(&without), true);
+    in_scope(c, "Of N only machine 2 has tiles; without c both have: the plan is 0 1 3 then, and 0 0 3 is not best.");
+    let none = Job::of(Some(9), &[7, 2], &[]);
+    on_lists(c, &none, Call::Measure(Edition { second: true, startup: 9 }), &bytes_of(&[0, 0, 0]), Ok((&[0, 0, 0], &[0, 7])));
+    every::job(c, &Solved::of(&none), true);
+    in_scope(c, "on speeds 7 2 with c = 9 the bottleneck is 0/7.");
+}
+
 /// A trial: where it fails, its next bid.
 struct Tried {
     name: &'static str,
@@ -305,9 +342,10 @@ const MORE_TRIALS: [Tried; 14] = [
     Tried { name: "the greatest bound", weights: &[WEIGHT; TILES], speeds: &[1, 1], bound: (BOUND_LOAD, 1), next: None, separators: &[0, 2048, 2048] },
 ];
 
-/// Of the second edition, worked by hand, each with its start-up work.
+/// Of the second edition, each with its start-up work: that of the scope, the others worked by hand.
 #[rustfmt::skip]
-const SECOND_TRIALS: [(u32, Tried); 11] = [
+const SECOND_TRIALS: [(u32, Tried); 12] = [
+    (2, Tried { name: "A trial of M", weights: STARTED[0].1.weights, speeds: STARTED[0].1.speeds, bound: (1, 1), next: Some((3, 1)), separators: &[0, 0, 1] }),
     (5, Tried { name: "A with start-up work, at the ideal", weights: JOBS[0].weights, speeds: JOBS[0].speeds, bound: (3, 1), next: Some((17, 3)), separators: &[0, 0, 2] }),
     (5, Tried { name: "A with start-up work, at its bottleneck", weights: JOBS[0].weights, speeds: JOBS[0].speeds, bound: (17, 3), next: None, separators: &[0, 0, 3] }),
     (5, Tried { name: "A with start-up work, at 6/1", weights: JOBS[0].weights, speeds: JOBS[0].speeds, bound: (6, 1), next: None, separators: &[0, 1, 3] }),
@@ -350,7 +388,7 @@ fn all_tried(c: &mut Check) {
     for (startup, k) in &SECOND_TRIALS {
         tried(c, Some(*startup), k);
     }
-    for k in &TRIALS {
+    for k in TRIALS.iter().chain([&SECOND_TRIALS[0].1]) {
         if let Some((load, speed)) = k.next {
             let (at, over) = k.bound;
             in_scope(c, &format!("{} at {}/{} fails with next bid {}/{} and writes {}", k.name, at, over, load, speed, text(k.separators)));
@@ -374,10 +412,11 @@ pub fn run(c: &mut Check) {
     for k in JOBS.iter().chain(&MORE).chain(&ROUNDED) {
         marked(c, None, k);
     }
-    for (startup, k) in &SECOND {
+    for (startup, k) in STARTED.iter().chain(&SECOND) {
         marked(c, Some(*startup), k);
     }
     lines_of_a(c);
+    lines_of_section_17(c);
     all_tried(c);
     rows(c);
     files_of_a_and_d(c);
@@ -401,6 +440,9 @@ fn sentences(c: &mut Check) {
         format!("Each tile has a weight w, 0 to {}.", figure(WEIGHT as u64)),
         format!("A job has P machines, 1 to {},", figure(machines)),
         format!("Each machine has a speed e, 1 to {}.", figure(SPEED as u64)),
+        format!("which has start-up work c, 0 to {}.", figure(STARTUP as u64)),
+        format!("c = {} is taken; {} is refused with 16,", figure(STARTUP as u64), figure(STARTUP as u64 + 1)),
+        format!("The longest job file has {} records.", figure(LONGEST_JOB as u64 / 8)),
         format!("has a load of 0 to {} and a speed of 1 to {}.", figure(BOUND_LOAD), figure(BOUND_SPEED)),
         format!("; {} bytes for a listing;", figure(LISTING as u64)),
         format!("{} machines are taken; none and {} are refused with 7, with {} tiles too.", figure(machines), figure(machines + 1), figure(tiles + 1)),

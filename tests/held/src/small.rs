@@ -248,7 +248,7 @@ pub fn run(c: &mut Check, times: usize) {
     for _ in 0..4_000 * times {
         near(c);
     }
-    for _ in 0..120_000 * times {
+    for _ in 0..110_000 * times {
         random(c);
     }
 }
