@@ -54,6 +54,13 @@ makes B 1 2 : 4 3 2 6 1
 makes C 7 2 :
 makes D 1 1 : 0 0
 makes E 1 1 : 6
+makes N startup 3 1 4 : 1 4 4
+printf '\003\000\000\000\100\102\017\000\001\000\000\000\007\000\000\000' >"$work/wanted"
+examples/make-job startup 1000000 7 : >"$work/job" || fail "start-up work and no tiles: refused"
+cmp -s "$work/job" "$work/wanted" || fail "start-up work and no tiles: other bytes"
+examples/make-job startup 0 1 3 : 1 3 8 >"$work/job" || fail "start-up work 0: refused"
+printf '\003\000\000\000\000\000\000\000' | cat - examples/A.job | cmp -s - "$work/job" || fail "start-up work 0: other bytes"
+checks=$((checks + 2))
 refuses
 refuses 1 2
 refuses 1 : 2 : 3
@@ -64,6 +71,19 @@ refuses 1 : 12345678901
 refuses x : 1
 refuses 1 : 2:3
 refuses '' : 1
+refuses startup
+refuses startup 3
+refuses startup : 1
+refuses startup 3 1 4
+refuses startup x 1 : 1
+refuses startup -1 1 : 1
+refuses startup 03 1 : 1
+refuses startup '' 1 : 1
+refuses startup 4294967296 1 : 1
+refuses startup startup 3 1 : 1
+refuses 3 startup 1 : 1
+refuses 1 : startup 3 1
+refuses Startup 3 1 : 1
 
 plans examples/A-best.plan examples/A.job 0 1 3
 plans examples/A-valid.plan examples/A.job 0 2 3
@@ -72,6 +92,14 @@ examples/make-job 1 3 : 1 3 9 >"$work/older"
 plans examples/A-untrue.plan "$work/older" 0 1 3
 printf '\000\000\000\000\000\000\000\000\000\000\000\000\007\000\000\000\000\000\000\000\000\000\000\000\000\000\000\000\002\000\000\000' >"$work/of-c"
 plans "$work/of-c" examples/C.job 0 0 0
+plans examples/N-best.plan examples/N.job 0 0 3
+plans examples/N-valid.plan examples/N.job 0 1 3
+examples/make-job 1 4 : 1 4 4 >"$work/first"
+plans examples/N-first.plan "$work/first" 0 1 3
+# Start-up work 1,000,000 for a tile of weight 0, 0x000F4240, and none without a tile.
+examples/make-job startup 1000000 1 2 : 0 >"$work/idle"
+printf '\000\000\000\000\000\000\000\000\000\000\000\000\001\000\000\000\000\000\000\000\001\000\000\000\100\102\017\000\002\000\000\000' >"$work/of-idle"
+plans "$work/of-idle" "$work/idle" 0 0 1
 # All four bytes of a load: 18 tiles of weight 1,000,000 are 0x0112A880.
 # shellcheck disable=SC2046
 examples/make-job 10000 : $(awk 'BEGIN { for (i = 0; i < 18; i++) print 1000000 }') >"$work/heavy"

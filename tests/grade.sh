@@ -62,6 +62,9 @@ says "a best plan" best "$a" "$best"
 says "a valid plan" valid "$a" examples/A-valid.plan
 says "an untrue plan" "refused 13" "$a" examples/A-untrue.plan
 says "a best plan with other separators" best examples/D.job examples/D-other.plan
+says "a best plan with start-up work" best examples/N.job examples/N-best.plan
+says "a valid plan with start-up work" valid examples/N.job examples/N-valid.plan
+says "a plan whose loads have no start-up work" "refused 13" examples/N.job examples/N-first.plan
 says "a plan beside another job" "refused 11" examples/B.job "$best"
 says "job and plan exchanged" "refused 3" "$best" "$a"
 says "a job for both" "refused 12" "$a" "$a"
@@ -91,6 +94,19 @@ divisions B 5 valid best valid valid valid valid
 divisions C 0 best
 divisions D 2 best best best
 divisions E 1 best best
+divisions N 3 best valid valid valid
+
+# N in the first edition, whose best plan is another, and with start-up work 0, with which the same is said
+examples/make-job 1 4 : 1 4 4 >"$work/first.job"
+examples/make-job startup 0 1 4 : 1 4 4 >"$work/none.job"
+for word in "0 0 3 valid" "0 1 3 best" "0 2 3 valid" "0 3 3 valid"; do
+    # shellcheck disable=SC2086
+    set -- $word
+    examples/make-plan "$work/first.job" "$1" "$2" "$3" >"$work/plan"
+    says "N without start-up work, $1 $2 $3" "$4" "$work/first.job" "$work/plan"
+    says "N with start-up work 0, $1 $2 $3" "$4" "$work/none.job" "$work/plan"
+    says "N, $1 $2 $3 with the loads of the first edition" "refused 13" examples/N.job "$work/plan"
+done
 
 # the plans of strips, as its listings give them
 for job in examples/*.job; do
@@ -107,9 +123,10 @@ if command -v cc >/dev/null 2>&1 && [ -f target/staticlib/libplanner.a ]; then
 #include "pelshaqu.h"
 int main(int count, char **words) {
     static uint8_t job[INTAKE], plan[PELSHAQU_MAX_PLAN];
-    size_t len = fread(job, 1, sizeof job, stdin), machines = 0;
+    size_t len = fread(job, 1, sizeof job, stdin), machines = 0, front;
     if (count != 2 || plan_job(job, len, (uint32_t)atoi(words[1]), plan, sizeof plan) != 0) return 1;
-    while (8 * machines < len && job[8 * machines] == 1) machines++;
+    front = job[0] == 3;
+    while (8 * (front + machines) < len && job[8 * (front + machines)] == 1) machines++;
     return fwrite(plan, 16, machines, stdout) != machines;
 }
 CODE
@@ -141,14 +158,32 @@ refused() {
     says "$2, an empty plan" "refused $1" "$work/job" "$work/empty"
     says "$2, a longer plan" "refused $1" "$work/job" "$a"
 }
-record 3 1 >"$work/job"
-refused 3 "kind 3"
+record 4 1 >"$work/job"
+refused 3 "kind 4"
 {
     record 1 1
     record 2 1
     record 1 1
 } >"$work/job"
 refused 4 "a machine after a tile"
+record 3 1 >"$work/job"
+refused 7 "start-up work alone"
+record 3 1 >>"$work/job"
+refused 15 "start-up work twice"
+{
+    cat "$a"
+    record 3 $((startup + 1))
+} >"$work/job"
+refused 15 "start-up work behind the tiles"
+record 3 $((startup + 1)) | cat - "$a" >"$work/job"
+refused 16 "start-up work 1,000,001"
+{
+    record 3 $((startup + 1))
+    record 1 0
+} >"$work/job"
+refused 16 "start-up work 1,000,001 and speed 0"
+record 3 "$startup" | cat - "$a" >"$work/job"
+says "start-up work 1,000,000, a plan without it" "refused 13" "$work/job" "$best"
 record 1 10001 >"$work/job"
 refused 5 "speed 10,001"
 {
@@ -245,7 +280,10 @@ for more in 1 2 15 16 17 $((longest_plan - size - 1)) $((longest_plan - size)) $
     says "a plan and $more bytes more" "refused 12" "$a" "$work/plan"
 done
 long=$work/large2.plan
-equal "large2: its bytes" "$longest_job" "$(wc -c <examples/large2.job | tr -d ' ')"
+equal "large2: its bytes" "$longest_first" "$(wc -c <examples/large2.job | tr -d ' ')"
+make_longest
+equal "the longest job: its bytes" "$longest_job" "$(wc -c <"$work/longest" | tr -d ' ')"
+says "the longest job, without start-up work: the plan of large2" best "$work/longest" "$long"
 equal "large2: the bytes of its plan" "$longest_plan" "$(wc -c <"$long" | tr -d ' ')"
 for more in 1 8 15 16 17 32 100000; do
     {
@@ -270,18 +308,18 @@ says "the longest plan, its last byte changed" "refused 13" examples/large2.job 
 } >"$work/plan"
 says "the longest plan, a gap before its last record" "refused 11" examples/large2.job "$work/plan"
 
-# longer jobs: large2 is the longest
+# longer jobs
 records 2 2 1 >"$work/tail"
 for more in 1 4 7 8 9 15 16; do
     {
-        cat examples/large2.job
+        cat "$work/longest"
         head -c "$more" "$work/tail"
     } >"$work/job"
     says "a job of $(figure $((longest_job + more))) bytes" "refused $([ "$more" -lt 8 ] && echo 2 || echo 8)" "$work/job" "$long"
 done
 around_intake
 {
-    cat examples/large2.job
+    cat "$work/longest"
     head -c 300000 /dev/zero
 } >"$work/job"
 says "zeros behind the longest job" "refused 3" "$work/job" "$long"
@@ -325,13 +363,13 @@ writers=$!
 in_pieces "$best" 1 1 1 1 3 9 1 >"$work/plans" &
 writers="$writers $!"
 piped "both by pipes, in pieces" best
-in_pieces examples/large2.job 4096 8000 1 >"$work/jobs" &
+in_pieces "$work/longest" 4096 8000 1 >"$work/jobs" &
 writers=$!
 in_pieces "$long" 5 2000 1 16 >"$work/plans" &
 writers="$writers $!"
 piped "the longest by pipes, in pieces" best
 {
-    in_pieces examples/large2.job $((longest_job - 1))
+    in_pieces "$work/longest" $((longest_job - 1))
     sleep 0.02
     head -c 8 "$work/tail"
     exec sleep 8
@@ -458,7 +496,7 @@ equal "script, the plan by a pipe" best "$got"
 status "--help" 0 ./grade --help
 equal "script, --help: first line" "usage: ./grade JOB PLAN" "$(head -n 1 "$work/out")"
 equal "script, --help: standard error" "" "$(cat "$work/said")"
-for number in 2 3 4 5 6 7 8 11 12 13; do
+for number in 2 3 4 5 6 7 8 11 12 13 15 16; do
     equal "script, --help: refusal $number" 1 "$(grep -c "^ *$number " "$work/out")"
 done
 wrong "no argument" ./grade

@@ -78,9 +78,10 @@ limit() {
     echo "$number"
 }
 tiles=$(limit maxTasks) && weight=$(limit maxWeight) && machines=$(limit maxProcessors) && speed=$(limit maxSpeed) &&
-    bound_load=$(limit maxBoundLoad) && bound_speed=$(limit maxBoundSpeed) || exit 1
-# One record more than the longest job file has, and than the longest plan file.
-job_bytes=$((8 * (machines + tiles + 1)))
+    startup=$(limit maxStartup) && bound_load=$(limit maxBoundLoad) && bound_speed=$(limit maxBoundSpeed) || exit 1
+# The records of the longest job file, which is of the second edition; one record more than it has, and than the longest plan file.
+job_records=$((1 + machines + tiles))
+job_bytes=$((8 * (job_records + 1)))
 plan_bytes=$((16 * (machines + 1)))
 # The room of a listing, as crates/listing/specs/Room.antt has it: a first line, and one for each of four methods, with a field of 21
 # bytes for a separator.
@@ -113,6 +114,10 @@ says $text 11.6 '# tiles' $((tiles + 1))
 says $text 11.7 '# tiles are taken' "$tiles"
 says $text 11.7 '; # are refused' $((tiles + 1))
 says $text 15.3 'up to # machines' "$machines"
+says $text 17.1 'c, 0 to #' "$startup"
+says $text 17.5 'c = # is taken' "$startup"
+says $text 17.5 'taken; # is refused' $((startup + 1))
+says $text 17.17 'file has # records' "$job_records"
 
 # The pages for users
 text=README.md
@@ -123,7 +128,16 @@ says $text '' 'speed, 1 to #' "$speed"
 says $text '' 'weight, 0 to #' "$weight"
 says $text '' '1 to # machines' "$machines"
 says $text '' '0 to # tiles' "$tiles"
+says $text '' 'c, 0 to #' "$startup"
+says $text '' 'first edition has # +' "$machines"
+says $text '' "first edition has $machines + # =" "$tiles"
+says $text '' "$(grouped "$tiles") = # records" $((machines + tiles))
+says $text '' "$(grouped $((machines + tiles))) records, # bytes" $((8 * (machines + tiles)))
+says $text '' 'one more: # records' "$job_records"
+says $text '' "$(grouped "$job_records") records, # bytes" $((8 * job_records))
 text=docs/REFUSALS.md
+says $text '| 16 |' 'c = #' $((startup + 1))
+says $text '| 16 |' 'work is 0 to #' "$startup"
 says $text '| 5 |' 'or of #' $((speed + 1))
 says $text '| 5 |' '1 to #' "$speed"
 says $text '| 6 |' 'of weight #' $((weight + 1))
@@ -154,6 +168,7 @@ says docs/WHY.md '' 'any stored job has # machines' "$machines"
 says docs/WHY.md '' 'a row of # is refused' $((machines + 1))
 says docs/WHY.md '' 'a job of up to # machines' "$machines"
 says docs/TESTING.md '' "of $(grouped "$tiles") × #" "$machines"
+says docs/API.md '' 'start-up work c, 0 to #' "$startup"
 halved=1
 while [ $((2 * halved)) -le "$machines" ]; do halved=$((2 * halved)); done
 says docs/API.md '' '16, 32 or #; a job within' "$halved"
@@ -180,6 +195,8 @@ says strips '' 'At most # bytes are read' "$job_bytes"
 says docs/strips.1 '' 'speed, 1 to #' "$speed"
 says docs/strips.1 '' 'weight, 0 to #' "$weight"
 says docs/strips.1 '' 'At most # bytes are read' "$job_bytes"
+says strips '' 'start-up work (0 to #)' "$startup"
+says docs/strips.1 '' 'start-up work, 0 to #' "$startup"
 for text in strips docs/strips.1; do
     says $text '' '1 to # machines' "$machines"
     says $text '' 'at most # tiles' "$tiles"
@@ -197,6 +214,8 @@ done
 text=include/pelshaqu.h
 says $text '#define PELSHAQU_MAX_MACHINES' 'PELSHAQU_MAX_MACHINES #' "$machines"
 says $text '#define PELSHAQU_MAX_TILES' 'PELSHAQU_MAX_TILES #' "$tiles"
+says $text '#define PELSHAQU_MAX_STARTUP' 'PELSHAQU_MAX_STARTUP #' "$startup"
+says $text '' 'start-up work (0 to #)' "$startup"
 says $text '' 'speed (1 to #)' "$speed"
 says $text '' 'weight (0 to #)' "$weight"
 says $text '' '1 to # machines' "$machines"
@@ -208,6 +227,7 @@ for text in crates/refusals/src/lib.rt bench/src/plain.rs; do
     says $text '' 'MAX_WEIGHT: u32 = #;' "$weight"
     says $text '' 'MAX_PROCESSORS: usize = #;' "$machines"
     says $text '' 'MAX_SPEED: u32 = #;' "$speed"
+    says $text '' 'MAX_STARTUP: u32 = #;' "$startup"
     says $text '' 'MAX_BOUND_LOAD: u64 = #;' "$bound_load"
     says $text '' 'MAX_BOUND_SPEED: u64 = #;' "$bound_speed"
 done
@@ -220,14 +240,14 @@ says $text "$row" '| #, weights' "$tiles"
 says $text "$row" 'weights up to #' "$weight"
 says $text "$row" '| #, speeds' "$machines"
 says $text "$row" 'speeds up to #' "$speed"
-awk -v row="$row" 'index($0, row) == 1 && /the largest job allowed/ { found = 1 } END { exit !found }' $text ||
-    wrong "$text, $row: not called 'the largest job allowed'"
+awk -v row="$row" 'index($0, row) == 1 && /the largest job allowed, of the first edition/ { found = 1 } END { exit !found }' $text ||
+    wrong "$text, $row: not called 'the largest job allowed, of the first edition'"
 # The first byte of a record is its kind.
 records=$(od -An -v -tu1 examples/large2.job | awk '{ for (i = 1; i <= NF; i++) if (bytes++ % 8 == 0) kind[$i]++ }
     END { print kind[1] + 0, kind[2] + 0, bytes + 0 }')
 figures=$((figures + 2))
 [ "$records" = "$machines $tiles $((8 * (machines + tiles)))" ] ||
-    wrong "examples/large2.job has $records (machines, tiles, bytes), and the largest job $machines $tiles $((8 * (machines + tiles)))"
+    wrong "examples/large2.job has $records (machines, tiles, bytes), and the largest job of the first edition $machines $tiles $((8 * (machines + tiles)))"
 
 for text in README.md docs/API.md docs/WHY.md docs/FORMATS.md docs/REFUSALS.md docs/strips.1 docs/grade.1 strips grade include/pelshaqu.h \
     examples/README.md; do

@@ -58,6 +58,15 @@ of() {
     in_table | awk -v from="$1" -v to="$2" '$1 + 0 >= from && $1 + 0 <= to'
 }
 
+# What a job file can give, in the order of the tests.
+of_file() {
+    of 2 4
+    of 15 15
+    of 5 6
+    of 16 16
+    of 7 8
+}
+
 # What a plan file can give, in the order of the tests.
 of_plan() {
     of 12 12
@@ -69,11 +78,11 @@ all=$(in_table)
 numbers=$(in_table | sed 's/:.*//')
 same "the table's numbers, which are to rise by one" "$(in_table | awk '{ print NR }')" "$numbers"
 same "the number of refusals in the table, which is not to be 0" yes "$([ -n "$all" ] && echo yes || echo no)"
-same "include/pelshaqu.h, what the C calls can give" "$(of 1 9; of 9 9; of_plan)" "$(in_header)"
-same "./strips --help, what a file can give" "$(of 2 8)" "$(in_help strips)"
-same "docs/strips.1, what a file can give" "$(of 2 8)" "$(in_manual docs/strips.1)"
-same "./grade --help, what two files can give" "$(of 2 8; of_plan)" "$(in_help grade)"
-same "docs/grade.1, what two files can give" "$(of 2 8; of_plan)" "$(in_manual docs/grade.1)"
+same "include/pelshaqu.h, what the C calls can give" "$(of 1 1; of_file; of 9 9; of 9 9; of_plan)" "$(in_header)"
+same "./strips --help, what a file can give" "$(of_file)" "$(in_help strips)"
+same "docs/strips.1, what a file can give" "$(of_file)" "$(in_manual docs/strips.1)"
+same "./grade --help, what two files can give" "$(of_file; of_plan)" "$(in_help grade)"
+same "docs/grade.1, what two files can give" "$(of_file; of_plan)" "$(in_manual docs/grade.1)"
 same "the definitions' numbers" "$numbers" "$(in_definitions crates/chain/specs/Refusal.antt crates/jobs/specs/Parse.antt)"
 same "the definitions under their quotes" "" "$(misquoted crates/chain/specs/Refusal.antt crates/jobs/specs/Parse.antt)"
 

@@ -2,7 +2,7 @@
 # Every quote in a comment of crates/ stands in docs/SCOPE.md: behind 'Scope 3.4:' in that sentence, behind 'Refusal 7:' in that row of
 # the table, else anywhere on the page. ' .. ' in a quote leaves words out. The page's worked jobs have the figures of their listings in
 # examples/, which are those that the program writes (tests/strips.sh) and that the prover computes (crates/listing/proofs/Examples.antt);
-# so have README.md, docs/strips.1, docs/WHY.md (the imbalance of A, the plan of D) and examples/README.md (bottlenecks and imbalances).
+# so have README.md, docs/strips.1, docs/WHY.md (the imbalances of A and N, the plan of D) and examples/README.md (bottlenecks and imbalances).
 # Its trials that fail are rows of crates/chain/specs/Marked.antt; docs/WHY.md has that of B. The bytes that docs/FORMATS.md shows are those
 # of the example files.
 set -eu
@@ -74,12 +74,15 @@ row() {
 failed=0
 work=$(mktemp)
 trap 'rm -f "$work"' EXIT
-for job in A B C D E; do
-    said=$(awk -v job="$job" -F ' *[|] *' '/^## / { inside = /^## 11 / } inside && $2 == job {
+# In section 17 the start-up work stands behind the speeds; it must be that of the example's file.
+for job in A B C D E N; do
+    said=$(awk -v job="$job" -F ' *[|] *' '/^## / { section = $1; sub(/^## /, "", section); sub(/ .*/, "", section) }
+        (section == 11 || section == 17) && $2 == job {
         n = $3 == "none" ? 0 : split($3, w, " "); for (i = 1; i <= n; i++) total += w[i]
-        print n, split($4, e, " "), total + 0 " | " $5 " | " $6 " | " $7 " | " $8 " | " $9 " |" }' docs/SCOPE.md)
+        k = section == 17 ? 6 : 5
+        print n, split($4, e, " "), total + 0 " | " $k " | " $(k + 1) " | " $(k + 2) " | " $(k + 3) " | " $(k + 4) " |" }' docs/SCOPE.md)
     if [ "$said" != "$(row "examples/$job.txt")" ]; then
-        printf 'docs/SCOPE.md, section 11: job %s is said to have\n  %s\nand examples/%s.txt has\n  %s\n' "$job" "$said" "$job" "$(row "examples/$job.txt")"
+        printf 'docs/SCOPE.md: job %s is said to have\n  %s\nand examples/%s.txt has\n  %s\n' "$job" "$said" "$job" "$(row "examples/$job.txt")"
         failed=1
     fi
 done
@@ -90,8 +93,14 @@ fi
 # The first page and the manual show A's listing, WHY.md its imbalance, and the examples' table each bottleneck and imbalance.
 same() { [ "$2" = "$3" ] || { printf '%s: "%s", and the listing has "%s"\n' "$1" "$2" "$3"; failed=1; }; }
 same README.md "$(sed -n '/gives the listing of job A/,/^\*\*Read it/s/^    //p' README.md)" "$(cat examples/A.txt)"
-same docs/strips.1 "$(awk '/^\.fi/ { inside = 0 } inside; $0 == "$ ./strips examples/A.job" { inside = 1 }' docs/strips.1)" "$(cat examples/A.txt)"
+for job in A N; do
+    same "docs/strips.1, $job" "$(awk -v line="$ ./strips examples/$job.job" '/^\.fi/ { inside = 0 } inside; $0 == line { inside = 1 }' docs/strips.1)" \
+        "$(cat "examples/$job.txt")"
+done
+same "docs/SCOPE.md, the start-up work of N" "$(awk -F ' *[|] *' '/^## / { inside = /^## 17 / } inside && $2 == "N" { print $5 }' docs/SCOPE.md)" \
+    "$(od -An -v -tu4 -N8 examples/N.job | awk '$1 == 3 { print $2 }')"
 same docs/WHY.md "$(sed -n 's/.*so it says \([0-9]*\)\.$/\1/p' docs/WHY.md)" "$(awk 'NR == 2 { print $6 }' examples/A.txt)"
+same "docs/WHY.md, N" "$(tr '\n' ' ' <docs/WHY.md | sed -n 's/.*job N has [^.]*, so \([0-9]*\)\..*/\1/p')" "$(awk 'NR == 2 { print $6 }' examples/N.txt)"
 for text in examples/*.txt; do
     job=$(basename "$text" .txt)
     same "examples/README.md, $job" "$(awk -F ' *[|] *' -v job="\`$job\`" '$2 == job { print $5, $6 }' examples/README.md)" \
@@ -99,37 +108,39 @@ for text in examples/*.txt; do
 done
 same docs/WHY.md "$(tr '\n' ' ' <docs/WHY.md | sed -n 's/.*our plan is \([0-9 ]*\), and [0-9 ]* and [0-9 ]* are best as well.*/\1/p')" \
     "$(awk 'NR == 2 { print $7, $8, $9 }' examples/D.txt)"
-# The trials of section 11 that fail are rows of the table that the prover computes; so is the one that WHY.md tells of job B.
-trials=$(awk '/^## / { inside = /^## 11 / }
-    inside && /^[0-9]+\. (A trial of [A-E]|Of weights [0-9 ]+ on one machine of speed [0-9]+ a trial) at [0-9]+\/[0-9]+ fails with next bid / {
+# The trials of sections 11 and 17 that fail are rows of the table that the prover computes; so is the one that WHY.md tells of job B.
+trials=$(awk '/^## / { inside = /^## (11|17) / }
+    inside && /^[0-9]+\. (A trial of [A-Z]|Of weights [0-9 ]+ on one machine of speed [0-9]+ a trial) at [0-9]+\/[0-9]+ fails with next bid / {
         job = "job" $5; list = $0
         sub(/.* and writes /, "", list); sub(/[^0-9 ].*/, "", list)
         if ($2 == "Of") {
             speed = $0; sub(/.*of speed /, "", speed); sub(/ .*/, "", speed)
             weights = $0; sub(/.*Of weights /, "", weights); sub(/ on .*/, "", weights)
             gsub(/ /, " ∷ ", weights)
-            job = "(jobOf (" speed " ∷ []) (" weights " ∷ []))"
+            job = "(jobOf 0 (" speed " ∷ []) (" weights " ∷ []))"
         }
         at = $0; sub(/ fails .*/, "", at); sub(/.* at /, "", at); sub(/\//, " ", at)
         next_bid = $0; sub(/.*next bid /, "", next_bid); sub(/ .*/, "", next_bid); sub(/\//, " ", next_bid)
         gsub(/ /, " ∷ ", list)
         print "failsWith " job " (over " at ") (over " next_bid ") (" list " ∷ [])"
     }' docs/SCOPE.md)
-[ "$(printf '%s\n' "$trials" | grep -c failsWith)" = 4 ] || { echo "docs/SCOPE.md, section 11: four trials that fail are looked for"; failed=1; }
+[ "$(printf '%s\n' "$trials" | grep -c failsWith)" = 5 ] || { echo "docs/SCOPE.md, sections 11 and 17: five trials that fail are looked for"; failed=1; }
 printf '%s\n' "$trials" >"$work"
 while read -r trial; do
     grep -qF "$trial" crates/chain/specs/Marked.antt || { echo "crates/chain/specs/Marked.antt: no row '$trial'"; failed=1; }
 done <"$work"
 told=$(tr '\n' ' ' <docs/WHY.md | sed -n 's/.*Job B has tiles of \([0-9 ]*\) on machines of speed 1 and 2\. At the bound \([0-9]*\)\/\([0-9]*\), .* The trial fails and writes \([0-9 ]*\)\. .*The next bid, here \([0-9]*\)\/\([0-9]*\), .*At \([0-9]*\/[0-9]*\) this one does, with \([0-9 ]*\)\..*/\1|failsWith jobB (over \2 \3) (over \5 \6) (\4)|\7 \8/p')
 same docs/WHY.md "$told" "$(awk -F ' *[|] *' '$2 == "B" { print $3; exit }' docs/SCOPE.md)|$(grep 'failsWith jobB' "$work" | sed 's/ ∷ \[\]//; s/ ∷ / /g')|$(awk 'NR == 2 { print $4 "/" $5, $7, $8, $9 }' examples/B.txt)"
-# The bytes that FORMATS.md shows of job A and of its plan, one dump behind the other.
+# The bytes that FORMATS.md shows of jobs A and N and of their plans, one dump behind the other.
 shown() { awk -v which="$1" '/^    [0-9a-f]+  [0-9a-f][0-9a-f] / { if ($1 == "00000000") dump++
     if (dump == which) for (i = 2; i <= NF && $i ~ /^[0-9a-f][0-9a-f]$/; i++) printf "%s ", $i }' docs/FORMATS.md; }
 held() { od -An -v -tx1 "$1" | tr '\n' ' ' | sed 's/  */ /g;s/^ //'; }
 same "docs/FORMATS.md, job A" "$(shown 1)" "$(held examples/A.job)"
 same "docs/FORMATS.md, the plan of A" "$(shown 2)" "$(held examples/A-best.plan)"
+same "docs/FORMATS.md, job N" "$(shown 3)" "$(held examples/N.job)"
+same "docs/FORMATS.md, the plan of N" "$(shown 4)" "$(held examples/N-best.plan)"
 # The listings that the prover computes from the definitions, with \n for a line feed, are those of the examples.
-for job in A B C D E; do
+for job in A B C D E N; do
     text=$(awk '{ printf "%s\\n", $0 }' "examples/$job.txt")
     if ! grep -qF "\"$text\"" crates/listing/proofs/Examples.antt; then
         printf 'crates/listing/proofs/Examples.antt: no listing "%s", which is that of examples/%s.txt\n' "$text" "$job"

@@ -32,10 +32,14 @@ judged() {
     gives "$1" "$2"
 }
 
-# the longest example is the longest job that there may be
-equal "large2: its bytes" "$longest_job" "$(wc -c <examples/large2.job | tr -d ' ')"
+# the longest example is the longest job of the first edition that there may be; in the second it has a record more
+equal "large2: its bytes" "$longest_first" "$(wc -c <examples/large2.job | tr -d ' ')"
 equal "large2: its tiles and machines" "tiles $tiles machines $machines" \
     "$("$program" <examples/large2.job | head -n 1 | cut -d ' ' -f 1-4)"
+make_longest
+equal "the longest job: its bytes" "$longest_job" "$(wc -c <"$work/longest" | tr -d ' ')"
+"$program" <"$work/longest" >"$work/got"
+same "the longest job, without start-up work: the listing of large2" examples/large2.txt "$work/got"
 
 # every example, whole, by a pipe, and in pieces that end within a record
 for job in examples/*.job; do
@@ -76,8 +80,8 @@ for length in 1 2 3 4 5 6 7 9 33 39; do
     head -c "$length" examples/A.job >"$work/job"
     gives "$length bytes" "refused 2"
 done
-record 3 1 >"$work/job"
-gives "kind 3" "refused 3"
+record 4 1 >"$work/job"
+gives "kind 4" "refused 3"
 record 0 1 >"$work/job"
 gives "kind 0" "refused 3"
 for place in 1 2 3; do
@@ -87,6 +91,13 @@ for place in 1 2 3; do
         record 1 1 | tail -c "+$((place + 2))"
     } >"$work/job"
     gives "byte $place not zero" "refused 3"
+    {
+        record 3 1 | head -c "$place"
+        printf '\001'
+        record 3 1 | tail -c "+$((place + 2))"
+        cat examples/A.job
+    } >"$work/job"
+    gives "byte $place of the start-up work's record not zero" "refused 3"
 done
 {
     record 1 1
@@ -107,6 +118,52 @@ first "speed 10,000" "tiles 0 machines 1 total 0"
 gives "weight 1,000,001" "refused 6"
 record 2 5 >"$work/job"
 gives "no machine" "refused 7"
+
+# the second edition
+record 3 1 >"$work/job"
+gives "start-up work alone" "refused 7"
+record 3 $((startup + 1)) >"$work/job"
+gives "start-up work 1,000,001" "refused 16"
+record 1 0 >>"$work/job"
+gives "start-up work 1,000,001 and speed 0" "refused 16"
+{
+    record 3 "$startup"
+    record 1 1
+} >"$work/job"
+first "start-up work 1,000,000" "tiles 0 machines 1 total 0"
+for last in 0 1 "$startup" $((startup + 1)); do
+    {
+        cat examples/A.job
+        record 3 "$last"
+    } >"$work/job"
+    gives "start-up work $last behind the tiles" "refused 15"
+    {
+        record 1 1
+        record 3 "$last"
+        record 1 0
+    } >"$work/job"
+    gives "start-up work $last behind a machine" "refused 15"
+    {
+        record 3 1
+        record 3 "$last"
+        record 1 1
+    } >"$work/job"
+    gives "start-up work twice, then $last" "refused 15"
+done
+# with start-up work 0 the listing is that of the first edition, but for bidding's allowance on one machine
+for job in examples/[A-E].job examples/large1.job; do
+    record 3 0 | cat - "$job" >"$work/job"
+    "$program" <"$work/job" >"$work/got"
+    same "$job with start-up work 0" "${job%.job}.txt" "$work/got"
+done
+examples/make-job startup 0 5 : 4 0 3 >"$work/job"
+printf '%s\n' "tiles 3 machines 1 total 7" "1 0 0 7 5 0 0 3" "2 1 2 7 5 0 0 3" "3 1 6 7 5 0 0 3" "4 0 0 7 5 0 0 3" >"$work/wanted"
+"$program" <"$work/job" >"$work/got"
+same "one machine with start-up work 0" "$work/wanted" "$work/got"
+examples/make-job startup 2 5 : 4 0 3 >"$work/job"
+printf '%s\n' "tiles 3 machines 1 total 7" "1 0 0 9 5 286 0 3" "2 2 2 9 5 286 0 3" "3 1 6 9 5 286 0 3" "4 0 0 9 5 286 0 3" >"$work/wanted"
+"$program" <"$work/job" >"$work/got"
+same "one machine with start-up work 2" "$work/wanted" "$work/got"
 
 # rows: as many machines as there may be, and more
 for row in $((machines - 1)) "$machines"; do
@@ -144,21 +201,29 @@ gives "$((machines + 1)) machines and $(figure $((tiles + 1))) tiles" "refused 7
 } >"$work/job"
 gives "$machines machines and $(figure $((tiles + 1))) tiles" "refused 8"
 
-# around the end of what is taken in: large2 is the longest job
-records 2 2 1 >"$work/tail"
+# around the end of what is taken in
+records 4 2 1 >"$work/tail"
 for more in 1 2 3 4 5 6 7; do
     {
-        cat examples/large2.job
+        cat "$work/longest"
         head -c "$more" "$work/tail"
     } >"$work/job"
     gives "$(figure $((longest_job + more))) bytes" "refused 2"
 done
 for more in 8 9 15 16; do
     {
-        cat examples/large2.job
+        cat "$work/longest"
         head -c "$more" "$work/tail"
     } >"$work/job"
     gives "$(figure $((longest_job + more))) bytes" "refused 8"
+done
+# of the first edition, whose longest job is a record shorter
+for more in 1 7 8 9 15 16 17 24; do
+    {
+        cat examples/large2.job
+        head -c "$more" "$work/tail"
+    } >"$work/job"
+    gives "$(figure $((longest_first + more))) bytes of the first edition" "refused $(case $more in 8 | 16 | 17 | 24) echo 8 ;; *) echo 2 ;; esac)"
 done
 around_intake
 for more in 1 4 7; do
@@ -170,7 +235,7 @@ for more in 1 4 7; do
     gives "$(figure $((job_intake + more))) bytes of machines" "refused 7"
 done
 {
-    cat examples/large2.job
+    cat "$work/longest"
     head -c 100000 /dev/zero
 } >"$work/job"
 gives "zeros behind the longest job" "refused 3"
@@ -181,7 +246,7 @@ gives "zeros behind the longest job" "refused 3"
 gives "a longer file, $(figure $((job_intake / 8))) machines" "refused 7"
 {
     {
-        cat examples/large2.job
+        cat "$work/longest"
         sleep 0.1
         head -c 4 "$work/tail"
         sleep 0.1
@@ -201,15 +266,15 @@ same "a pipe that gives nothing and closes late" "$work/wanted" "$work/got"
 
 # pauses at a record's end, within a record, and at each byte around the end of what is taken in
 {
-    head -c $((longest_job - 8)) examples/large2.job
+    head -c $((longest_job - 8)) "$work/longest"
     sleep 0.1
-    tail -c 8 examples/large2.job
+    tail -c 8 "$work/longest"
     sleep 0.1
 } | "$program" >"$work/got"
 same "a pause before the last record and after it" examples/large2.txt "$work/got"
 {
-    head -c $((longest_job - 4)) examples/large2.job
-    tail -c 4 examples/large2.job >"$work/rest"
+    head -c $((longest_job - 4)) "$work/longest"
+    tail -c 4 "$work/longest" >"$work/rest"
     for i in 1 2 3 4; do
         sleep 0.02
         tail -c "+$i" "$work/rest" | head -c 1
@@ -220,7 +285,7 @@ same "the last bytes one by one" examples/large2.txt "$work/got"
 # a writer that has given more than is taken in and does not close: the answer comes all the same
 mkfifo "$work/pipe"
 {
-    cat examples/large2.job
+    cat "$work/longest"
     head -c 8 "$work/tail"
     exec sleep 5
 } >"$work/pipe" 2>/dev/null &

@@ -1,4 +1,4 @@
-//! The jobs that are measured: three families of weights, three ranges of speeds, from a seed.
+//! The jobs that are measured: three families of weights, three ranges of speeds, with start-up work or without, from a seed.
 use crate::plain::{self, Bound, Method, MAX_WEIGHT};
 use crate::sides::{Job, Room};
 
@@ -73,18 +73,25 @@ impl Family {
 /// N and P of a job.
 pub type Size = (usize, usize);
 
-/// A shape of job: N tasks, P processors, speeds from 1 to `fastest`.
+/// A shape of job: N tasks, P processors, speeds from 1 to `fastest`. Without start-up work it is of the first edition, with some of
+/// the second.
 #[derive(Clone, Copy, Debug, PartialEq, Eq, Hash)]
 pub struct Shape {
     pub family: Family,
     pub tasks: usize,
     pub processors: usize,
     pub fastest: u32,
+    pub startup: u32,
 }
 
 impl Shape {
-    pub fn new(family: Family, (tasks, processors): Size, fastest: u32) -> Shape {
-        Shape { family, tasks, processors, fastest }
+    /// A shape of the first edition.
+    pub fn new(family: Family, size: Size, fastest: u32) -> Shape {
+        Shape::with_startup(family, size, fastest, 0)
+    }
+
+    pub fn with_startup(family: Family, (tasks, processors): Size, fastest: u32, startup: u32) -> Shape {
+        Shape { family, tasks, processors, fastest, startup }
     }
 
     pub fn size(&self) -> Size {
@@ -109,8 +116,8 @@ impl Shape {
         (0..count).map(|k| self.job(&mut random, k % 2 == 0)).collect()
     }
 
-    /// A job, with a bound for its trial that lies near the least bottleneck: the ideal and a random part of the heaviest
-    /// weight over the mean speed. Some trials fit, some fail.
+    /// A job, with a bound for its trial that lies near the least bottleneck: the ideal, the start-up work of every machine, and a
+    /// random part of the heaviest weight, over the mean speed. Some trials fit, some fail.
     fn job(&self, random: &mut Random, best: bool) -> Job {
         let weights: Vec<u32> = (0..self.tasks).map(|_| self.family.weight(random)).collect();
         let speeds: Vec<u32> = (0..self.processors).map(|_| random.between(1, self.fastest)).collect();
@@ -118,20 +125,23 @@ impl Shape {
         let heaviest = weights.iter().copied().max().unwrap_or(0) as u64;
         let speed: u64 = speeds.iter().map(|&e| e as u64).sum();
         let extra = heaviest * self.processors as u64 * random.between(0, 100) as u64 / 100;
-        let trial = Bound { load: total + extra, speed };
-        let plan = plan_file(&speeds, &weights, best);
-        Job { speeds, weights, trial, plan }
+        let startups = self.startup as u64 * self.processors as u64;
+        let trial = Bound { load: total + startups + extra, speed };
+        let mut job = Job { second: self.startup > 0, startup: self.startup, speeds, weights, trial, plan: Vec::new() };
+        job.plan = plan_file(&job, best);
+        job
     }
 }
 
 /// The plan file of the best plan or of the quick plan, by plain Rust.
-fn plan_file(speeds: &[u32], weights: &[u32], best: bool) -> Vec<u8> {
+fn plan_file(job: &Job, best: bool) -> Vec<u8> {
     let mut room = Room::new();
+    let (separators, scratch) = (&mut room.separators, &mut room.scratch);
     let refused = if best {
-        plain::plan(Method::Bisection, speeds, weights, &mut room.separators, &mut room.scratch).err()
+        plain::plan(Method::Bisection, job.second, job.startup, &job.speeds, &job.weights, separators, scratch).err()
     } else {
-        plain::heuristic(speeds, weights, &mut room.separators).err()
+        plain::heuristic(job.second, job.startup, &job.speeds, &job.weights, separators).err()
     };
     assert_eq!(refused, None, "refused");
-    plain::plan_file(speeds, weights, &room.separators)
+    plain::plan_file(job.startup, &job.speeds, &job.weights, &room.separators)
 }

@@ -10,6 +10,9 @@ pub const FASTEST: [u32; 3] = [1, 4, 16];
 pub const SIZES: [Size; 3] = [(8 * MAX_PROCESSORS, MAX_PROCESSORS), (MAX_TASKS, 64), (MAX_TASKS, 16)];
 /// The sizes of halving's ratios, N/P as above; the machines are a power of two. The first is one of the rows below.
 pub const HALVED_SIZES: [Size; 3] = [(8 * 64, 64), (MAX_TASKS, 64), (MAX_TASKS, 16)];
+/// The start-up work of the shapes of the second edition, about what a tile weighs, and their greatest speed.
+pub const STARTUP: u32 = 1_000;
+pub const SECOND_FASTEST: u32 = 4;
 /// How many machines, equal ones, the rows have whose quick plans are set beside the best plan.
 pub const ROW_PROCESSORS: [usize; 5] = [4, 8, 16, 32, 64];
 /// The contests on these rows: the four methods and both quick plans.
@@ -54,6 +57,16 @@ fn rows() -> Vec<Shape> {
     rows
 }
 
+/// The shapes of the second edition: the sizes of the ratios, and those of halving's.
+pub fn second() -> Vec<Shape> {
+    let mut shapes = Vec::new();
+    for family in Family::ALL {
+        shapes.extend(SIZES.map(|size| Shape::with_startup(family, size, SECOND_FASTEST, STARTUP)));
+        shapes.extend(HALVED_SIZES.map(|size| Shape::with_startup(family, size, 1, STARTUP)));
+    }
+    shapes
+}
+
 /// Every shape that is measured in all contests that take it, each once.
 fn shapes() -> Vec<Shape> {
     let mut shapes = Vec::new();
@@ -84,6 +97,10 @@ fn measured() -> Vec<(Shape, Vec<&'static Contest>)> {
             measured.push((shape, CONTESTS.iter().filter(|contest| ROW_CONTESTS.contains(&contest.name)).collect()));
         }
     }
+    // Rows that can be halved are for halving alone here.
+    for shape in second() {
+        measured.push((shape, CONTESTS.iter().filter(|contest| contest.halved == shape.halves()).collect()));
+    }
     measured
 }
 
@@ -91,7 +108,7 @@ fn measured() -> Vec<(Shape, Vec<&'static Contest>)> {
 pub fn print_shapes() {
     for (shape, _) in measured() {
         if SIZES.contains(&shape.size()) || (shape.halves() && HALVED_SIZES.contains(&shape.size())) {
-            println!("{} {} {} {}", shape.family.name(), shape.tasks, shape.processors, shape.fastest);
+            println!("{} {} {} {} {}", shape.family.name(), shape.tasks, shape.processors, shape.fastest, shape.startup);
         }
     }
 }
@@ -111,11 +128,12 @@ fn thousandths(job: &Job, found: Bound) -> f64 {
     plain::imbalance(&job.speeds, total_weight(job), found) as f64
 }
 
-/// The same of the most that halving may have, Wtot/P + heaviest × (P − 1)/P on a machine; it must not have more.
+/// The same of the most that halving may have, Wtot/P + heaviest × (P − 1)/P and the start-up work on a machine; it must not have more.
 fn halving_bound(job: &Job, found: Bound) -> f64 {
     let heaviest = job.weights.iter().copied().max().unwrap_or(0) as u64;
     let machines = job.speeds.len() as u64;
-    let most = Bound { load: total_weight(job) + heaviest * (machines - 1), speed: machines * found.speed };
+    let startups = job.startup as u64 * machines;
+    let most = Bound { load: total_weight(job) + heaviest * (machines - 1) + startups, speed: machines * found.speed };
     assert!(found.load * machines <= most.load, "halving: above its bound");
     thousandths(job, most)
 }

@@ -3,6 +3,7 @@
 
 pub const MAX_TASKS: usize = 2048;
 pub const MAX_WEIGHT: u32 = 1_000_000;
+pub const MAX_STARTUP: u32 = 1_000_000;
 pub const MAX_PROCESSORS: usize = 96;
 pub const MAX_SPEED: u32 = 10_000;
 pub const MAX_BOUND_LOAD: u64 = 100_000_000_000_000;
@@ -76,8 +77,16 @@ fn each_between(lo: u32, hi: u32, values: &[u32]) -> bool {
     values.iter().fold(true, |all, v| all & (lo..=hi).contains(v))
 }
 
-/// The tests of the two lists, in the scope's order.
-fn test_job(speeds: &[u32], weights: &[u32]) -> Result<(), u32> {
+/// The start-up work that counts.
+fn effective(second: bool, startup: u32) -> u32 {
+    if second { startup } else { 0 }
+}
+
+/// The tests of the start-up work and the two lists, in the scope's order.
+fn test_job(second: bool, startup: u32, speeds: &[u32], weights: &[u32]) -> Result<(), u32> {
+    if effective(second, startup) > MAX_STARTUP {
+        return Err(16);
+    }
     if !each_between(1, MAX_SPEED, speeds) {
         return Err(5);
     }
@@ -153,22 +162,47 @@ fn last_from(sums: &[u32], a: usize, cap: u32, hint: usize) -> usize {
     last_at_most(sums, a, n, cap)
 }
 
-/// The greatest end of a part from a on that is within the bound on a machine of this speed.
+/// The prefix sums of a job and the start-up work of each part that has tiles.
+#[derive(Clone, Copy)]
+struct Tiles<'a> {
+    startup: u32,
+    sums: &'a [u32],
+}
+
+impl<'a> Tiles<'a> {
+    /// Writes the sums to the front of the list.
+    fn new(startup: u32, weights: &[u32], list: &'a mut [u32]) -> Tiles<'a> {
+        Tiles { startup, sums: prefix_sums(weights, list) }
+    }
+}
+
+/// The greatest end of a part from a on that is within the bound on a machine of this speed. A machine that cannot carry the start-up
+/// work takes no tile.
 #[inline]
-fn part_end(sums: &[u32], a: usize, speed: u32, bound: Bound, hint: usize) -> usize {
+fn part_end(tiles: Tiles, a: usize, speed: u32, bound: Bound, hint: usize) -> usize {
+    let sums = tiles.sums;
     let n = sums.len() - 1;
     let limit = bound.load * speed as u64 / bound.speed;
-    if (sums[n] - sums[a]) as u64 <= limit {
+    let Some(weight) = limit.checked_sub(tiles.startup as u64) else {
+        return a;
+    };
+    if (sums[n] - sums[a]) as u64 <= weight {
         return n;
     }
-    last_from(sums, a, sums[a] + limit as u32, hint)
+    last_from(sums, a, sums[a] + weight as u32, hint)
+}
+
+/// The load of the part from a to b: 0 where it has no tile.
+#[inline]
+fn part_load(tiles: Tiles, a: usize, b: usize) -> u32 {
+    if a == b { 0 } else { tiles.startup + (tiles.sums[b] - tiles.sums[a]) }
 }
 
 /// The bound of the part from a to b.
 #[inline]
-fn part_bound(sums: &[u32], a: usize, b: usize, speed: u32) -> Bound {
+fn part_bound(tiles: Tiles, a: usize, b: usize, speed: u32) -> Bound {
     Bound {
-        load: (sums[b] - sums[a]) as u64,
+        load: part_load(tiles, a, b) as u64,
         speed: speed as u64,
     }
 }
@@ -178,37 +212,37 @@ fn part_bound(sums: &[u32], a: usize, b: usize, speed: u32) -> Bound {
 /// least next bid.
 fn walk(
     speeds: &[u32],
-    sums: &[u32],
+    tiles: Tiles,
     bound: Bound,
     first: usize,
     mut best: Bound,
     separators: &mut [u32],
 ) -> Option<Bound> {
-    let n = sums.len() - 1;
+    let n = tiles.sums.len() - 1;
     let last = speeds.len() - 1;
     let separators = &mut separators[..=speeds.len()];
     let mut a = separators[first] as usize;
     for (&speed, end) in speeds[first..last].iter().zip(&mut separators[first + 1..]) {
-        let b = part_end(sums, a, speed, bound, *end as usize);
-        best = best.lesser(part_bound(sums, a, (b + 1).min(n), speed));
+        let b = part_end(tiles, a, speed, bound, *end as usize);
+        best = best.lesser(part_bound(tiles, a, (b + 1).min(n), speed));
         *end = b as u32;
         a = b;
     }
     separators[last + 1] = n as u32;
-    let rest = part_bound(sums, a, n, speeds[last]);
+    let rest = part_bound(tiles, a, n, speeds[last]);
     if rest.at_most(bound) { None } else { Some(best.lesser(rest)) }
 }
 
 /// The walk of all machines.
-fn trial(speeds: &[u32], sums: &[u32], bound: Bound, separators: &mut [u32]) -> Option<Bound> {
+fn trial(speeds: &[u32], tiles: Tiles, bound: Bound, separators: &mut [u32]) -> Option<Bound> {
     separators[0] = 0;
-    walk(speeds, sums, bound, 0, Bound::ENDLESS, separators)
+    walk(speeds, tiles, bound, 0, Bound::ENDLESS, separators)
 }
 
-fn bidding(speeds: &[u32], sums: &[u32], separators: &mut [u32]) -> Found {
-    let mut bound = ideal(speeds, sums);
+fn bidding(speeds: &[u32], tiles: Tiles, separators: &mut [u32]) -> Found {
+    let mut bound = ideal(speeds, tiles.sums);
     let mut count = 1;
-    while let Some(next) = trial(speeds, sums, bound, separators) {
+    while let Some(next) = trial(speeds, tiles, bound, separators) {
         bound = next;
         count += 1;
     }
@@ -216,12 +250,12 @@ fn bidding(speeds: &[u32], sums: &[u32], separators: &mut [u32]) -> Found {
 }
 
 /// The first machine whose bid is at most the bound, and the least bid before it; the last machine bids all that remains.
-fn first_bidder(speeds: &[u32], sums: &[u32], separators: &[u32], bound: Bound) -> (usize, Bound) {
-    let n = sums.len() - 1;
+fn first_bidder(speeds: &[u32], tiles: Tiles, separators: &[u32], bound: Bound) -> (usize, Bound) {
+    let n = tiles.sums.len() - 1;
     let last = speeds.len() - 1;
     let mut best = Bound::ENDLESS;
     for (p, (pair, &speed)) in separators.windows(2).zip(&speeds[..last]).enumerate() {
-        let bid = part_bound(sums, pair[0] as usize, (pair[1] as usize + 1).min(n), speed);
+        let bid = part_bound(tiles, pair[0] as usize, (pair[1] as usize + 1).min(n), speed);
         if bid.at_most(bound) {
             return (p, best);
         }
@@ -231,24 +265,24 @@ fn first_bidder(speeds: &[u32], sums: &[u32], separators: &[u32], bound: Bound) 
 }
 
 /// Bidding whose walks begin at the first machine whose separator moves.
-fn bidding_resumed(speeds: &[u32], sums: &[u32], separators: &mut [u32]) -> Found {
-    let mut bound = ideal(speeds, sums);
+fn bidding_resumed(speeds: &[u32], tiles: Tiles, separators: &mut [u32]) -> Found {
+    let mut bound = ideal(speeds, tiles.sums);
     let mut count = 1;
     let mut first = 0;
     let mut best = Bound::ENDLESS;
     separators[0] = 0;
-    while let Some(next) = walk(speeds, sums, bound, first, best, separators) {
+    while let Some(next) = walk(speeds, tiles, bound, first, best, separators) {
         bound = next;
         count += 1;
-        (first, best) = first_bidder(speeds, sums, separators, bound);
+        (first, best) = first_bidder(speeds, tiles, separators, bound);
     }
     Found { bound, count }
 }
 
 /// The bottleneck of the division in front of the list.
-fn bottleneck(speeds: &[u32], sums: &[u32], separators: &[u32]) -> Bound {
+fn bottleneck(speeds: &[u32], tiles: Tiles, separators: &[u32]) -> Bound {
     let mut parts = separators.windows(2).zip(speeds).map(|(pair, &speed)| {
-        part_bound(sums, pair[0] as usize, pair[1] as usize, speed)
+        part_bound(tiles, pair[0] as usize, pair[1] as usize, speed)
     });
     let first = parts.next().expect("a machine");
     parts.fold(first, |most, part| if part.at_most(most) { most } else { part })
@@ -264,7 +298,7 @@ fn first_equal(sums: &[u32], s: usize, last: usize) -> usize {
     if sums[s] == sum { s } else { last_far(sums, s, last - 1, sum - 1) + 1 }
 }
 
-/// The quick plan's separators.
+/// The quick plan's separators, which do not depend on the start-up work.
 fn quick(speeds: &[u32], sums: &[u32], separators: &mut [u32]) {
     let n = sums.len() - 1;
     let last = speeds.len() - 1;
@@ -287,17 +321,17 @@ fn quick(speeds: &[u32], sums: &[u32], separators: &mut [u32]) {
     separators[last + 1] = n as u32;
 }
 
-fn bisection(speeds: &[u32], sums: &[u32], separators: &mut [u32]) -> Found {
-    let bound = ideal(speeds, sums);
+fn bisection(speeds: &[u32], tiles: Tiles, separators: &mut [u32]) -> Found {
+    let bound = ideal(speeds, tiles.sums);
     let mut count = 1;
-    let Some(mut low) = trial(speeds, sums, bound, separators) else {
+    let Some(mut low) = trial(speeds, tiles, bound, separators) else {
         return Found { bound, count };
     };
-    quick(speeds, sums, separators);
-    let mut high = bottleneck(speeds, sums, separators);
+    quick(speeds, tiles.sums, separators);
+    let mut high = bottleneck(speeds, tiles, separators);
     while !high.at_most(low) {
-        match trial(speeds, sums, low.midpoint(high), separators) {
-            None => high = bottleneck(speeds, sums, separators),
+        match trial(speeds, tiles, low.midpoint(high), separators) {
+            None => high = bottleneck(speeds, tiles, separators),
             Some(next) => low = next,
         }
         count += 1;
@@ -306,30 +340,30 @@ fn bisection(speeds: &[u32], sums: &[u32], separators: &mut [u32]) -> Found {
 }
 
 /// Whether the walk of all machines fits: a walk without bids, which Nicol's search does not ask for.
-fn fits(speeds: &[u32], sums: &[u32], bound: Bound, separators: &mut [u32]) -> bool {
-    let n = sums.len() - 1;
+fn fits(speeds: &[u32], tiles: Tiles, bound: Bound, separators: &mut [u32]) -> bool {
+    let n = tiles.sums.len() - 1;
     let last = speeds.len() - 1;
     let separators = &mut separators[..=speeds.len()];
     let mut a = 0;
     separators[0] = 0;
     for (&speed, end) in speeds[..last].iter().zip(&mut separators[1..]) {
-        let b = part_end(sums, a, speed, bound, *end as usize);
+        let b = part_end(tiles, a, speed, bound, *end as usize);
         *end = b as u32;
         a = b;
     }
     separators[last + 1] = n as u32;
-    part_bound(sums, a, n, speeds[last]).at_most(bound)
+    part_bound(tiles, a, n, speeds[last]).at_most(bound)
 }
 
 /// Nicol's search: for each machine but the last the smallest end of its part at whose bound the whole job fits, by halving.
 /// That bound is a candidate, and so is what is left for the last machine; the machine keeps its part without the last tile.
 fn nicol(
     speeds: &[u32],
-    sums: &[u32],
+    tiles: Tiles,
     separators: &mut [u32],
-    fits: impl Fn(&[u32], &[u32], Bound, &mut [u32]) -> bool,
+    fits: impl Fn(&[u32], Tiles, Bound, &mut [u32]) -> bool,
 ) -> Found {
-    let n = sums.len() - 1;
+    let n = tiles.sums.len() - 1;
     let last = speeds.len() - 1;
     let mut best = Bound::ENDLESS;
     let mut count = 0;
@@ -339,20 +373,20 @@ fn nicol(
         let mut high = n;
         while low < high {
             let middle = (low + high) / 2;
-            if fits(speeds, sums, part_bound(sums, start, middle, speed), separators) {
+            if fits(speeds, tiles, part_bound(tiles, start, middle, speed), separators) {
                 high = middle;
             } else {
                 low = middle + 1;
             }
             count += 1;
         }
-        best = best.lesser(part_bound(sums, start, low, speed));
+        best = best.lesser(part_bound(tiles, start, low, speed));
         if low == start {
             return Found { bound: best, count };
         }
         start = low - 1;
     }
-    best = best.lesser(part_bound(sums, start, n, speeds[last]));
+    best = best.lesser(part_bound(tiles, start, n, speeds[last]));
     Found { bound: best, count }
 }
 
@@ -365,35 +399,40 @@ fn entry(pair: [u32; 2]) -> Bound {
     }
 }
 
-/// Fills the row of a machine of this speed from the row before it, and gives the moves of its pointer. At i itself the part is
-/// 0, so the pointer stops there at the latest.
-fn fill_row(sums: &[u32], speed: u32, before: &[[u32; 2]], row: &mut [[u32; 2]]) -> u32 {
+/// Fills the row of a machine of this speed from the row before it, and gives the moves of its pointer. At i itself the part has no
+/// tile, so the pointer stops there at the latest. By index, not by iterators: so there are fewer bounds checks.
+fn fill_row(tiles: Tiles, speed: u32, before: &[[u32; 2]], row: &mut [[u32; 2]]) -> u32 {
+    let sums = tiles.sums;
     let before = &before[..sums.len()];
+    let row = &mut row[..sums.len()];
     let mut at = 0;
-    for (&sum, slot) in sums.iter().zip(row) {
-        let part = |a: usize| Bound { load: (sum - sums[a]) as u64, speed: speed as u64 };
-        while !part(at).at_most(entry(before[at])) {
+    for i in 0..sums.len() {
+        let started = tiles.startup + sums[i];
+        let part = |a: usize| Bound { load: (started - sums[a]) as u64, speed: speed as u64 };
+        while at < i && !part(at).at_most(entry(before[at])) {
             at += 1;
         }
-        *slot = before[at];
+        row[i] = before[at];
         if at > 0 && !entry(before[at]).at_most(part(at - 1)) {
-            *slot = [sum - sums[at - 1], speed];
+            row[i] = [started - sums[at - 1], speed];
         }
     }
     at as u32
 }
 
 /// The table; `rows` is room for two rows of N + 1 pairs.
-fn table(speeds: &[u32], sums: &[u32], rows: &mut [u32]) -> Found {
+fn table(speeds: &[u32], tiles: Tiles, rows: &mut [u32]) -> Found {
+    let sums = tiles.sums;
     let (first, second) = rows.split_at_mut(2 * sums.len());
     let mut row = first.as_chunks_mut::<2>().0;
     let mut other = second.as_chunks_mut::<2>().0;
     for (slot, &sum) in row.iter_mut().zip(sums) {
-        *slot = [sum, speeds[0]];
+        *slot = [tiles.startup + sum, speeds[0]];
     }
+    row[0][0] = 0;
     let mut count = 0;
     for &speed in &speeds[1..] {
-        count += fill_row(sums, speed, row, other);
+        count += fill_row(tiles, speed, row, other);
         std::mem::swap(&mut row, &mut other);
     }
     Found {
@@ -402,13 +441,14 @@ fn table(speeds: &[u32], sums: &[u32], rows: &mut [u32]) -> Found {
     }
 }
 
-fn allowance(method: Method, speeds: &[u32], weights: &[u32]) -> u32 {
+fn allowance(method: Method, second: bool, startup: u32, speeds: &[u32], weights: &[u32]) -> u32 {
     let moves = ((speeds.len() - 1) * weights.len()) as u32;
     match method {
         Method::Table => moves,
+        Method::Bidding | Method::BiddingResumed if second && speeds.len() == 1 => 2,
         Method::Bidding | Method::BiddingResumed => moves + 1,
         Method::Bisection => {
-            let heaviest = weights.iter().copied().max().unwrap_or(0) as u64;
+            let heaviest = weights.iter().copied().max().unwrap_or(0) as u64 + startup as u64;
             let fastest = speeds.iter().copied().max().unwrap_or(0) as u64;
             let slowest = speeds.iter().copied().min().unwrap_or(1) as u64;
             1 + (64 - (heaviest * (fastest * fastest) / slowest).leading_zeros())
@@ -429,45 +469,54 @@ pub fn imbalance(speeds: &[u32], total: u64, bottleneck: Bound) -> u64 {
 /// A plan by a method.
 pub fn plan(
     method: Method,
+    second: bool,
+    startup: u32,
     speeds: &[u32],
     weights: &[u32],
     separators: &mut [u32],
     scratch: &mut [u32],
 ) -> Result<Figures, u32> {
-    test_job(speeds, weights)?;
+    test_job(second, startup, speeds, weights)?;
     if separators.len() <= speeds.len() || scratch.len() < 5 * (weights.len() + 1) {
         return Err(9);
     }
     let (front, rows) = scratch.split_at_mut(weights.len() + 1);
-    let sums = prefix_sums(weights, front);
+    let startup = effective(second, startup);
+    let tiles = Tiles::new(startup, weights, front);
     let found = match method {
-        Method::Table => table(speeds, sums, rows),
-        Method::Bidding => bidding(speeds, sums, separators),
-        Method::BiddingResumed => bidding_resumed(speeds, sums, separators),
-        Method::Bisection => bisection(speeds, sums, separators),
-        Method::Nicol => nicol(speeds, sums, separators, fits),
-        Method::NicolByTrial => nicol(speeds, sums, separators, |e, s, b, to| trial(e, s, b, to).is_none()),
+        Method::Table => table(speeds, tiles, rows),
+        Method::Bidding => bidding(speeds, tiles, separators),
+        Method::BiddingResumed => bidding_resumed(speeds, tiles, separators),
+        Method::Bisection => bisection(speeds, tiles, separators),
+        Method::Nicol => nicol(speeds, tiles, separators, fits),
+        Method::NicolByTrial => nicol(speeds, tiles, separators, |e, s, b, to| trial(e, s, b, to).is_none()),
     };
-    trial(speeds, sums, found.bound, separators);
-    let bottleneck = bottleneck(speeds, sums, separators);
+    trial(speeds, tiles, found.bound, separators);
+    let bottleneck = bottleneck(speeds, tiles, separators);
     Ok(Figures {
         count: found.count,
-        allowance: allowance(method, speeds, weights),
+        allowance: allowance(method, second, startup, speeds, weights),
         bottleneck,
-        imbalance: imbalance(speeds, sums[weights.len()] as u64, bottleneck),
+        imbalance: imbalance(speeds, tiles.sums[weights.len()] as u64, bottleneck),
     })
 }
 
 /// The quick plan and its bottleneck.
-pub fn heuristic(speeds: &[u32], weights: &[u32], separators: &mut [u32]) -> Result<Bound, u32> {
-    test_job(speeds, weights)?;
+pub fn heuristic(
+    second: bool,
+    startup: u32,
+    speeds: &[u32],
+    weights: &[u32],
+    separators: &mut [u32],
+) -> Result<Bound, u32> {
+    test_job(second, startup, speeds, weights)?;
     if separators.len() <= speeds.len() {
         return Err(9);
     }
     let mut room = [0; MAX_TASKS + 1];
-    let sums = prefix_sums(weights, &mut room);
-    quick(speeds, sums, separators);
-    Ok(bottleneck(speeds, sums, separators))
+    let tiles = Tiles::new(effective(second, startup), weights, &mut room);
+    quick(speeds, tiles.sums, separators);
+    Ok(bottleneck(speeds, tiles, separators))
 }
 
 /// The smallest index from a to b whose sum is nearest to half of the sums at a and b together. Doubled sums fit 32 bits. Between a
@@ -526,15 +575,18 @@ fn halve_sides(sums: &[u32], a: usize, b: usize, ends: &mut [u32]) {
     halve_sides(sums, i, b, second);
 }
 
-/// Halving by either form, and the bottleneck: the speeds are equal, so the greatest load has it.
+/// Halving by either form, and the bottleneck: the speeds are equal, so the greatest load has it. Where there is a tile that is the
+/// greatest weight and the start-up work.
 #[inline(always)]
 fn halved(
+    second: bool,
+    startup: u32,
     speeds: &[u32],
     weights: &[u32],
     separators: &mut [u32],
     halve: impl Fn(&[u32], &mut [u32]),
 ) -> Result<Bound, u32> {
-    test_job(speeds, weights)?;
+    test_job(second, startup, speeds, weights)?;
     if !speeds.len().is_power_of_two() || !each_between(speeds[0], speeds[0], speeds) {
         return Err(14);
     }
@@ -545,21 +597,35 @@ fn halved(
     let sums = prefix_sums(weights, &mut room);
     let separators = &mut separators[..=speeds.len()];
     halve(sums, separators);
-    let loads = separators.windows(2).map(|pair| sums[pair[1] as usize] - sums[pair[0] as usize]);
+    let parts = separators.windows(2).map(|pair| sums[pair[1] as usize] - sums[pair[0] as usize]);
+    let greatest = parts.max().unwrap_or(0);
+    let load = if weights.is_empty() { 0 } else { effective(second, startup) + greatest };
     Ok(Bound {
-        load: loads.max().unwrap_or(0) as u64,
+        load: load as u64,
         speed: speeds[0] as u64,
     })
 }
 
 /// Halving the row, level by level.
-pub fn halving(speeds: &[u32], weights: &[u32], separators: &mut [u32]) -> Result<Bound, u32> {
-    halved(speeds, weights, separators, halve_levels)
+pub fn halving(
+    second: bool,
+    startup: u32,
+    speeds: &[u32],
+    weights: &[u32],
+    separators: &mut [u32],
+) -> Result<Bound, u32> {
+    halved(second, startup, speeds, weights, separators, halve_levels)
 }
 
 /// Halving the row, one side after the other.
-pub fn halving_by_sides(speeds: &[u32], weights: &[u32], separators: &mut [u32]) -> Result<Bound, u32> {
-    halved(speeds, weights, separators, |sums, separators| {
+pub fn halving_by_sides(
+    second: bool,
+    startup: u32,
+    speeds: &[u32],
+    weights: &[u32],
+    separators: &mut [u32],
+) -> Result<Bound, u32> {
+    halved(second, startup, speeds, weights, separators, |sums, separators| {
         separators[0] = 0;
         halve_sides(sums, 0, sums.len() - 1, &mut separators[1..]);
     })
@@ -568,12 +634,14 @@ pub fn halving_by_sides(speeds: &[u32], weights: &[u32], separators: &mut [u32])
 /// The trial at a lent bound: None where it fits, else the least next bid. It writes the separators in both cases, as the last one how
 /// far the last machine reaches.
 pub fn probe(
+    second: bool,
+    startup: u32,
     speeds: &[u32],
     weights: &[u32],
     bound: Bound,
     separators: &mut [u32],
 ) -> Result<Option<Bound>, u32> {
-    test_job(speeds, weights)?;
+    test_job(second, startup, speeds, weights)?;
     if separators.len() <= speeds.len() {
         return Err(9);
     }
@@ -581,12 +649,12 @@ pub fn probe(
         return Err(10);
     }
     let mut room = [0; MAX_TASKS + 1];
-    let sums = prefix_sums(weights, &mut room);
-    let next = trial(speeds, sums, bound, separators);
+    let tiles = Tiles::new(effective(second, startup), weights, &mut room);
+    let next = trial(speeds, tiles, bound, separators);
     if next.is_some() {
         let last = speeds.len() - 1;
         let a = separators[last] as usize;
-        separators[last + 1] = part_end(sums, a, speeds[last], bound, a) as u32;
+        separators[last + 1] = part_end(tiles, a, speeds[last], bound, a) as u32;
     }
     Ok(next)
 }
@@ -619,18 +687,18 @@ fn divides(separators: &[u32], tasks: usize) -> bool {
 }
 
 /// Whether each record has the load of its part and the speed of its machine.
-fn records_true(speeds: &[u32], sums: &[u32], separators: &[u32], records: &[[u8; PLAN_RECORD]]) -> bool {
+fn records_true(speeds: &[u32], tiles: Tiles, separators: &[u32], records: &[[u8; PLAN_RECORD]]) -> bool {
     let parts = separators.windows(2).zip(speeds);
     records.iter().zip(parts).fold(true, |all, (record, (pair, &machine))| {
         let [_, _, load, speed] = fields(record);
-        all & (load == sums[pair[1] as usize] - sums[pair[0] as usize]) & (speed == machine)
+        all & (load == part_load(tiles, pair[0] as usize, pair[1] as usize)) & (speed == machine)
     })
 }
 
 /// The grade of a plan file: best where no division has a smaller bottleneck. The bisection writes over the plan's separators,
 /// which are its first hint.
-pub fn grade(speeds: &[u32], weights: &[u32], plan: &[u8]) -> Result<Grade, u32> {
-    test_job(speeds, weights)?;
+pub fn grade(second: bool, startup: u32, speeds: &[u32], weights: &[u32], plan: &[u8]) -> Result<Grade, u32> {
+    test_job(second, startup, speeds, weights)?;
     if plan.len() != PLAN_RECORD * speeds.len() {
         return Err(12);
     }
@@ -641,21 +709,21 @@ pub fn grade(speeds: &[u32], weights: &[u32], plan: &[u8]) -> Result<Grade, u32>
         return Err(11);
     }
     let mut room = [0; MAX_TASKS + 1];
-    let sums = prefix_sums(weights, &mut room);
-    if !records_true(speeds, sums, separators, records) {
+    let tiles = Tiles::new(effective(second, startup), weights, &mut room);
+    if !records_true(speeds, tiles, separators, records) {
         return Err(13);
     }
-    let measured = bottleneck(speeds, sums, separators);
-    let least = bisection(speeds, sums, separators).bound;
+    let measured = bottleneck(speeds, tiles, separators);
+    let least = bisection(speeds, tiles, separators).bound;
     Ok(if measured.at_most(least) { Grade::Best } else { Grade::Valid })
 }
 
-/// The plan file of a division.
-pub fn plan_file(speeds: &[u32], weights: &[u32], separators: &[u32]) -> Vec<u8> {
+/// The plan file of a division of a job with this start-up work.
+pub fn plan_file(startup: u32, speeds: &[u32], weights: &[u32], separators: &[u32]) -> Vec<u8> {
     let parts = separators.windows(2).zip(speeds);
     let records = parts.map(|(pair, &speed)| {
-        let load = weights[pair[0] as usize..pair[1] as usize].iter().sum();
-        [pair[0], pair[1], load, speed]
+        let weight: u32 = weights[pair[0] as usize..pair[1] as usize].iter().sum();
+        [pair[0], pair[1], if pair[0] == pair[1] { 0 } else { startup + weight }, speed]
     });
     records.flatten().flat_map(u32::to_le_bytes).collect()
 }

@@ -1,4 +1,4 @@
-//! Records: a line each, fields parted by tabs: kind, name, the four fields of the shape, and a value for each job.
+//! Records: a line each, fields parted by tabs: kind, name, the five fields of the shape, and a value for each job.
 use crate::jobs::{Family, Shape};
 use std::collections::HashMap;
 
@@ -14,11 +14,12 @@ pub fn placed(placement: &str) -> String {
 pub fn write(kind: &str, name: &str, shape: Shape, values: &[f64]) {
     let values: Vec<String> = values.iter().map(|value| value.to_string()).collect();
     println!(
-        "{kind}\t{name}\t{}\t{}\t{}\t{}\t{}",
+        "{kind}\t{name}\t{}\t{}\t{}\t{}\t{}\t{}",
         shape.family.name(),
         shape.tasks,
         shape.processors,
         shape.fastest,
+        shape.startup,
         values.join(" ")
     );
 }
@@ -71,7 +72,7 @@ impl Records {
 
 fn parse(line: &str) -> Option<(Key, Vec<f64>)> {
     let fields: Vec<&str> = line.split('\t').collect();
-    let [kind, name, family, tasks, processors, fastest, values] = fields[..] else {
+    let [kind, name, family, tasks, processors, fastest, startup, values] = fields[..] else {
         return None;
     };
     let shape = Shape {
@@ -79,6 +80,7 @@ fn parse(line: &str) -> Option<(Key, Vec<f64>)> {
         tasks: tasks.parse().ok()?,
         processors: processors.parse().ok()?,
         fastest: fastest.parse().ok()?,
+        startup: startup.parse().ok()?,
     };
     let values = values.split(' ').map(|value| value.parse().ok()).collect::<Option<Vec<f64>>>()?;
     Some(((kind.to_string(), name.to_string(), shape), values))

@@ -4,6 +4,8 @@ use crate::plain::{self, Bound, Grade, Method};
 
 extern "C" {
     fn exported_heuristic(
+        second: bool,
+        startup: u32,
         speeds: *const u32,
         speeds_len: usize,
         weights: *const u32,
@@ -15,6 +17,8 @@ extern "C" {
     ) -> u32;
 
     fn exported_halving(
+        second: bool,
+        startup: u32,
         speeds: *const u32,
         speeds_len: usize,
         weights: *const u32,
@@ -26,6 +30,8 @@ extern "C" {
     ) -> u32;
 
     fn exported_probe(
+        second: bool,
+        startup: u32,
         speeds: *const u32,
         speeds_len: usize,
         weights: *const u32,
@@ -40,6 +46,8 @@ extern "C" {
 
     fn exported_plan(
         method: u32,
+        second: bool,
+        startup: u32,
         speeds: *const u32,
         speeds_len: usize,
         weights: *const u32,
@@ -53,6 +61,8 @@ extern "C" {
     ) -> u32;
 
     fn exported_grade(
+        second: bool,
+        startup: u32,
         speeds: *const u32,
         speeds_len: usize,
         weights: *const u32,
@@ -85,8 +95,10 @@ impl Room {
     }
 }
 
-/// A job by lists, the bound at which its single trial is made, and the plan file that is graded.
+/// A job by lists, of either edition, the bound at which its single trial is made, and the plan file that is graded.
 pub struct Job {
+    pub second: bool,
+    pub startup: u32,
     pub speeds: Vec<u32>,
     pub weights: Vec<u32>,
     pub trial: Bound,
@@ -101,6 +113,8 @@ fn planner_plan(method: u32, job: &Job, room: &mut Room) -> u32 {
     unsafe {
         exported_plan(
             method,
+            job.second,
+            job.startup,
             job.speeds.as_ptr(),
             job.speeds.len(),
             job.weights.as_ptr(),
@@ -139,15 +153,17 @@ pub fn planner_nicol(job: &Job, room: &mut Room) -> u32 {
     planner_plan(4, job, room)
 }
 
-/// A call that divides a job: speeds, weights, separators and answer, each a pointer and a length.
+/// A call that divides a job: its edition and start-up work; then speeds, weights, separators and answer, each a pointer and a length.
 type Divide =
-    unsafe extern "C" fn(*const u32, usize, *const u32, usize, *mut u32, usize, *mut u64, usize) -> u32;
+    unsafe extern "C" fn(bool, u32, *const u32, usize, *const u32, usize, *mut u32, usize, *mut u64, usize) -> u32;
 
 #[inline(always)]
 fn planner_divides(call: Divide, job: &Job, room: &mut Room) -> u32 {
     // SAFETY: as above.
     unsafe {
         call(
+            job.second,
+            job.startup,
             job.speeds.as_ptr(),
             job.speeds.len(),
             job.weights.as_ptr(),
@@ -178,6 +194,8 @@ pub fn planner_trial(job: &Job, room: &mut Room) -> u32 {
     // SAFETY: as above.
     unsafe {
         exported_probe(
+            job.second,
+            job.startup,
             job.speeds.as_ptr(),
             job.speeds.len(),
             job.weights.as_ptr(),
@@ -198,6 +216,8 @@ pub fn planner_grade(job: &Job, room: &mut Room) -> u32 {
     // SAFETY: as above.
     unsafe {
         exported_grade(
+            job.second,
+            job.startup,
             job.speeds.as_ptr(),
             job.speeds.len(),
             job.weights.as_ptr(),
@@ -215,6 +235,8 @@ pub fn planner_grade(job: &Job, room: &mut Room) -> u32 {
 fn plain_plan(method: Method, job: &Job, room: &mut Room) -> u32 {
     let planned = plain::plan(
         method,
+        job.second,
+        job.startup,
         &job.speeds,
         &job.weights,
         &mut room.separators,
@@ -287,28 +309,28 @@ fn plain_bottleneck(answered: Result<Bound, u32>, room: &mut Room) -> u32 {
 #[no_mangle]
 #[inline(never)]
 pub fn plain_quick(job: &Job, room: &mut Room) -> u32 {
-    let answered = plain::heuristic(&job.speeds, &job.weights, &mut room.separators);
+    let answered = plain::heuristic(job.second, job.startup, &job.speeds, &job.weights, &mut room.separators);
     plain_bottleneck(answered, room)
 }
 
 #[no_mangle]
 #[inline(never)]
 pub fn plain_halving(job: &Job, room: &mut Room) -> u32 {
-    let answered = plain::halving(&job.speeds, &job.weights, &mut room.separators);
+    let answered = plain::halving(job.second, job.startup, &job.speeds, &job.weights, &mut room.separators);
     plain_bottleneck(answered, room)
 }
 
 #[no_mangle]
 #[inline(never)]
 pub fn plain_halvingsides(job: &Job, room: &mut Room) -> u32 {
-    let answered = plain::halving_by_sides(&job.speeds, &job.weights, &mut room.separators);
+    let answered = plain::halving_by_sides(job.second, job.startup, &job.speeds, &job.weights, &mut room.separators);
     plain_bottleneck(answered, room)
 }
 
 #[no_mangle]
 #[inline(never)]
 pub fn plain_trial(job: &Job, room: &mut Room) -> u32 {
-    match plain::probe(&job.speeds, &job.weights, job.trial, &mut room.separators) {
+    match plain::probe(job.second, job.startup, &job.speeds, &job.weights, job.trial, &mut room.separators) {
         Err(number) => number,
         Ok(None) => {
             room.answer[0] = 1;
@@ -326,7 +348,7 @@ pub fn plain_trial(job: &Job, room: &mut Room) -> u32 {
 #[no_mangle]
 #[inline(never)]
 pub fn plain_grade(job: &Job, room: &mut Room) -> u32 {
-    match plain::grade(&job.speeds, &job.weights, &job.plan) {
+    match plain::grade(job.second, job.startup, &job.speeds, &job.weights, &job.plan) {
         Err(number) => number,
         Ok(grade) => {
             room.answer[0] = match grade {

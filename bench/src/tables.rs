@@ -1,23 +1,32 @@
-//! The two tables of docs/BENCHMARKS.md and the further ones of target/benchmarks.md, from the records of a run.
+//! The tables of docs/BENCHMARKS.md and the further ones of target/benchmarks.md, from the records of a run.
 use crate::jobs::{Family, Shape, Size};
 use crate::measure::{
-    growth_with_processors, growth_with_tasks, long_row, short_row, FASTEST, HALVED_SIZES, LARGEST, PLACEMENTS, ROW_PROCESSORS, SIZES,
+    growth_with_processors, growth_with_tasks, long_row, short_row, FASTEST, HALVED_SIZES, LARGEST, PLACEMENTS, ROW_PROCESSORS, SECOND_FASTEST,
+    SIZES, STARTUP,
 };
 use crate::records::{self, Records};
 
-/// The shapes of a ratio: every family with these sizes and ranges of speeds.
+/// The shapes of a ratio: every family with these sizes and ranges of speeds, with this start-up work.
 #[derive(Clone, Copy)]
 struct Span {
     sizes: [Size; 3],
     fastest: &'static [u32],
+    startup: u32,
 }
 
-const ALL: Span = Span { sizes: SIZES, fastest: &FASTEST };
-const HALVED: Span = Span { sizes: HALVED_SIZES, fastest: &[1] };
+const ALL: Span = Span { sizes: SIZES, fastest: &FASTEST, startup: 0 };
+const HALVED: Span = Span { sizes: HALVED_SIZES, fastest: &[1], startup: 0 };
 
 impl Span {
     fn shapes(self) -> impl Iterator<Item = Shape> {
-        self.sizes.into_iter().flat_map(move |size| shapes(size, self.fastest))
+        let shapes = self.sizes.into_iter().flat_map(move |size| shapes(size, self.fastest));
+        shapes.map(move |shape| Shape { startup: self.startup, ..shape })
+    }
+
+    /// The shapes of the second edition beside these.
+    fn second(self) -> Span {
+        let fastest: &'static [u32] = if self.fastest == [1] { &[1] } else { &[SECOND_FASTEST] };
+        Span { fastest, startup: STARTUP, ..self }
     }
 }
 
@@ -148,11 +157,11 @@ fn least(values: &[f64]) -> f64 {
 }
 
 /// The geometric mean, the least and the greatest over the shapes of each ratio, and the greatest single pass.
-fn summary(records: &Records) {
-    println!("Planner / plain Rust over the 27 shapes, of halving over 9; the mean is the geometric one.\n");
+fn summary(records: &Records, of: fn(Span) -> Span) {
     head(&texts(&["", "time: mean", "least", "greatest", "greatest single pass", "instructions: mean", "least", "greatest"]));
     for (title, planner, plain, span) in RATIOS {
         let mut cells = vec![title.to_string()];
+        let span = of(span);
         for kind in KINDS {
             let all: Vec<f64> = span.shapes().map(|shape| ratio(records, kind, planner, plain, shape)).collect();
             cells.extend([geometric_mean(&all), least(&all), greatest(&all)].map(|value| format!("{value:.2}")));
@@ -355,10 +364,13 @@ fn growth_table(records: &Records, shapes: &[Shape]) {
     println!();
 }
 
-/// The two tables of the page.
+/// The tables of the page.
 pub fn print_summary(files: &[String]) {
     let records = Records::read(files);
-    summary(&records);
+    println!("Planner / plain Rust over the 27 shapes, of halving over 9; the mean is the geometric one.\n");
+    summary(&records, |span| span);
+    println!("The same for jobs of the second edition, with start-up work {STARTUP}: speeds 1–{SECOND_FASTEST}, of halving equal ones; 9 shapes each.\n");
+    summary(&records, Span::second);
     println!("Quick plan, halving and best plan on rows of equal machines with the most tiles: imbalance in thousandths, rounded up, the mean of");
     println!("64 jobs; on how many of the 64 a quick plan's bottleneck is the best plan's, and on how many it is smaller than the other one's;");
     println!("the planner's time in microseconds, the mean of the first {TIMED} jobs.\n");

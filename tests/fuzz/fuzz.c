@@ -1,7 +1,7 @@
 /* A fuzz target of plan_job and grade_plan. The first two bytes choose the method and the buffers, the next two what is graded: the
  * plan that plan_job wrote with a small change, or so many bytes from the end of the input; the rest is the job file. The answers are
- * judged by the rules of the scope and of request M-102 alone: the numbers by a reader of its own, a plan by what makes it the only best
- * one, a grade by whether a walk stays strictly below the plan's bottleneck. */
+ * judged by the rules of the scope and of requests M-102 and M-106 alone: the numbers by a reader of its own, a plan by what makes it the
+ * only best one, a grade by whether a walk stays strictly below the plan's bottleneck. */
 #include <stdio.h>
 #include <stdlib.h>
 #include <string.h>
@@ -24,31 +24,42 @@ static uint32_t field(const uint8_t *at) {
 }
 
 struct job {
-    uint32_t machines, tiles, speeds[PELSHAQU_MAX_MACHINES + 1], weights[TILES + 1];
+    uint32_t startup, machines, tiles, speeds[PELSHAQU_MAX_MACHINES + 1], weights[TILES + 1];
 };
 
 /* The tests of one record; a good one is added as far as there is room. */
-static uint32_t take(struct job *job, const uint8_t *r) {
+static uint32_t take(struct job *job, const uint8_t *r, int first) {
     uint32_t value = field(r + 4);
-    if ((r[0] != 1 && r[0] != 2) || r[1] || r[2] || r[3]) return 3;
+    if ((r[0] != 1 && r[0] != 2 && r[0] != 3) || r[1] || r[2] || r[3]) return 3;
     if (r[0] == 1 && job->tiles) return 4;
+    if (r[0] == 3 && !first) return 15;
     if (r[0] == 1 && (value < 1 || value > 10000)) return 5;
     if (r[0] == 2 && value > 1000000) return 6;
+    if (r[0] == 3 && value > 1000000) return 16;
+    if (r[0] == 3) job->startup = value;
     if (r[0] == 1 && job->machines++ < PELSHAQU_MAX_MACHINES) job->speeds[job->machines - 1] = value;
     if (r[0] == 2 && job->tiles++ < TILES) job->weights[job->tiles - 1] = value;
     return 0;
 }
 
 static uint32_t judge(struct job *job, const uint8_t *file, size_t len, uint32_t method, size_t plan_len) {
+    job->startup = job->machines = job->tiles = 0;
     if (method < 1 || method > 4) return 1;
     if (len % 8) return 2;
     for (size_t i = 0; i < len; i += 8) {
-        uint32_t number = take(job, file + i);
+        uint32_t number = take(job, file + i, i == 0);
         if (number) return number;
     }
     if (job->machines < 1 || job->machines > PELSHAQU_MAX_MACHINES) return 7;
     if (job->tiles > TILES) return 8;
     return plan_len < 16 * (size_t)job->machines ? 9 : 0;
+}
+
+/* The load of tiles from + 1 to to: the start-up work and their weight, 0 where there are none. */
+static uint32_t load_of(const struct job *job, uint32_t from, uint32_t to) {
+    uint32_t load = from < to ? job->startup : 0;
+    for (uint32_t i = from; i < to; i++) load += job->weights[i];
+    return load;
 }
 
 /* One walk at load/speed, where an equal share is within the bound or not; its separators, and whether the rest is within it. */
@@ -57,10 +68,10 @@ static int walk(const struct job *job, unsigned __int128 load, unsigned __int128
     for (uint32_t p = 0; p < job->machines; p++) {
         unsigned __int128 sum = 0;
         int last = p + 1 == job->machines;
-        while (at < job->tiles) {
-            unsigned __int128 more = (sum + job->weights[at]) * speed, most = load * job->speeds[p];
-            if (!last && (equal ? more > most : more >= most)) break;
-            sum += job->weights[at++];
+        for (uint32_t from = at; at < job->tiles; at++) {
+            unsigned __int128 longer = sum + job->weights[at] + (at == from ? job->startup : 0), most = load * job->speeds[p];
+            if (!last && (equal ? longer * speed > most : longer * speed >= most)) break;
+            sum = longer;
         }
         separators[p] = at;
         if (last && (equal ? sum * speed > load * job->speeds[p] : sum * speed >= load * job->speeds[p])) return 0;
@@ -73,9 +84,9 @@ static void best(const struct job *job, const uint8_t *plan) {
     uint32_t before = 0, separators[PELSHAQU_MAX_MACHINES];
     unsigned __int128 load = 0, speed = 1;
     for (uint32_t p = 0; p < job->machines; p++, plan += 16) {
-        uint32_t to = field(plan + 4), sum = 0;
+        uint32_t to = field(plan + 4), sum;
         must(field(plan) == before && to >= before && to <= job->tiles, "no division");
-        for (uint32_t i = before; i < to; i++) sum += job->weights[i];
+        sum = load_of(job, before, to);
         must(field(plan + 8) == sum && field(plan + 12) == job->speeds[p], "a wrong load or speed");
         if ((unsigned __int128)sum * speed > load * job->speeds[p]) load = sum, speed = job->speeds[p];
         before = to;
@@ -99,8 +110,7 @@ static uint32_t judge_plan(const struct job *job, const uint8_t *plan, size_t le
     }
     if (before != job->tiles) return 11;
     for (uint32_t p = 0; p < job->machines; p++) {
-        uint32_t sum = 0;
-        for (uint32_t i = field(plan + 16 * p); i < field(plan + 16 * p + 4); i++) sum += job->weights[i];
+        uint32_t sum = load_of(job, field(plan + 16 * p), field(plan + 16 * p + 4));
         if (field(plan + 16 * p + 8) != sum || field(plan + 16 * p + 12) != job->speeds[p]) return 13;
         if ((unsigned __int128)sum * speed > load * job->speeds[p]) load = sum, speed = job->speeds[p];
     }
@@ -130,11 +140,11 @@ static void move(const struct job *job, uint8_t *plan, uint32_t p, int on) {
     uint8_t *here = plan + 16 * p, *next = here + 16;
     uint32_t at = field(here + 4);
     if (on ? at == field(next + 4) : at == field(here)) return;
-    uint32_t weight = job->weights[on ? at : at - 1], to = on ? at + 1 : at - 1;
+    uint32_t to = on ? at + 1 : at - 1;
     put(here + 4, to);
     put(next, to);
-    put(here + 8, on ? field(here + 8) + weight : field(here + 8) - weight);
-    put(next + 8, on ? field(next + 8) - weight : field(next + 8) + weight);
+    put(here + 8, load_of(job, field(here), to));
+    put(next + 8, load_of(job, to, field(next + 4)));
 }
 
 /* A small change of a plan: gives its new length. There is room for a record more. */
@@ -180,7 +190,6 @@ int LLVMFuzzerTestOneInput(const uint8_t *data, size_t size) {
     else room = data[1] - 192;
     memset(plan, 0xA5, sizeof plan);
     memset(before, 0xA5, sizeof before);
-    job.machines = job.tiles = 0;
     uint32_t number = judge(&job, file, len, method, room);
     must(plan_job(file, len, method, plan, room) == number, "a wrong number");
     size_t filled = number == 0 ? 16 * (size_t)job.machines : 0;
@@ -192,7 +201,6 @@ int LLVMFuzzerTestOneInput(const uint8_t *data, size_t size) {
         grades(&job, file, len, 0, plan, changed, data[1] % 4);
     }
     /* A refusal of the plan buffer or the method is none of grading. */
-    job.machines = job.tiles = 0;
     number = judge(&job, file, len, 1, SIZE_MAX);
     grades(&job, file, len, number, file + len, tail, data[1] % 4);
     return 0;

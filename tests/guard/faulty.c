@@ -6,10 +6,14 @@
 uint32_t __real_plan_job(const uint8_t *job, size_t job_len, uint32_t method, uint8_t *plan, size_t plan_len);
 uint32_t __wrap_plan_job(const uint8_t *job, size_t job_len, uint32_t method, uint8_t *plan, size_t plan_len);
 
-/* How many machines a job begins with. */
+/* Whether a job is of the second edition, and how many machines it has. */
+static size_t second(const uint8_t *job, size_t job_len) {
+    return job_len >= 8 && job[0] == 3;
+}
+
 static size_t row(const uint8_t *job, size_t job_len) {
-    size_t n = 0;
-    while (8 * n + 8 <= job_len && job[8 * n] == 1) n++;
+    size_t n = 0, front = second(job, job_len);
+    while (8 * (front + n) + 8 <= job_len && job[8 * (front + n)] == 1) n++;
     return n;
 }
 
@@ -30,6 +34,10 @@ uint32_t __wrap_plan_job(const uint8_t *job, size_t job_len, uint32_t method, ui
     if (FAULT == 10 && number == 0) plan[8] ^= 1;                  /* a wrong load */
     if (FAULT == 21 && number == 0 && row(job, job_len) == PELSHAQU_MAX_MACHINES) return 7;     /* the most machines refused */
     if (FAULT == 22 && number == 7 && row(job, job_len) == PELSHAQU_MAX_MACHINES + 1) return 0; /* one machine too many taken */
+    if (FAULT == 25 && number == 0 && second(job, job_len)) plan[8] ^= 2;                       /* a wrong load in the second edition */
+    if (FAULT == 26 && number == 15) return 3;                                                  /* 3 for start-up work in the wrong place */
+    if (FAULT == 27 && number == 16) return 6;                                                  /* 6 for start-up work out of range */
+    if (FAULT == 28 && number == 0 && job_len == 8 * (size_t)(1 + PELSHAQU_MAX_MACHINES + PELSHAQU_MAX_TILES)) return 8; /* the longest job refused */
     return number;
 }
 
@@ -50,5 +58,7 @@ uint32_t __wrap_grade_plan(const uint8_t *job, size_t job_len, const uint8_t *pl
     if (FAULT == 20 && number == 9) return 12;                     /* grading: 12 for a grade buffer of no bytes */
     if (FAULT == 23 && number == 0 && row(job, job_len) == PELSHAQU_MAX_MACHINES) return 7;     /* grading: the most machines refused */
     if (FAULT == 24 && number == 7 && row(job, job_len) == PELSHAQU_MAX_MACHINES + 1) return 0; /* grading: one machine too many taken */
+    if (FAULT == 29 && number == 0 && second(job, job_len)) grade[0] = 1;                       /* grading: best always in the second edition */
+    if (FAULT == 30 && number == 13 && second(job, job_len)) { grade[0] = 2; return 0; }        /* grading: loads not compared in the second edition */
     return number;
 }

@@ -7,10 +7,13 @@
 #include "../../include/pelshaqu.h"
 
 #define GUARD 64
-/* The most tiles of a job; of machines the header has the most. */
+/* The most tiles of a job, of machines the header has the most; and the greatest start-up work. */
 #define TILES PELSHAQU_MAX_TILES
-/* Room for a machine and a tile more than a job may have. */
-#define LARGEST (8 * (PELSHAQU_MAX_MACHINES + TILES + 2))
+#define STARTUP 1000000
+/* Room for a machine and a tile more than a job of the second edition may have. */
+#define LARGEST (8 * (1 + PELSHAQU_MAX_MACHINES + TILES + 2))
+/* The start-up work of a job of the first edition. */
+#define FIRST UINT32_MAX
 
 static unsigned long calls;
 
@@ -173,34 +176,49 @@ static size_t part(uint8_t *at, uint32_t from, uint32_t to, uint32_t load, uint3
     return field(at, from) + field(at + 4, to) + field(at + 8, load) + field(at + 12, speed);
 }
 
-/* Jobs A to E of the document, with their plans, and of the divisions 0 s N for s = 0 to N which are best (1) and which valid (2). */
+/* The load of tiles from + 1 to to with this start-up work. */
+static uint32_t load_of(const uint32_t *weights, uint32_t from, uint32_t to, uint32_t startup) {
+    uint32_t load = from < to ? startup : 0;
+    for (uint32_t i = from; i < to; i++) load += weights[i];
+    return load;
+}
+
+/* Jobs A to E of the document, with their plans, and of the divisions 0 s N for s = 0 to N which are best (1) and which valid (2); then
+ * jobs of the second edition, worked by hand: A without start-up work, with some and with more, which one machine does alone; tiles of
+ * weight 0; a tile that either machine can have; no tiles; the most start-up work. */
 static void marked_jobs(void) {
     static const struct {
-        uint32_t machines, tiles, speeds[2], weights[5], separators[3];
+        uint32_t startup, tiles, speeds[2], weights[5], separators[3];
         int grades[6];
     } jobs[] = {
+        {FIRST, 3, {1, 3}, {1, 3, 8}, {0, 1, 3}, {2, 1, 2, 2}},
+        {FIRST, 5, {1, 2}, {4, 3, 2, 6, 1}, {0, 1, 5}, {2, 1, 2, 2, 2, 2}},
+        {FIRST, 0, {7, 2}, {0}, {0, 0, 0}, {1}},
+        {FIRST, 2, {1, 1}, {0, 0}, {0, 2, 2}, {1, 1, 1}},
+        {FIRST, 1, {1, 1}, {6}, {0, 1, 1}, {1, 1}},
+        {0, 3, {1, 3}, {1, 3, 8}, {0, 1, 3}, {2, 1, 2, 2}},
         {2, 3, {1, 3}, {1, 3, 8}, {0, 1, 3}, {2, 1, 2, 2}},
-        {2, 5, {1, 2}, {4, 3, 2, 6, 1}, {0, 1, 5}, {2, 1, 2, 2, 2, 2}},
-        {2, 0, {7, 2}, {0}, {0, 0, 0}, {1}},
-        {2, 2, {1, 1}, {0, 0}, {0, 2, 2}, {1, 1, 1}},
-        {2, 1, {1, 1}, {6}, {0, 1, 1}, {1, 1}},
+        {5, 3, {1, 3}, {1, 3, 8}, {0, 0, 3}, {1, 2, 2, 2}},
+        {3, 3, {1, 4}, {1, 4, 4}, {0, 0, 3}, {1, 2, 2, 2}},
+        {3, 2, {2, 1}, {0, 0}, {0, 2, 2}, {2, 2, 1}},
+        {2, 1, {1, 1}, {5}, {0, 1, 1}, {1, 1}},
+        {9, 0, {7, 2}, {0}, {0, 0, 0}, {1}},
+        {STARTUP, 2, {1, 1}, {1000000, 0}, {0, 2, 2}, {1, 1, 1}},
     };
     for (size_t k = 0; k < sizeof jobs / sizeof *jobs; k++) {
         uint8_t job[64], plan[32];
-        size_t n = 0, m = 0;
+        uint32_t second = jobs[k].startup != FIRST, startup = second ? jobs[k].startup : 0, tiles = jobs[k].tiles;
+        size_t n = second ? put(job, 3, startup) : 0, m = 0;
         for (uint32_t p = 0; p < 2; p++) n += put(job + n, 1, jobs[k].speeds[p]);
-        for (uint32_t i = 0; i < jobs[k].tiles; i++) n += put(job + n, 2, jobs[k].weights[i]);
+        for (uint32_t i = 0; i < tiles; i++) n += put(job + n, 2, jobs[k].weights[i]);
         for (uint32_t p = 0; p < 2; p++) {
-            uint32_t load = 0;
-            for (uint32_t i = jobs[k].separators[p]; i < jobs[k].separators[p + 1]; i++) load += jobs[k].weights[i];
-            m += part(plan + m, jobs[k].separators[p], jobs[k].separators[p + 1], load, jobs[k].speeds[p]);
+            uint32_t from = jobs[k].separators[p], to = jobs[k].separators[p + 1];
+            m += part(plan + m, from, to, load_of(jobs[k].weights, from, to, startup), jobs[k].speeds[p]);
         }
         every_length(job, n, plan, m);
-        for (uint32_t s = 0; s <= jobs[k].tiles; s++) {
-            uint32_t left = 0, right = 0;
-            for (uint32_t i = 0; i < jobs[k].tiles; i++) *(i < s ? &left : &right) += jobs[k].weights[i];
-            part(plan, 0, s, left, jobs[k].speeds[0]);
-            part(plan + 16, s, jobs[k].tiles, right, jobs[k].speeds[1]);
+        for (uint32_t s = 0; s <= tiles; s++) {
+            part(plan, 0, s, load_of(jobs[k].weights, 0, s, startup), jobs[k].speeds[0]);
+            part(plan + 16, s, tiles, load_of(jobs[k].weights, s, tiles, startup), jobs[k].speeds[1]);
             graded_all(job, n, plan, m, jobs[k].grades[s]);
         }
     }
@@ -226,13 +244,26 @@ static void refusals(void) {
     size_t n = put(file, 1, 1);
     for (size_t len = 1; len < 8; len++) refused(file, len, 2);
     refused(NULL, 0, 7);
-    put(file, 3, 1);
+    put(file, 4, 1);
     refused(file, 8, 3);
     for (int place = 1; place < 4; place++) {
-        put(file, 1, 1);
-        file[place] = 1;
-        refused(file, 8, 3);
+        for (uint8_t kind = 1; kind <= 3; kind++) {
+            put(file, kind, 1);
+            file[place] = 1;
+            refused(file, 8, 3);
+        }
     }
+    put(file, 3, STARTUP);
+    refused(file, 8, 7);
+    for (uint8_t kind = 1; kind <= 3; kind++) {
+        put(file, kind, 1);
+        put(file + 8, 3, STARTUP + 1);
+        refused(file, 16, 15);
+    }
+    put(file, 3, STARTUP + 1);
+    put(file + 8, 1, 0);
+    refused(file, 8, 16);
+    refused(file, 16, 16);
     put(file, 2, 0);
     refused(file, 8, 7);
     put(file + 8, 1, 1);
@@ -246,23 +277,27 @@ static void refusals(void) {
     refused(file, 16, 6);
     for (n = put(file, 1, 1); n < 8 * (1 + TILES + 1);) n += put(file + n, 2, 0);
     refused(file, n, 8);
+    n = put(file, 3, 1);
+    for (n += put(file + n, 1, 1); n < 8 * (2 + TILES + 1);) n += put(file + n, 2, 0);
+    refused(file, n, 8);
 }
 
-/* Writes machines, then tiles, and gives the bytes. */
-static size_t fill(uint8_t *job, size_t machines, size_t tiles) {
-    for (size_t p = 0; p < machines; p++) put(job + 8 * p, 1, 1);
-    for (size_t i = 0; i < tiles; i++) put(job + 8 * (machines + i), 2, 0);
-    return 8 * (machines + tiles);
+/* Writes machines, then tiles, behind the start-up work if there is any, and gives the bytes. */
+static size_t fill(uint8_t *job, uint32_t startup, size_t machines, size_t tiles) {
+    size_t n = startup == FIRST ? 0 : put(job, 3, startup);
+    for (size_t p = 0; p < machines; p++) n += put(job + n, 1, 1);
+    for (size_t i = 0; i < tiles; i++) n += put(job + n, 2, 0);
+    return n;
 }
 
 /* Rows of the most machines and longer ones, by plan buffers and plans that would do for them. */
-static void rows(void) {
+static void rows(uint32_t startup) {
     const size_t most = PELSHAQU_MAX_MACHINES, longer[] = {most + 1, most + 2, 2 * most - 1, 2 * most, 3 * most + 1};
     static uint8_t job[LARGEST], plan[LARGEST];
     size_t n, m = 0;
     for (size_t p = 0; p < LARGEST / 16; p++) m += part(plan + m, 0, 0, 0, 1);
     for (size_t row = PELSHAQU_MAX_MACHINES - 1; row <= PELSHAQU_MAX_MACHINES; row++) {
-        n = fill(job, row, 0);
+        n = fill(job, startup, row, 0);
         for (uint32_t method = 1; method <= 4; method++) {
             for (size_t len = 16 * row - 1; len <= 16 * row + 1; len++) {
                 both(job, n, method, len, (struct wanted){len < 16 * row ? 9 : 0, plan, 16 * row});
@@ -270,11 +305,11 @@ static void rows(void) {
         }
         graded(job, n, plan, 16 * row, 1, 0, 1);
         graded(job, n, plan, 16 * row + 16, 1, 12, 0);
-        put(job, 1, 0);
+        put(job + n - 8, 1, 0);
         refused(job, n, 5);
     }
     for (size_t k = 0; k < sizeof longer / sizeof *longer; k++) {
-        n = fill(job, longer[k], 1);
+        n = fill(job, startup, longer[k], 1);
         refused(job, n - 8, 7);
         for (uint32_t method = 1; method <= 4; method++) {
             for (size_t len = 16 * longer[k] - 1; len <= 16 * longer[k] + 1; len++) both(job, n, method, len, (struct wanted){7, NULL, 0});
@@ -286,23 +321,26 @@ static void rows(void) {
         put(job + n - 16, 1, 10001);
         refused(job, n, 5);
     }
-    n = fill(job, PELSHAQU_MAX_MACHINES + 1, TILES + 1);
+    n = fill(job, startup, PELSHAQU_MAX_MACHINES + 1, TILES + 1);
     refused(job, n, 7);
-    n = fill(job, PELSHAQU_MAX_MACHINES, TILES + 1);
+    n = fill(job, startup, PELSHAQU_MAX_MACHINES, TILES + 1);
     refused(job, n, 8);
 }
 
-/* A record of a plan of equal tiles on equal machines. */
+/* A record of a plan of equal tiles on equal machines, and the start-up work of such a plan. */
+static uint32_t equal_startup;
+
 static size_t equal_part(uint8_t *at, uint32_t from, uint32_t to) {
-    return part(at, from, to, 1000000 * (to - from), 10000);
+    return part(at, from, to, (from < to ? equal_startup : 0) + 1000000 * (to - from), 10000);
 }
 
 /* The longest job: equal tiles and machines. Some machine has to take as many tiles as this share; the plan gives it to each machine
  * as long as there are tiles, and an even division is as good. */
-static void longest(void) {
+static void longest(uint32_t startup) {
     static uint8_t job[LARGEST], plan[PELSHAQU_MAX_PLAN];
     const uint32_t machines = PELSHAQU_MAX_MACHINES, share = (TILES + machines - 1) / machines;
-    size_t n = 0, m = 0;
+    size_t n = startup == FIRST ? 0 : put(job, 3, startup), m = 0;
+    equal_startup = startup == FIRST ? 0 : startup;
     for (uint32_t p = 0; p < machines; p++) n += put(job + n, 1, 10000);
     for (int i = 0; i < TILES; i++) n += put(job + n, 2, 1000000);
     for (uint32_t p = 0; p < machines; p++) {
@@ -328,17 +366,20 @@ static void longest(void) {
         equal_part(longer + 16 * p, last, TILES * (p + 1) / machines);
     }
     graded(job, n, longer, m, 1, 0, 1);
-    part(longer + m - 16, last, TILES, 1000000 * (TILES - last) + 1, 10000);
+    part(longer + m - 16, last, TILES, equal_startup + 1000000 * (TILES - last) + 1, 10000);
     graded(job, n, longer, m, 1, 13, 0);
     equal_part(longer + m - 16, last + 1, TILES);
     graded(job, n, longer, m, 1, 11, 0);
 }
 
 int main(void) {
+    static const uint32_t startups[] = {FIRST, 0, STARTUP};
     marked_jobs();
     refusals();
-    rows();
-    longest();
+    for (size_t k = 0; k < sizeof startups / sizeof *startups; k++) {
+        rows(startups[k]);
+        longest(startups[k]);
+    }
     printf("tests/guard: %lu calls, all as they must be\n", calls);
     return 0;
 }

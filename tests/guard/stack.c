@@ -1,5 +1,5 @@
-/* How many bytes of stack the two calls take: on jobs of the largest size and smaller ones, by all four methods, and on files that are
- * refused. Each call is made in a thread of its own, whose stack is an area filled with a pattern before; the lowest byte that has
+/* How many bytes of stack the two calls take: on jobs of the largest size and smaller ones, of both editions, by all four methods, and on
+ * files that are refused. Each call is made in a thread of its own, whose stack is an area filled with a pattern before; the lowest byte that has
  * changed says how deep the call went. An empty call of the same kind, made in the same way, is taken off, so the figure is what lies
  * below the return address of the call: the frames of all functions in it, memset's too. Two patterns, since a byte may be written with
  * the value that it had. The figures are the greatest of all calls. Prints one line and gives 0 if every call gave the number that it must.
@@ -18,7 +18,10 @@
 
 #define MACHINES PELSHAQU_MAX_MACHINES
 #define TILES PELSHAQU_MAX_TILES
-#define RECORDS (MACHINES + TILES + 2)
+#define STARTUP 1000000
+/* The start-up work of a job of the first edition. */
+#define FIRST UINT32_MAX
+#define RECORDS (1 + MACHINES + TILES + 2)
 #define AREA (512 * 1024)
 /* What the thread did before the call lies within so many bytes above it. */
 #define APART (16 * 1024)
@@ -152,35 +155,36 @@ static uint32_t drawn(int family, uint32_t i, uint32_t most) {
 }
 
 /* Fills the job and gives its records. */
-static size_t fill(uint32_t machines, uint32_t tiles, int speeds, int weights) {
-    size_t n = 0;
+static size_t fill(uint32_t startup, uint32_t machines, uint32_t tiles, int speeds, int weights) {
+    size_t n = startup == FIRST ? 0 : put(0, 3, startup);
     for (uint32_t p = 0; p < machines; p++) n = put(n, 1, 1 + drawn(speeds, p, 9999));
     for (uint32_t i = 0; i < tiles; i++) n = put(n, 2, drawn(weights, i, 1000000));
     return n;
 }
 
 /* All tiles on the first machine: a true plan. */
-static void all_on_first(uint32_t machines, uint32_t tiles) {
-    uint32_t load = 0;
-    for (uint32_t i = 0; i < tiles; i++) load += field(job + 8 * (machines + i) + 4);
+static void all_on_first(uint32_t startup, uint32_t machines, uint32_t tiles) {
+    const uint8_t *row = job + (startup == FIRST ? 0 : 8);
+    uint32_t load = startup == FIRST || tiles == 0 ? 0 : startup;
+    for (uint32_t i = 0; i < tiles; i++) load += field(row + 8 * (machines + i) + 4);
     for (uint32_t p = 0; p < machines; p++) {
         set(other + 16 * p, p ? tiles : 0);
         set(other + 16 * p + 4, tiles);
         set(other + 16 * p + 8, p ? 0 : load);
-        set(other + 16 * p + 12, field(job + 8 * p + 4));
+        set(other + 16 * p + 12, field(row + 8 * p + 4));
     }
 }
 
 /* An accepted job: by each method, graded as planned and with all on the first machine; and every refusal that it can be given. */
-static void accepted(uint32_t machines, uint32_t tiles, int speeds, int weights) {
-    size_t len = 8 * fill(machines, tiles, speeds, weights), plan_len = 16 * machines;
+static void accepted(uint32_t startup, uint32_t machines, uint32_t tiles, int speeds, int weights) {
+    size_t len = 8 * fill(startup, machines, tiles, speeds, weights), plan_len = 16 * machines;
     for (uint32_t method = 0; method <= 5; method++) {
         plans(len, method, plan_len - 1, method < 1 || method > 4 ? 1 : 9);
         plans(len, method, plan_len, method < 1 || method > 4 ? 1 : 0);
     }
     grades(len, plan, plan_len, 1, 0);
     if (grade[0] != PELSHAQU_BEST) fail("the plan is not best", grade[0], PELSHAQU_BEST);
-    all_on_first(machines, tiles);
+    all_on_first(startup, machines, tiles);
     grades(len, other, plan_len, 1, 0);
     grades(len, other, plan_len, 0, 9);
     grades(len, other, plan_len + 16, 1, 12);
@@ -196,34 +200,44 @@ static void refused(size_t len, uint32_t wanted) {
     grades(len, plan, 16 * MACHINES, 1, wanted);
 }
 
-static void refusals(void) {
-    size_t n = fill(MACHINES, TILES, 4, 4), last = n - 1;
+static void refusals(uint32_t startup) {
+    size_t n = fill(startup, MACHINES, TILES, 4, 4), last = n - 1, first = startup == FIRST ? 0 : 1;
     refused(8 * n - 1, 2);
-    put(last, 3, 1);
+    put(last, 4, 1);
     refused(8 * n, 3);
     put(last, 1, 1);
     refused(8 * n, 4);
-    put(0, 1, 0);
+    put(last, 3, 1);
+    refused(8 * n, 15);
+    put(first, 1, 0);
     refused(8 * n, 5);
-    put(0, 1, 1);
+    put(first, 1, 1);
     put(last, 2, 1000001);
     refused(8 * n, 6);
+    put(0, 3, STARTUP + 1);
+    refused(8 * n, 16);
     refused(0, 7);
-    refused(8 * fill(MACHINES + 1, TILES, 4, 4), 7);
-    refused(8 * fill(MACHINES, TILES + 1, 4, 4), 8);
+    refused(8 * fill(startup, MACHINES + 1, TILES, 4, 4), 7);
+    refused(8 * fill(startup, MACHINES, TILES + 1, 4, 4), 8);
 }
 
 int main(void) {
     area = mmap(NULL, AREA, PROT_READ | PROT_WRITE, MAP_PRIVATE | MAP_ANONYMOUS, -1, 0);
     if (area == MAP_FAILED) fail("no memory", 0, 0);
     for (int speeds = 0; speeds <= 4; speeds++) {
-        for (int weights = 0; weights <= 4; weights++) accepted(MACHINES, TILES, speeds, weights);
+        for (int weights = 0; weights <= 4; weights++) {
+            accepted(FIRST, MACHINES, TILES, speeds, weights);
+            accepted(weights % 2 ? STARTUP : 1000, MACHINES, TILES, speeds, weights);
+        }
     }
-    accepted(1, 0, 4, 4);
-    accepted(1, TILES, 4, 4);
-    accepted(2, 3, 4, 4);
-    accepted(MACHINES, 0, 4, 4);
-    refusals();
+    static const uint32_t startups[] = {FIRST, 0, STARTUP};
+    for (size_t k = 0; k < sizeof startups / sizeof *startups; k++) {
+        accepted(startups[k], 1, 0, 4, 4);
+        accepted(startups[k], 1, TILES, 4, 4);
+        accepted(startups[k], 2, 3, 4, 4);
+        accepted(startups[k], MACHINES, 0, 4, 4);
+        refusals(startups[k]);
+    }
     printf("plan_job %zu bytes, grade_plan %zu bytes\n", most_planning, most_grading);
     return 0;
 }

@@ -1,9 +1,9 @@
 //! What every call must answer and leave behind, on any input, by the scope (docs/SCOPE.md).
 
 use crate::job::{self, Job};
-use crate::limits::{self, BOUND_LOAD, BOUND_SPEED, MACHINES, SPEED, TILES, WEIGHT};
+use crate::limits::{self, BOUND_LOAD, BOUND_SPEED, MACHINES, SPEED, STARTUP, TILES, WEIGHT};
 use crate::methods::{self, Search};
-use crate::planner::Call;
+use crate::planner::{Call, Edition};
 use crate::slow::{self, Bound};
 use crate::{damage, fast, grading, halving, listing};
 
@@ -68,9 +68,10 @@ fn answer(lent: &[u8], numbers: &[u128]) -> After {
     After { front: bytes, free: 0 }
 }
 
-/// The tests of a job by lists.
-pub fn refuse_lists(speeds: &[u32], weights: &[u32]) -> u32 {
+/// The tests of a job by lists: the start-up work of the second edition before all speeds, that of the first not at all.
+pub fn refuse_lists(edition: Edition, speeds: &[u32], weights: &[u32]) -> u32 {
     let found = [
+        (edition.second && edition.startup > STARTUP, 16),
         (speeds.iter().any(|&e| e == 0 || e > SPEED), 5),
         (weights.iter().any(|&w| w > WEIGHT), 6),
         (speeds.is_empty() || speeds.len() > MACHINES, 7),
@@ -90,11 +91,11 @@ pub fn expected(call: Call, given: &[&[u8]], solved: Option<&Solved>) -> Result<
         Call::Host { method } => host(method, given, solved),
         Call::List => listed(given),
         Call::HostGrade => host_graded(given, solved),
-        Call::Plan { method } if !(1..=4).contains(&method) => Err(1),
+        Call::Plan(_, method) if !(1..=4).contains(&method) => Err(1),
         _ => {
-            let (speeds, weights) = (words(given[0]), words(given[1]));
-            match refuse_lists(&speeds, &weights) {
-                0 => accepted(call, Job { speeds, weights }, given, solved),
+            let (edition, speeds, weights) = (call.edition().unwrap(), words(given[0]), words(given[1]));
+            match refuse_lists(edition, &speeds, &weights) {
+                0 => accepted(call, Job { startup: edition.counts(), speeds, weights }, given, solved),
                 number => Err(number),
             }
         }
@@ -107,7 +108,8 @@ fn read(given: &[&[u8]]) -> Result<Vec<After>, u32> {
     if given[1].len() < speeds.len() || given[2].len() < weights.len() {
         return Err(9);
     }
-    let counts = answer(given[3], &[job.speeds.len() as u128, job.weights.len() as u128]);
+    let edition = if job.is_second() { 2 } else { 1 };
+    let counts = answer(given[3], &[edition, job.c(), job.speeds.len() as u128, job.weights.len() as u128]);
     Ok(vec![After::default(), After { front: speeds, free: 0 }, After { front: weights, free: 0 }, counts])
 }
 
@@ -149,34 +151,34 @@ fn listed(given: &[&[u8]]) -> Result<Vec<After>, u32> {
 fn accepted(call: Call, job: Job, given: &[&[u8]], solved: Option<&Solved>) -> Result<Vec<After>, u32> {
     let stays = After::default;
     let (machines, tiles) = (job.speeds.len(), job.weights.len());
-    let file_bytes = limits::job_bytes(machines, tiles);
+    let file_bytes = limits::job_bytes(job.is_second(), machines, tiles);
     match call {
-        Call::Test => return Ok(vec![stays(), stays()]),
-        Call::Write if given[2].len() < file_bytes => return Err(9),
-        Call::Write => {
+        Call::Test(_) => return Ok(vec![stays(), stays()]),
+        Call::Write(_) if given[2].len() < file_bytes => return Err(9),
+        Call::Write(_) => {
             let file = After { front: job.file(), free: 0 };
             return Ok(vec![stays(), stays(), file, answer(given[3], &[file_bytes as u128])]);
         }
-        Call::Grade => {
+        Call::Grade(_) => {
             let grade = grading::grade(&job, given[2], solved)?;
             return Ok(vec![stays(), stays(), stays(), answer(given[3], &[grade.number() as u128])]);
         }
-        Call::Halving if !halving::can_halve(&job.speeds) => return Err(14),
+        Call::Halving(_) if !halving::can_halve(&job.speeds) => return Err(14),
         _ => {}
     }
     let separators = words(given[2]);
     let short = match call {
-        Call::Plan { .. } => given[3].len() < 4 * limits::work_numbers(tiles),
-        Call::PlanFile => given[3].len() < limits::plan_bytes(machines),
+        Call::Plan(..) => given[3].len() < 4 * limits::work_numbers(tiles),
+        Call::PlanFile(_) => given[3].len() < limits::plan_bytes(machines),
         _ => false,
     };
     if separators.len() < machines + 1 || short {
         return Err(9);
     }
     match call {
-        Call::Trial { load, speed } => tried(&job, load, speed, given),
-        Call::Measure | Call::PlanFile => divided(call, &job, &separators[..machines + 1], given),
-        Call::Halving => Ok(written(&job, &halving::in_turn(&job).separators, given)),
+        Call::Trial(_, load, speed) => tried(&job, load, speed, given),
+        Call::Measure(_) | Call::PlanFile(_) => divided(call, &job, &separators[..machines + 1], given),
+        Call::Halving(_) => Ok(written(&job, &halving::in_turn(&job).separators, given)),
         _ => solved_answer(call, job, given, solved),
     }
 }
@@ -196,7 +198,7 @@ fn divided(call: Call, job: &Job, separators: &[u32], given: &[&[u8]]) -> Result
     }
     let stays = After::default;
     let division: Vec<usize> = separators.iter().map(|&s| s as usize).collect();
-    if call == Call::Measure {
+    if matches!(call, Call::Measure(_)) {
         let found = slow::bottleneck(job, &division);
         return Ok(vec![stays(), stays(), stays(), answer(given[3], &[found.0, found.1])]);
     }
@@ -222,7 +224,7 @@ fn solved_answer(call: Call, job: Job, given: &[&[u8]], solved: Option<&Solved>)
         }
     };
     let stays = After::default;
-    let Call::Plan { method } = call else {
+    let Call::Plan(_, method) = call else {
         return Ok(written(&job, &s.quick, given));
     };
     let work = After { front: Vec::new(), free: 4 * limits::work_numbers(job.weights.len()) };

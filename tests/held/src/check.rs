@@ -4,7 +4,8 @@ use crate::answers::{self, After, Solved};
 use crate::guard;
 use crate::job::{self, Job, Plan};
 use crate::lent::Lent;
-use crate::planner::{self, At, Call, Slot};
+use crate::limits::STARTUP;
+use crate::planner::{self, At, Call, Edition, Slot};
 use crate::rng::Rng;
 
 /// Room of one lent list.
@@ -31,8 +32,12 @@ pub struct Check {
     pub failed: [u64; 6],
     /// How often a search ended early, and had its least candidate on the first machine, on one between, on the last.
     pub searches: [u64; 4],
-    /// How many plans had nothing to weigh, met the ideal, were above it by less than a thousandth of it, and by as much or more.
-    pub noughts: [u64; 4],
+    /// How many plans had nothing to weigh and bottleneck 0, nothing to weigh and start-up work for a bottleneck, met the ideal, were above
+    /// it by less than a thousandth of it, and by as much or more.
+    pub noughts: [u64; 5],
+    /// How many accepted jobs were of the first edition, of the second without start-up work, with some, and with the most; of those with
+    /// some, how many whose plan is another than without it, whose plan uses fewer machines, and whose one machine makes bidding try twice.
+    pub editions: [u64; 7],
     /// How often each of the two gradings said best, and valid.
     grades: [[u64; 2]; 2],
     /// How many best plans had other separators than the planner's, and of these how many had their bottleneck as another pair.
@@ -46,41 +51,41 @@ pub struct Check {
 
 /// The calls, the name of each, and the numbers that it can give.
 pub const KINDS: [(&str, &[u32]); 13] = [
-    ("testing", &[0, 5, 6, 7, 8]),
-    ("reading", &[0, 2, 3, 4, 5, 6, 7, 8, 9]),
-    ("writing", &[0, 5, 6, 7, 8, 9]),
-    ("measuring", &[0, 5, 6, 7, 8, 9, 11]),
-    ("trial", &[0, 5, 6, 7, 8, 9, 10]),
-    ("quick plan", &[0, 5, 6, 7, 8, 9]),
-    ("halving", &[0, 5, 6, 7, 8, 14, 9]),
-    ("plan", &[0, 1, 5, 6, 7, 8, 9]),
-    ("plan file", &[0, 5, 6, 7, 8, 9, 11]),
-    ("C call", &[0, 1, 2, 3, 4, 5, 6, 7, 8, 9]),
+    ("testing", &[0, 16, 5, 6, 7, 8]),
+    ("reading", &[0, 2, 3, 4, 15, 5, 6, 16, 7, 8, 9]),
+    ("writing", &[0, 16, 5, 6, 7, 8, 9]),
+    ("measuring", &[0, 16, 5, 6, 7, 8, 9, 11]),
+    ("trial", &[0, 16, 5, 6, 7, 8, 9, 10]),
+    ("quick plan", &[0, 16, 5, 6, 7, 8, 9]),
+    ("halving", &[0, 16, 5, 6, 7, 8, 14, 9]),
+    ("plan", &[0, 1, 16, 5, 6, 7, 8, 9]),
+    ("plan file", &[0, 16, 5, 6, 7, 8, 9, 11]),
+    ("C call", &[0, 1, 2, 3, 4, 15, 5, 6, 16, 7, 8, 9]),
     ("listing", &[0, 9]),
-    ("grading", &[0, 5, 6, 7, 8, 11, 12, 13]),
-    ("C grading", &[0, 2, 3, 4, 5, 6, 7, 8, 9, 11, 12, 13]),
+    ("grading", &[0, 16, 5, 6, 7, 8, 11, 12, 13]),
+    ("C grading", &[0, 2, 3, 4, 15, 5, 6, 16, 7, 8, 9, 11, 12, 13]),
 ];
 
 /// One more than the greatest number: what no call can give counts as this.
-const OTHER: usize = 15;
+const OTHER: usize = 17;
 
 /// Where the two gradings stand among the calls.
 const GRADING: usize = 11;
 
 fn kind(call: Call) -> usize {
     match call {
-        Call::Test => 0,
+        Call::Test(_) => 0,
         Call::Read => 1,
-        Call::Write => 2,
-        Call::Measure => 3,
-        Call::Trial { .. } => 4,
-        Call::Quick => 5,
-        Call::Halving => 6,
-        Call::Plan { .. } => 7,
-        Call::PlanFile => 8,
+        Call::Write(_) => 2,
+        Call::Measure(_) => 3,
+        Call::Trial(..) => 4,
+        Call::Quick(_) => 5,
+        Call::Halving(_) => 6,
+        Call::Plan(..) => 7,
+        Call::PlanFile(_) => 8,
         Call::Host { .. } => 9,
         Call::List => 10,
-        Call::Grade => GRADING,
+        Call::Grade(_) => GRADING,
         Call::HostGrade => GRADING + 1,
     }
 }
@@ -88,7 +93,8 @@ fn kind(call: Call) -> usize {
 /// The job of a file where it is one, else its records.
 fn describe_file(file: &[u8]) -> String {
     if let Ok(j) = job::read(file, 1, usize::MAX) {
-        return format!("{} machines, speeds {:?}\n  {} tiles, weights {:?}", j.speeds.len(), j.speeds, j.weights.len(), j.weights);
+        let edition = j.startup.map_or("first edition".to_string(), |c| format!("second edition, start-up work {}", c));
+        return format!("{}\n  {} machines, speeds {:?}\n  {} tiles, weights {:?}", edition, j.speeds.len(), j.speeds, j.weights.len(), j.weights);
     }
     let records: Vec<String> = file.chunks(8).take(4096).map(|r| r.iter().map(|b| format!("{:02x}", b)).collect()).collect();
     format!("{} bytes, records {}", file.len(), records.join(" "))
@@ -99,7 +105,7 @@ pub fn describe(call: Call, lists: &[&[u8]]) -> String {
     let mut text = format!("  {:?}", call);
     for (slot, list) in call.slots().iter().zip(lists) {
         text += &match slot {
-            Slot::File if !matches!(call, Call::Write) => format!("\n  file: {}", describe_file(list)),
+            Slot::File if !matches!(call, Call::Write(_)) => format!("\n  file: {}", describe_file(list)),
             Slot::Speeds | Slot::Weights if call == Call::Read => format!("\n  {:?}: {} entries", slot, list.len() / 4),
             Slot::Speeds | Slot::Weights | Slot::Separators => format!("\n  {:?}: {} entries {:?}", slot, list.len() / 4, answers::words(list)),
             Slot::Plan if kind(call) >= GRADING => format!("\n  plan: {} bytes {:?}", list.len(), job::decode(&list[..list.len().min(16 * 300)])),
@@ -116,6 +122,18 @@ fn entries(slot: Slot, list: &[u8]) -> Vec<u64> {
     list.chunks(width).take(400).map(number).collect()
 }
 
+/// Any start-up work, in its range or out of it.
+fn some_startup(r: &mut Rng) -> u32 {
+    match r.below(6) {
+        0 => 0,
+        1 => r.range(1, 9),
+        2 => r.range(0, STARTUP),
+        3 => r.pick(&[STARTUP, STARTUP + 1]),
+        4 => u32::MAX,
+        _ => r.next() as u32,
+    }
+}
+
 impl Check {
     pub fn new(seed: u64) -> Check {
         Check {
@@ -130,12 +148,18 @@ impl Check {
             fits: 0,
             failed: [0; 6],
             searches: [0; 4],
-            noughts: [0; 4],
+            noughts: [0; 5],
+            editions: [0; 7],
             grades: [[0; 2]; 2],
             others: [0; 2],
             splits: [0; 2],
             halved: [0; 5],
         }
+    }
+
+    /// How the edition of a job comes beside its lists. In the first one any start-up work does, since it is neither tested nor counted.
+    pub fn edition(&mut self, job: &Job) -> Edition {
+        Edition { second: job.is_second(), startup: job.startup.unwrap_or_else(|| some_startup(&mut self.rng)) }
     }
 
     pub fn fail(&mut self, what: &str, job: String) {
@@ -168,7 +192,7 @@ impl Check {
             self.fail(&format!("answer {} instead of {}", code, number), describe(call, given));
             return;
         }
-        if code == 0 && matches!(call, Call::Plan { .. }) && !self.nought(given) {
+        if code == 0 && matches!(call, Call::Plan(..)) && !self.nought(given) {
             self.fail("an imbalance of 0 off the ideal, or another one at it", describe(call, given));
             return;
         }
@@ -206,10 +230,11 @@ impl Check {
         let (all_speed, whole) = (sum(given[0]), sum(given[1]));
         let meets = load * all_speed == whole * speed;
         let which = match whole {
-            0 => 0,
-            _ if meets => 1,
-            _ if 1000 * load * all_speed < 1001 * whole * speed => 2,
-            _ => 3,
+            0 if load == 0 => 0,
+            0 => 1,
+            _ if meets => 2,
+            _ if 1000 * load * all_speed < 1001 * whole * speed => 3,
+            _ => 4,
         };
         self.noughts[which] += 1;
         (imbalance == 0) == (whole == 0 || meets)
@@ -255,7 +280,8 @@ impl Check {
         self.jobs_seen += 1;
         let plan = job::plan_of(job, separators);
         let total: u128 = plan.iter().map(|r| r[2] as u128).sum();
-        assert_eq!(total, job.weight(0, job.weights.len()), "loads of the reference");
+        let busy = plan.iter().filter(|r| r[0] < r[1]).count() as u128;
+        assert_eq!(total, job.weight(0, job.weights.len()) + job.c() * busy, "loads of the reference");
         let file = job.file();
         let exact = 16 * job.speeds.len();
         for method in 1..=4 {

@@ -4,15 +4,16 @@
 use crate::answers::{bytes_of, Solved};
 use crate::check::Check;
 use crate::job::{self, Job};
-use crate::limits::{job_bytes, plan_bytes, work_numbers, BOUND_LOAD, LISTING, LONGEST_HALVED, MACHINES, SPEED, TILES, TOO_MANY, WEIGHT};
+use crate::limits::{job_bytes, plan_bytes, work_numbers, BOUND_LOAD, LISTING, LONGEST_HALVED};
+use crate::limits::{MACHINES, SPEED, STARTUP, TILES, TOO_MANY, WEIGHT};
 use crate::planner::Call;
 use crate::{every, listing, small};
 
-/// Lists of so many machines and tiles, with good speeds and weights.
+/// Lists of so many machines and tiles, with good speeds and weights, of either edition.
 fn sized(c: &mut Check, machines: usize, tiles: usize) -> Job {
     let speeds = small::speeds(&mut c.rng, machines);
     let weights = (0..tiles).map(|_| c.rng.range(0, 9)).collect();
-    Job { speeds, weights }
+    small::job_of(&mut c.rng, speeds, weights)
 }
 
 /// All tiles on the last machine: a division but for rows without a machine.
@@ -30,24 +31,26 @@ fn by_lists(c: &mut Check, job: &Job, number: u32) {
     let separators = bytes_of(&separators);
     let plan = job::encode(&job::plan_of(job, &division(job)));
     let answer = c.rng.pattern(8 * 5);
-    c.refuse(Call::Test, &[&e, &w], number);
+    let n = c.edition(job);
+    c.refuse(Call::Test(n), &[&e, &w], number);
     for enough in [true, false] {
+        let n = c.edition(job);
         let len = |needed: usize| if enough { needed } else { 0 };
         let s = &separators[..len(separators.len())];
-        let (file, room) = (c.rng.pattern(len(job_bytes(machines, tiles))), c.rng.pattern(len(plan_bytes(machines))));
+        let (file, room) = (c.rng.pattern(len(job_bytes(n.second, machines, tiles))), c.rng.pattern(len(plan_bytes(machines))));
         let work = c.rng.pattern(len(4 * work_numbers(tiles)));
         let (load, speed) = if enough { (BOUND_LOAD, 1) } else { (0, 0) };
-        c.refuse(Call::Write, &[&e, &w, &file, &answer], number);
-        c.refuse(Call::Measure, &[&e, &w, s, &answer], number);
-        c.refuse(Call::Trial { load, speed }, &[&e, &w, s, &answer], number);
-        c.refuse(Call::Quick, &[&e, &w, s, &answer], number);
-        c.refuse(Call::Halving, &[&e, &w, s, &answer], number);
+        c.refuse(Call::Write(n), &[&e, &w, &file, &answer], number);
+        c.refuse(Call::Measure(n), &[&e, &w, s, &answer], number);
+        c.refuse(Call::Trial(n, load, speed), &[&e, &w, s, &answer], number);
+        c.refuse(Call::Quick(n), &[&e, &w, s, &answer], number);
+        c.refuse(Call::Halving(n), &[&e, &w, s, &answer], number);
         for method in 1..=4 {
-            c.refuse(Call::Plan { method }, &[&e, &w, s, &work, &answer], number);
+            c.refuse(Call::Plan(n, method), &[&e, &w, s, &work, &answer], number);
         }
-        c.refuse(Call::Plan { method: 5 }, &[&e, &w, s, &work, &answer], 1);
-        c.refuse(Call::PlanFile, &[&e, &w, s, &room, &answer], number);
-        c.refuse(Call::Grade, &[&e, &w, &plan[..len(plan.len())], &answer], number);
+        c.refuse(Call::Plan(n, 5), &[&e, &w, s, &work, &answer], 1);
+        c.refuse(Call::PlanFile(n), &[&e, &w, s, &room, &answer], number);
+        c.refuse(Call::Grade(n), &[&e, &w, &plan[..len(plan.len())], &answer], number);
     }
 }
 
@@ -63,7 +66,7 @@ fn by_file(c: &mut Check, job: &Job, number: u32) {
         }
         c.refuse(Call::Host { method: 0 }, &[&file, &room], 1);
     }
-    let (speeds, weights, answer) = (c.rng.pattern(4 * machines), c.rng.pattern(4 * tiles), c.rng.pattern(8 * 2));
+    let (speeds, weights, answer) = (c.rng.pattern(4 * machines), c.rng.pattern(4 * tiles), c.rng.pattern(8 * 4));
     c.refuse(Call::Read, &[&file, &speeds, &weights, &answer], number);
     c.refuse(Call::Read, &[&file, &[], &[], &[]], number);
     let grade = c.rng.pattern(1);
@@ -80,7 +83,8 @@ fn refused(c: &mut Check, job: &Job, number: u32) {
     by_file(c, job, number);
 }
 
-/// The counts alone; then a bad speed, a bad weight, and both, at the first place, at the last, and at the first past the limit.
+/// The counts alone; then a bad speed, a bad weight, and both, at the first place, at the last, and at the first past the limit; and
+/// start-up work that is too much, which stands before them all.
 fn too_much(c: &mut Check, machines: usize, tiles: usize, number: u32) {
     let job = sized(c, machines, tiles);
     refused(c, &job, number);
@@ -100,13 +104,19 @@ fn too_much(c: &mut Check, machines: usize, tiles: usize, number: u32) {
         bad.weights[i] = WEIGHT + 1;
         refused(c, &bad, 6);
     }
+    let mut bad = Job { startup: Some(c.rng.pick(&[STARTUP + 1, u32::MAX])), ..job };
+    refused(c, &bad, 16);
+    if let (Some(&p), Some(&i)) = (speeds.first(), weights.first()) {
+        (bad.speeds[p], bad.weights[i]) = (0, WEIGHT + 1);
+        refused(c, &bad, 16);
+    }
 }
 
 /// The call that halves a row, with so many entries for separators.
 fn halve(c: &mut Check, job: &Job, room: usize, number: u32) {
     let (e, w) = (bytes_of(&job.speeds), bytes_of(&job.weights));
-    let (separators, answer) = (c.rng.pattern(4 * room), c.rng.pattern(8 * 3));
-    c.refuse(Call::Halving, &[&e, &w, &separators, &answer], number);
+    let (separators, answer, n) = (c.rng.pattern(4 * room), c.rng.pattern(8 * 3), c.edition(job));
+    c.refuse(Call::Halving(n), &[&e, &w, &separators, &answer], number);
 }
 
 /// Rows of one speed, of every length: those of 1, 2, 4 and so on machines up to the limit are halved, all others up to it give 14, with
@@ -119,7 +129,7 @@ fn lengths_to_halve(c: &mut Check) {
         let speed = c.rng.pick(&[1, 2, 3, SPEED]);
         for tiles in [0, 1, 5, TILES + 1] {
             let weights = (0..tiles).map(|_| c.rng.range(0, 9)).collect();
-            let job = Job { speeds: vec![speed; machines], weights };
+            let job = small::job_of(&mut c.rng, vec![speed; machines], weights);
             for room in [0, machines / 2, machines, machines + 1, machines + 4] {
                 let number = match machines {
                     _ if machines == 0 || machines > MACHINES => 7,
@@ -158,7 +168,7 @@ fn speeds_to_halve(c: &mut Check) {
         for speeds in unequal.into_iter().filter(|s| s.iter().any(|e| *e != s[0])) {
             let tiles = c.rng.pick(&[0, 1, 3, 40]);
             let weights = (0..tiles).map(|_| c.rng.range(0, 9)).collect();
-            let job = Job { speeds, weights };
+            let job = small::job_of(&mut c.rng, speeds, weights);
             c.jobs_seen += 1;
             for room in [0, machines, machines + 1] {
                 halve(c, &job, room, 14);

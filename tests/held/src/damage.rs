@@ -1,8 +1,8 @@
 //! Random bytes and damaged files; the expected answer comes from the solver's own reader.
 
 use crate::check::Check;
-use crate::job::{machine, tile, Job, Record};
-use crate::limits::{plan_bytes, MACHINES, SPEED, TILES, WEIGHT};
+use crate::job::{head, machine, tile, Job, Record};
+use crate::limits::{plan_bytes, MACHINES, SPEED, STARTUP, TILES, WEIGHT};
 use crate::planner::Call;
 use crate::{every, grades, small};
 
@@ -44,11 +44,12 @@ fn some_room(c: &mut Check, machines: usize) -> usize {
 fn random_bytes(c: &mut Check) {
     let len = if c.rng.once_in(3) { c.rng.below(200) } else { 8 * c.rng.below(25) };
     // All bytes, or few, so that some records are good.
-    let few = c.rng.below(4);
+    let (few, second) = (c.rng.below(4), c.rng.once_in(2));
     let file: Vec<u8> = (0..len)
         .map(|k| match few {
             0 => c.rng.next() as u8,
-            1 => c.rng.pick(&[0, 1, 2]),
+            1 => c.rng.pick(&[0, 1, 2, 3]),
+            _ if k == 0 && second || k > 0 && k % 8 == 0 && c.rng.once_in(60) => 3,
             _ if k % 8 == 0 => c.rng.range(1, 2) as u8,
             _ if k % 8 == 4 => c.rng.range(0, 255) as u8,
             _ => c.rng.once_in(300) as u8,
@@ -59,11 +60,16 @@ fn random_bytes(c: &mut Check) {
     judge(c, &file, method, room);
 }
 
-/// Records of good kinds with values at the edges.
+/// Records of good kinds with values at the edges, in either edition; now and then a first record's kind at another place.
 fn random_records(c: &mut Check) {
     let (machines, tiles) = (c.rng.below(5), c.rng.below(9));
     let rare = 2 + c.rng.below(40);
     let mut records: Vec<Record> = Vec::new();
+    if c.rng.once_in(2) {
+        let bad = c.rng.once_in(rare);
+        let v = if bad { c.rng.pick(&[STARTUP + 1, 1_048_576, u32::MAX]) } else { c.rng.pick(&[0, 1, STARTUP - 1, STARTUP]) };
+        records.push(head(v));
+    }
     for _ in 0..machines {
         let bad = c.rng.once_in(rare);
         let v = if bad { c.rng.pick(&[0, SPEED + 1, WEIGHT, u32::MAX]) } else { c.rng.pick(&[1, 2, SPEED - 1, SPEED]) };
@@ -73,6 +79,10 @@ fn random_records(c: &mut Check) {
         let bad = c.rng.once_in(rare);
         let v = if bad { c.rng.pick(&[WEIGHT + 1, 1_048_576, u32::MAX]) } else { c.rng.pick(&[0, 1, WEIGHT - 1, WEIGHT]) };
         records.push(if c.rng.once_in(4 * rare) { machine(v) } else { tile(v) });
+    }
+    if c.rng.once_in(rare) {
+        let (at, v) = (c.rng.below(records.len() + 1), c.rng.pick(&[0, STARTUP, STARTUP + 1, u32::MAX]));
+        records.insert(at, head(v));
     }
     let method = some_method(c);
     let room = some_room(c, machines);
@@ -113,9 +123,7 @@ pub fn spoil(c: &mut Check, file: &mut Vec<u8>) {
 fn damaged(c: &mut Check, machines_max: usize, tiles_max: usize) {
     let machines = 1 + c.rng.below(machines_max);
     let tiles = c.rng.below(tiles_max + 1);
-    let speeds = small::speeds(&mut c.rng, machines);
-    let weights = small::weights(&mut c.rng, tiles, &speeds);
-    let mut file = Job { speeds, weights }.file();
+    let mut file = small::sized(&mut c.rng, machines, tiles).file();
     for _ in 0..1 + c.rng.below(2) {
         spoil(c, &mut file);
     }

@@ -4,8 +4,8 @@ use crate::answers::{bytes_of, Solved};
 use crate::check::Check;
 use crate::damage::is_tiny;
 use crate::job::Job;
-use crate::limits::{job_bytes, plan_bytes, work_numbers};
-use crate::planner::Call;
+use crate::limits::{job_bytes, plan_bytes, work_numbers, STARTUP};
+use crate::planner::{Call, Edition};
 use crate::rng::Rng;
 use crate::slow::{self, less, Bound};
 use crate::trials::{self, Case};
@@ -44,7 +44,7 @@ fn pick(r: &mut Rng, exact: usize) -> usize {
 /// Reads a file into lists of these lengths.
 pub fn read_into(c: &mut Check, file: &[u8], speeds: usize, weights: usize) {
     let (e, w) = (c.rng.pattern(4 * speeds), c.rng.pattern(4 * weights));
-    let entries = c.rng.below(4);
+    let entries = c.rng.below(6);
     let answer = c.rng.pattern(8 * entries);
     c.judge(Call::Read, &[file, &e, &w, &answer], None);
 }
@@ -60,15 +60,35 @@ pub fn with_length(r: &mut Rng, list: &[u32], len: usize) -> Vec<u8> {
 
 fn files(c: &mut Check, s: &Solved, e: &[u8], w: &[u8], thorough: bool) {
     let (p, n) = (s.job.speeds.len(), s.job.weights.len());
-    c.judge(Call::Test, &[e, w], Some(s));
+    let edition = c.edition(&s.job);
+    c.judge(Call::Test(edition), &[e, w], Some(s));
     let file = s.job.file();
-    for l in lengths(&mut c.rng, &[p, n, 2], thorough) {
+    for l in lengths(&mut c.rng, &[p, n, 4], thorough) {
         let (lent_e, lent_w, answer) = (c.rng.pattern(4 * l[0]), c.rng.pattern(4 * l[1]), c.rng.pattern(8 * l[2]));
         c.judge(Call::Read, &[&file, &lent_e, &lent_w, &answer], Some(s));
     }
-    for l in lengths(&mut c.rng, &[job_bytes(p, n), 1], thorough) {
+    for l in lengths(&mut c.rng, &[job_bytes(s.job.is_second(), p, n), 1], thorough) {
         let (lent, answer) = (c.rng.pattern(l[0]), c.rng.pattern(8 * l[1]));
-        c.judge(Call::Write, &[e, w, &lent, &answer], Some(s));
+        let edition = c.edition(&s.job);
+        c.judge(Call::Write(edition), &[e, w, &lent, &answer], Some(s));
+    }
+}
+
+/// The file read, and written from just what reading gave: edition, start-up work and lists. The bytes must be those that were read.
+fn there_and_back(c: &mut Check, s: &Solved) {
+    let (file, failures) = (s.job.file(), c.failures);
+    let (e, w, answer) = (c.rng.pattern(4 * s.job.speeds.len()), c.rng.pattern(4 * s.job.weights.len()), c.rng.pattern(8 * 4));
+    c.judge(Call::Read, &[&file, &e, &w, &answer], Some(s));
+    if c.failures > failures {
+        return;
+    }
+    let (e, w, said) = (c.after(1), c.after(2), c.after(3));
+    let number = |k: usize| u64::from_le_bytes(said[8 * k..8 * k + 8].try_into().unwrap());
+    let edition = Edition { second: number(0) == 2, startup: number(1) as u32 };
+    let room = c.rng.pattern(file.len());
+    c.judge(Call::Write(edition), &[&e, &w, &room, &[]], Some(s));
+    if c.failures == failures && c.after(2) != file {
+        c.fail("a file that is read and written again has other bytes", format!("  {:?}", s.job));
     }
 }
 
@@ -100,14 +120,14 @@ fn division(r: &mut Rng, s: &Solved) -> Vec<u32> {
 fn measures(c: &mut Check, s: &Solved, e: &[u8], w: &[u8], thorough: bool) {
     let p = s.job.speeds.len();
     for l in lengths(&mut c.rng, &[p + 1, 2], thorough) {
-        let list = division(&mut c.rng, s);
+        let (list, edition) = (division(&mut c.rng, s), c.edition(&s.job));
         let (list, answer) = (with_length(&mut c.rng, &list, l[0]), c.rng.pattern(8 * l[1]));
-        c.judge(Call::Measure, &[e, w, &list, &answer], Some(s));
+        c.judge(Call::Measure(edition), &[e, w, &list, &answer], Some(s));
     }
     for l in lengths(&mut c.rng, &[p + 1, plan_bytes(p), 1], thorough) {
-        let list = division(&mut c.rng, s);
+        let (list, edition) = (division(&mut c.rng, s), c.edition(&s.job));
         let (list, plan, answer) = (with_length(&mut c.rng, &list, l[0]), c.rng.pattern(l[1]), c.rng.pattern(8 * l[2]));
-        c.judge(Call::PlanFile, &[e, w, &list, &plan, &answer], Some(s));
+        c.judge(Call::PlanFile(edition), &[e, w, &list, &plan, &answer], Some(s));
     }
 }
 
@@ -121,10 +141,15 @@ fn trials(c: &mut Check, s: &Solved, t: &Case, thorough: bool) {
     }
 }
 
+/// The quick plan, whose bottleneck must be as near to the ideal as is promised.
 fn quick(c: &mut Check, s: &Solved, t: &Case, e: &[u8], w: &[u8], thorough: bool) {
+    if !methods::is_close(&s.job, slow::bottleneck(&s.job, &s.quick)) {
+        c.fail("the solver's own quick plan is too far from the ideal", format!("  {:?}", s));
+    }
     for l in lengths(&mut c.rng, &[s.job.speeds.len() + 1, 2], thorough) {
         let (lent, answer) = (trials::list_for_plan(&mut c.rng, t, l[0]), c.rng.pattern(8 * l[1]));
-        c.judge(Call::Quick, &[e, w, &lent, &answer], Some(s));
+        let edition = c.edition(&s.job);
+        c.judge(Call::Quick(edition), &[e, w, &lent, &answer], Some(s));
     }
 }
 
@@ -165,12 +190,13 @@ pub fn halve(c: &mut Check, job: &Job, quick: &[usize], best: Bound, thorough: b
     list.truncate(if can { list.len() } else { 2 });
     for l in list {
         let (lent, answer) = (c.rng.pattern(4 * l[0]), c.rng.pattern(8 * l[1]));
-        c.judge(Call::Halving, &[&e, &w, &lent, &answer], None);
+        let edition = c.edition(job);
+        c.judge(Call::Halving(edition), &[&e, &w, &lent, &answer], None);
     }
 }
 
 /// The search of method 4 that the test expects must itself end as it has to: no candidate is below the best, one is equal to it,
-/// and an empty share fits exactly where nothing weighs. Up to 200 tiles its other form must agree.
+/// and an empty share fits exactly where no share has a load. Up to 200 tiles its other form must agree.
 fn searched(c: &mut Check, s: &Solved) {
     if s.job.weights.len() <= 200 {
         let other = if is_tiny(&s.job) { methods::search_by_sums(&s.job) } else { methods::search_in_turn(&s.job) };
@@ -179,7 +205,7 @@ fn searched(c: &mut Check, s: &Solved) {
         }
     }
     let (machines, list) = (s.job.speeds.len(), &s.search.candidates);
-    let nothing = methods::ideal(&s.job).0 == 0;
+    let nothing = s.job.load(0, s.job.weights.len()) == 0;
     let least = list.iter().position(|&b| !less(s.bottleneck, b));
     let mut good = least.is_some() && !list.iter().any(|&b| less(b, s.bottleneck));
     good &= s.search.early == (nothing && machines > 1);
@@ -204,9 +230,9 @@ fn plans(c: &mut Check, s: &Solved, t: &Case, e: &[u8], w: &[u8], thorough: bool
             c.fail("the solver's own count is above the allowance", format!("  {:?}", s));
         }
         for l in lengths(&mut c.rng, &[p + 1, work_numbers(n), 5], thorough) {
-            let lent = trials::list_for_plan(&mut c.rng, t, l[0]);
+            let (lent, edition) = (trials::list_for_plan(&mut c.rng, t, l[0]), c.edition(&s.job));
             let (work, answer) = (c.rng.pattern(4 * l[1]), c.rng.pattern(8 * l[2]));
-            c.judge(Call::Plan { method }, &[e, w, &lent, &work, &answer], Some(s));
+            c.judge(Call::Plan(edition, method), &[e, w, &lent, &work, &answer], Some(s));
         }
     }
 }
@@ -215,17 +241,51 @@ fn plans(c: &mut Check, s: &Solved, t: &Case, e: &[u8], w: &[u8], thorough: bool
 fn grading(c: &mut Check, s: &Solved, e: &[u8], w: &[u8]) {
     let plan = grades::some_plan(&mut c.rng, s);
     let (entries, room) = (c.rng.below(3), c.rng.pick(&[0, 1, 1, 1, 2, 9]));
-    let (answer, grade) = (c.rng.pattern(8 * entries), c.rng.pattern(room));
-    c.judge(Call::Grade, &[e, w, &plan, &answer], Some(s));
+    let (answer, grade, edition) = (c.rng.pattern(8 * entries), c.rng.pattern(room), c.edition(&s.job));
+    c.judge(Call::Grade(edition), &[e, w, &plan, &answer], Some(s));
     c.judge(Call::HostGrade, &[&s.job.file(), &plan, &grade], Some(s));
+}
+
+/// Of which edition a job is, and what its start-up work changes; the plan without it is asked of tiny jobs alone, now and then.
+fn count_edition(c: &mut Check, s: &Solved) {
+    let Some(startup) = s.job.startup else {
+        c.editions[0] += 1;
+        return;
+    };
+    c.editions[1] += (startup == 0) as u64;
+    c.editions[2] += (startup > 0) as u64;
+    c.editions[3] += (startup == STARTUP) as u64;
+    c.editions[6] += (s.job.speeds.len() == 1 && s.counts[1] == 2) as u64;
+    if !is_tiny(&s.job) || !c.rng.once_in(8) {
+        return;
+    }
+    let first = Job { startup: None, ..s.job.clone() };
+    if startup == 0 {
+        let f = Solved::of(&first);
+        let same = (&f.best, f.bottleneck, f.counts, f.imbalance, &f.quick) == (&s.best, s.bottleneck, s.counts, s.imbalance, &s.quick);
+        let one = |method: u32| method == 2 && s.job.speeds.len() == 1;
+        let allowed = (1..=4).all(|m| one(m) || methods::allowance(&first, m) == methods::allowance(&s.job, m));
+        if !same || !allowed {
+            c.fail("the solver's own second edition without start-up work is not as the first", format!("  {:?}", s));
+        }
+        return;
+    }
+    let (without, _) = crate::fast::solve(&first);
+    let busy = |list: &[usize]| list.windows(2).filter(|two| two[0] < two[1]).count();
+    c.editions[4] += (without != s.best) as u64;
+    c.editions[5] += (busy(&s.best) < busy(&without)) as u64;
 }
 
 /// Every call on an accepted job.
 pub fn job(c: &mut Check, s: &Solved, thorough: bool) {
     let (e, w) = (bytes_of(&s.job.speeds), bytes_of(&s.job.weights));
     searched(c, s);
+    count_edition(c, s);
     c.accepted(&s.job, &s.best);
     files(c, s, &e, &w, thorough);
+    if thorough || c.rng.once_in(4) {
+        there_and_back(c, s);
+    }
     measures(c, s, &e, &w, thorough);
     let t = Case::with(&s.job, (s.best.clone(), s.bottleneck));
     trials(c, s, &t, thorough);

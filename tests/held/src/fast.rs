@@ -17,21 +17,27 @@ fn walk(job: &Job, within: impl Fn(i128, i128) -> bool) -> Option<Vec<usize>> {
     let mut at = 0;
     let (last, others) = job.speeds.split_last().unwrap();
     for &speed in others {
-        let mut load = 0i128;
+        let mut load = job.c() as i128;
         while at < tiles && within(load + job.weights[at] as i128, speed as i128) {
             load += job.weights[at] as i128;
             at += 1;
         }
         separators.push(at);
     }
-    let rest: i128 = job.weights[at..].iter().map(|&w| w as i128).sum();
+    let rest = load_of(job, &job.weights[at..]);
     separators.push(tiles);
     within(rest, *last as i128).then_some(separators)
 }
 
+/// The load of these tiles on one machine.
+fn load_of(job: &Job, tiles: &[u32]) -> i128 {
+    let weight: i128 = tiles.iter().map(|&w| w as i128).sum();
+    weight + if tiles.is_empty() { 0 } else { job.c() as i128 }
+}
+
 /// The furthest best division and its bottleneck.
 pub fn solve(job: &Job) -> (Vec<usize>, (u128, u128)) {
-    let total: i128 = job.weights.iter().map(|&w| w as i128).sum();
+    let total = load_of(job, &job.weights);
     let fits = |t: i128| walk(job, |load, speed| load * STEPS <= t * speed);
     // At `high` the whole row fits on the last machine.
     let (mut low, mut high) = (-1i128, total * STEPS);
@@ -57,7 +63,7 @@ pub fn solve(job: &Job) -> (Vec<usize>, (u128, u128)) {
 fn bottleneck(job: &Job, separators: &[usize]) -> (i128, i128) {
     let mut found = (-1i128, 1i128);
     for (p, &speed) in job.speeds.iter().enumerate() {
-        let load: i128 = job.weights[separators[p]..separators[p + 1]].iter().map(|&w| w as i128).sum();
+        let load = load_of(job, &job.weights[separators[p]..separators[p + 1]]);
         if load * found.1 > found.0 * speed as i128 {
             found = (load, speed as i128);
         }

@@ -8,10 +8,10 @@ use crate::grading;
 use crate::halving;
 use crate::job::{self, Job};
 use crate::limits::{job_bytes, plan_bytes, work_numbers, BOUND_LOAD, BOUND_SPEED, JOB_INTAKE, LISTING, LONGEST_JOB};
-use crate::limits::{LONGEST_HALVED, MACHINES, SPEED, TILES, WEIGHT};
+use crate::limits::{LONGEST_HALVED, MACHINES, SPEED, STARTUP, TILES, WEIGHT};
 use crate::listing;
 use crate::methods;
-use crate::planner::{self, At, Call, Slot};
+use crate::planner::{self, At, Call, Edition, Slot};
 use crate::slow::{self, less, Bound};
 
 /// The lists of a call, to be read and spoilt.
@@ -32,15 +32,19 @@ pub unsafe fn call(call: Call, at: &[At]) -> u32 {
 
 fn chosen() -> Run {
     let name = std::env::var("HELD_FAULT").unwrap_or_default();
-    match FAULTS.iter().chain(ROWS).find(|f| f.0 == name) {
+    match all().find(|f| f.0 == name) {
         Some(f) => f.2,
         None => panic!("no fault named '{}'", name),
     }
 }
 
+fn all() -> impl Iterator<Item = &'static (&'static str, &'static str, Run)> {
+    FAULTS.iter().chain(ROWS).chain(STARTUPS).chain(TESTS)
+}
+
 /// Prints the name of every fault, and what it is.
 pub fn list() {
-    for (name, what, _) in FAULTS.iter().chain(ROWS) {
+    for (name, what, _) in all() {
         println!("{}\t{}", name, what);
     }
 }
@@ -88,16 +92,62 @@ impl Lists<'_> {
     fn job(&self) -> Job {
         match self.call {
             Call::Read | Call::List | Call::Host { .. } | Call::HostGrade => job::read(self.bytes(Slot::File), 1, usize::MAX).unwrap(),
-            _ => Job::new(self.words(Slot::Speeds), self.words(Slot::Weights)),
+            _ => self.listed_job(),
         }
     }
 
+    /// The job of a call on lists, whatever is wrong with it.
+    fn listed_job(&self) -> Job {
+        Job::of(self.edition().counts(), self.words(Slot::Speeds), self.words(Slot::Weights))
+    }
+
+    /// The edition that comes beside the lists of a call on lists.
+    fn edition(&self) -> Edition {
+        self.call.edition().unwrap_or(Edition::FIRST)
+    }
+
+    /// The same call with another edition or start-up work beside its lists.
+    fn with_edition(&self, change: impl FnOnce(Edition) -> Edition) -> u32 {
+        match self.call.edition() {
+            Some(edition) => self.other(self.call.beside(change(edition))),
+            None => self.real(),
+        }
+    }
+
+    fn is_test(&self) -> bool {
+        matches!(self.call, Call::Test(_))
+    }
+
+    fn is_write(&self) -> bool {
+        matches!(self.call, Call::Write(_))
+    }
+
+    fn is_measure(&self) -> bool {
+        matches!(self.call, Call::Measure(_))
+    }
+
+    fn is_quick(&self) -> bool {
+        matches!(self.call, Call::Quick(_))
+    }
+
+    fn is_halving(&self) -> bool {
+        matches!(self.call, Call::Halving(_))
+    }
+
+    fn is_plan_file(&self) -> bool {
+        matches!(self.call, Call::PlanFile(_))
+    }
+
+    fn is_grade(&self) -> bool {
+        matches!(self.call, Call::Grade(_))
+    }
+
     fn is_plan(&self, method: u32) -> bool {
-        self.call == Call::Plan { method }
+        matches!(self.call, Call::Plan(_, its) if its == method)
     }
 
     fn is_plans(&self) -> bool {
-        matches!(self.call, Call::Plan { .. })
+        matches!(self.call, Call::Plan(..))
     }
 
     fn is_host(&self) -> bool {
@@ -105,12 +155,12 @@ impl Lists<'_> {
     }
 
     fn is_trial(&self) -> bool {
-        matches!(self.call, Call::Trial { .. })
+        matches!(self.call, Call::Trial(..))
     }
 
     /// The bound of a trial, brought into the range of a lent one.
     fn bound(&self) -> Option<Bound> {
-        let Call::Trial { load, speed } = self.call else { return None };
+        let Call::Trial(_, load, speed) = self.call else { return None };
         Some((load.min(BOUND_LOAD) as u128, speed.clamp(1, BOUND_SPEED) as u128))
     }
 
@@ -160,7 +210,7 @@ impl Lists<'_> {
     fn refused_walk(&self, number: u32) -> u32 {
         let code = self.real();
         if let Some(bound) = self.bound().filter(|_| code == number) {
-            let job = Job::new(self.words(Slot::Speeds), self.words(Slot::Weights));
+            let job = self.listed_job();
             let walk = if job.speeds.is_empty() { vec![0] } else { methods::trial(&job, bound).separators };
             put(self.words(Slot::Separators), &walk);
         }
@@ -220,18 +270,20 @@ impl Lists<'_> {
         let mut short = lends && s.len() < e.len() + 1;
         short |= has(Slot::Work) && self.words(Slot::Work).len() < work_numbers(w.len());
         short |= has(Slot::Plan) && self.bytes(Slot::Plan).len() < plan_bytes(e.len());
-        short |= self.call == Call::Write && self.bytes(Slot::File).len() < job_bytes(e.len(), w.len());
-        let divides = matches!(self.call, Call::Measure | Call::PlanFile);
+        let Edition { second, startup } = self.edition();
+        short |= self.is_write() && self.bytes(Slot::File).len() < job_bytes(second, e.len(), w.len());
+        let divides = matches!(self.call, Call::Measure(_) | Call::PlanFile(_));
         let out = |load, speed| load > BOUND_LOAD || !(1..=BOUND_SPEED).contains(&speed);
         let tests = [
-            (matches!(self.call, Call::Plan { method } if !(1..=4).contains(&method)), 1),
+            (matches!(self.call, Call::Plan(_, method) if !(1..=4).contains(&method)), 1),
+            (second && startup > STARTUP, 16),
             (e.iter().any(|&e| e == 0 || e > SPEED), 5),
             (w.iter().any(|&w| w > WEIGHT), 6),
             (e.is_empty() || e.len() > MACHINES, 7),
             (w.len() > TILES, 8),
-            (self.call == Call::Halving && !halving::can_halve(e), 14),
+            (self.is_halving() && !halving::can_halve(e), 14),
             (short, 9),
-            (matches!(self.call, Call::Trial { load, speed } if out(load, speed)), 10),
+            (matches!(self.call, Call::Trial(_, load, speed) if out(load, speed)), 10),
             (divides && s.len() > e.len() && !answers::is_division(&s[..e.len() + 1], w.len()), 11),
         ];
         tests.iter().filter(|t| t.0).map(|t| t.1).collect()
@@ -239,7 +291,7 @@ impl Lists<'_> {
 
     /// Calls on lists with their tests in another order.
     fn ordered(&self, order: &[u32]) -> u32 {
-        if matches!(self.call, Call::Read | Call::Host { .. } | Call::List | Call::Grade | Call::HostGrade) {
+        if matches!(self.call, Call::Read | Call::Host { .. } | Call::List | Call::Grade(_) | Call::HostGrade) {
             return self.real();
         }
         let all = self.numbers();
@@ -248,7 +300,7 @@ impl Lists<'_> {
 
     /// Halving with its tests in another order.
     fn halving_ordered(&self, order: &[u32]) -> u32 {
-        if self.call == Call::Halving {
+        if self.is_halving() {
             self.ordered(order)
         } else {
             self.real()
@@ -258,7 +310,7 @@ impl Lists<'_> {
     /// Halving that gives another number to rows which are like this, where no other test fails.
     fn halving_gives(&self, number: u32, instead: u32, like: fn(&[u32]) -> bool) -> u32 {
         let others = || self.numbers().into_iter().filter(|&n| n != instead).count();
-        if self.call == Call::Halving && self.real() == instead && others() == 0 && like(self.words(Slot::Speeds)) {
+        if self.is_halving() && self.real() == instead && others() == 0 && like(self.words(Slot::Speeds)) {
             return number;
         }
         self.real()
@@ -267,9 +319,99 @@ impl Lists<'_> {
     /// Files, by numbers that a rule makes of all records.
     fn by_records(&self, rule: fn(&[u8]) -> Option<u32>) -> u32 {
         match self.real() {
-            code @ 3..=6 => rule(self.bytes(Slot::File)).unwrap_or(code),
+            code @ (3..=6 | 15 | 16) if self.call.edition().is_none() => rule(self.bytes(Slot::File)).unwrap_or(code),
             code => code,
         }
+    }
+
+    /// Calls on files that give another number, by the file and the number that is right.
+    fn recode(&self, rule: fn(&[u8], u32) -> u32) -> u32 {
+        let code = self.real();
+        if self.call.edition().is_none() {
+            rule(self.bytes(Slot::File), code)
+        } else {
+            code
+        }
+    }
+
+    /// Calls on files that see another first record, where it is one of the second edition.
+    fn seeing_head(&self, wanted: bool, change: fn(&mut [u8])) -> u32 {
+        if !wanted || self.call.edition().is_some() || self.bytes(Slot::File).len() < 8 || self.bytes(Slot::File)[0] != 3 {
+            return self.real();
+        }
+        let mut file = self.bytes(Slot::File).to_vec();
+        change(&mut file[..8]);
+        self.with(Slot::File, &mut file)
+    }
+
+    /// A call on lists that counts other start-up work in the second edition, where that is in its range.
+    fn counting(&self, wanted: bool, other: fn(u32) -> u32) -> u32 {
+        match self.edition() {
+            Edition { second: true, startup } if wanted && startup <= STARTUP => self.with_edition(|e| Edition { startup: other(startup), ..e }),
+            _ => self.real(),
+        }
+    }
+
+    /// 16 after 5: the start-up work is tested where no speed is out of range.
+    fn late_startup(&self, wanted: bool) -> u32 {
+        let code = self.real();
+        if wanted && code == 16 && self.words(Slot::Speeds).iter().any(|&e| e == 0 || e > SPEED) {
+            return 5;
+        }
+        code
+    }
+
+    /// Start-up work of the first edition tested.
+    fn first_tested(&self, wanted: bool) -> u32 {
+        let code = self.real();
+        let Edition { second, startup } = self.edition();
+        if wanted && !second && startup > STARTUP && code != 1 {
+            return 16;
+        }
+        code
+    }
+
+    /// Start-up work of the first edition counted, where it is in its range.
+    fn first_counted(&self, wanted: bool) -> u32 {
+        let Edition { second, startup } = self.edition();
+        if wanted && !second && startup <= STARTUP {
+            return self.with_edition(|e| Edition { second: true, ..e });
+        }
+        self.real()
+    }
+
+    /// A call on lists that counts the start-up work for each tile.
+    fn counting_each(&self, wanted: bool) -> u32 {
+        let (Edition { second, startup }, weights) = (self.edition(), self.words(Slot::Weights));
+        if !wanted || !second || weights.iter().any(|&w| w as u64 + startup as u64 > WEIGHT as u64) {
+            return self.real();
+        }
+        let mut more: Vec<u32> = weights.iter().map(|&w| w + startup).collect();
+        let k = self.call.slots().iter().position(|&s| s == Slot::Weights).unwrap();
+        let mut at = self.at.to_vec();
+        at[k] = (more.as_mut_ptr() as *mut u8, more.len());
+        unsafe { planner::real(self.call.beside(Edition { second, startup: 0 }), &at) }
+    }
+
+    /// Another load of each share of a division that is measured, by the job, its tiles and its number.
+    fn measuring(&self, load: impl Fn(&Job, usize, usize, usize) -> u128) -> u32 {
+        let s = self.words(Slot::Separators).to_vec();
+        self.pair(self.is_measure(), 0, |job, _| {
+            let share = |p: usize| (load(job, s[p] as usize, s[p + 1] as usize, p), job.speeds[p] as u128);
+            (0..job.speeds.len()).map(share).reduce(|a, b| if less(a, b) { b } else { a }).unwrap()
+        })
+    }
+
+    /// Another load of each record of an accepted plan file, by the job, the record and its number.
+    fn reload(&self, wanted: bool, load: impl Fn(&Job, &[u32; 4], usize) -> u128) -> u32 {
+        self.then(wanted, |job| {
+            let plan = self.bytes(Slot::Plan);
+            let mut records = job::decode(&plan[..16 * job.speeds.len()]);
+            for (p, r) in records.iter_mut().enumerate() {
+                r[2] = load(job, r, p) as u32;
+            }
+            plan[..16 * job.speeds.len()].copy_from_slice(&job::encode(&records));
+        })
     }
 
     /// On refusal changes the first byte of a lent list.
@@ -319,12 +461,12 @@ impl Lists<'_> {
     /// The lists of the job of a call, where no test before 7 fails.
     fn counted(&self) -> Option<Job> {
         match self.call {
-            Call::Plan { method } | Call::Host { method } if !(1..=4).contains(&method) => return None,
+            Call::Plan(_, method) | Call::Host { method } if !(1..=4).contains(&method) => return None,
             Call::Read | Call::List | Call::Host { .. } | Call::HostGrade => return job::parse(self.bytes(Slot::File)).ok(),
             _ => {}
         }
-        let job = Job::new(self.words(Slot::Speeds), self.words(Slot::Weights));
-        (![5, 6].contains(&answers::refuse_lists(&job.speeds, &job.weights))).then_some(job)
+        let job = self.listed_job();
+        (![16, 5, 6].contains(&answers::refuse_lists(self.edition(), &job.speeds, &job.weights))).then_some(job)
     }
 
     /// Whether no test after 7 fails.
@@ -335,7 +477,7 @@ impl Lists<'_> {
             && match self.call {
                 Call::Read => self.at[1].1 >= machines && self.at[2].1 >= tiles,
                 Call::Host { .. } => self.at[1].1 >= plan_bytes(machines),
-                Call::Grade => is_true(),
+                Call::Grade(_) => is_true(),
                 Call::HostGrade => self.at[2].1 > 0 && is_true(),
                 Call::List => self.at[1].1 >= LISTING,
                 _ => self.numbers().iter().all(|&n| n == 7),
@@ -368,14 +510,16 @@ impl Lists<'_> {
     fn judged_by(&self, bytes: usize) -> u32 {
         self.listed(|l, n| {
             let file = l.bytes(Slot::File);
-            if let Some(number) = job::read(&file[..file.len().min(bytes)], 1, usize::MAX).err().filter(|_| file.len() > JOB_INTAKE) {
+            // A number of one digit in place of another.
+            let number = job::read(&file[..file.len().min(bytes)], 1, usize::MAX).err().filter(|&number| number < 10);
+            if let Some(number) = number.filter(|_| file.len() > JOB_INTAKE && l.bytes(Slot::Text)[n - 3] == b' ') {
                 l.bytes(Slot::Text)[n - 2] = b'0' + number as u8;
             }
         })
     }
 
     fn is_grading(&self) -> bool {
-        matches!(self.call, Call::Grade | Call::HostGrade)
+        matches!(self.call, Call::Grade(_) | Call::HostGrade)
     }
 
     /// The job of a grading, where it is one.
@@ -383,8 +527,8 @@ impl Lists<'_> {
         match self.call {
             Call::HostGrade => job::read(self.bytes(Slot::File), 1, usize::MAX).ok(),
             _ => {
-                let (speeds, weights) = (self.words(Slot::Speeds), self.words(Slot::Weights));
-                (answers::refuse_lists(speeds, weights) == 0).then(|| Job::new(speeds, weights))
+                let job = self.listed_job();
+                (answers::refuse_lists(self.edition(), &job.speeds, &job.weights) == 0).then_some(job)
             }
         }
     }
@@ -445,7 +589,7 @@ impl Lists<'_> {
 /// Whether a record's load and speed are those of the machine's tiles, as far as these are there.
 fn untrue(job: &Job, r: &[u32; 4], p: usize) -> bool {
     let (a, b) = (r[0] as usize, r[1] as usize);
-    a <= b && b <= job.weights.len() && (job.weight(a, b) != r[2] as u128 || job.speeds[p] != r[3])
+    a <= b && b <= job.weights.len() && (job.load(a, b) != r[2] as u128 || job.speeds[p] != r[3])
 }
 
 /// The first fault record by record: 11 for a record that does not begin where the one before ends, 13 for an untrue one.
@@ -478,7 +622,7 @@ fn reduced(b: Bound) -> Bound {
 
 /// The same bound as the highest-numbered machine has it.
 fn of_last_machine(job: &Job, s: &[u32], found: Bound) -> Bound {
-    let shares = (0..job.speeds.len()).map(|p| (job.weight(s[p] as usize, s[p + 1] as usize), job.speeds[p] as u128));
+    let shares = (0..job.speeds.len()).map(|p| (job.load(s[p] as usize, s[p + 1] as usize), job.speeds[p] as u128));
     shares.filter(|&b| !less(b, found)).last().unwrap_or(found)
 }
 
@@ -497,7 +641,7 @@ fn thousandths(job: &Job) -> Option<(u64, bool)> {
 fn all_bids(job: &Job, bound: Bound) -> Vec<Bound> {
     let (mut at, mut bids) = (0, Vec::new());
     for (p, &e) in job.speeds.iter().enumerate() {
-        let share = |to: usize| (job.weight(at, to), e as u128);
+        let share = |to: usize| (job.load(at, to), e as u128);
         if p + 1 == job.speeds.len() {
             bids.push(share(job.weights.len()));
             break;
@@ -525,14 +669,14 @@ fn rebid_next_tile(l: Lists) -> u32 {
         }
         let mut bids = all_bids(job, bound);
         bids.pop();
-        bids.push((job.weight(start, end + 1), job.speeds[job.speeds.len() - 1] as u128));
+        bids.push((job.load(start, end + 1), job.speeds[job.speeds.len() - 1] as u128));
         least_of(&bids).unwrap()
     })
 }
 
 /// The greatest index, from a start on, up to which the tiles from another place on are within a bound at a speed.
 fn reached(job: &Job, start: usize, from: usize, speed: u32, bound: Bound) -> usize {
-    (start..=job.weights.len()).rev().find(|&to| from >= to || !less(bound, (job.weight(from, to), speed as u128))).unwrap_or(start)
+    (start..=job.weights.len()).rev().find(|&to| from >= to || !less(bound, (job.load(from, to), speed as u128))).unwrap_or(start)
 }
 
 /// The separators of the trial as little below the bottleneck as makes it fail; None where nothing weighs.
@@ -571,7 +715,7 @@ fn put(to: &mut [u32], from: &[usize]) {
 
 /// Another quick plan: its separators, with their bottleneck.
 fn requick(l: Lists, nearer: fn(i128, i128) -> bool) -> u32 {
-    l.then(l.call == Call::Quick, |job| {
+    l.then(l.is_quick(), |job| {
         let whole = job.weight(0, job.weights.len()) as i128;
         let all: i128 = job.speeds.iter().map(|&e| e as i128).sum();
         let mut sofar = 0;
@@ -593,7 +737,7 @@ fn requick(l: Lists, nearer: fn(i128, i128) -> bool) -> u32 {
 
 /// Other separators of a row that is halved, with their bottleneck.
 fn rehalve(l: Lists, other: impl FnOnce(&Job) -> Vec<usize>) -> u32 {
-    l.then(l.call == Call::Halving, |job| {
+    l.then(l.is_halving(), |job| {
         let s = other(job);
         let found = slow::bottleneck(job, &s);
         put(l.words(Slot::Separators), &s);
@@ -647,12 +791,53 @@ fn halved_but(job: &Job, goes_on: &dyn Fn(usize, bool) -> bool) -> Vec<usize> {
     halved_by(job, &put, goes_on)
 }
 
+/// The same job without its start-up work.
+fn without(job: &Job) -> Job {
+    Job { startup: None, ..job.clone() }
+}
+
+/// The start-up work for the first share with tiles alone.
+fn once(job: &Job, a: usize, b: usize) -> u128 {
+    job.weight(a, b) + if a == 0 && b > 0 { job.c() } else { 0 }
+}
+
+/// The quick plan with start-up work among the weights: that of so many machines.
+fn quick_by_loads(job: &Job) -> Vec<usize> {
+    let (c, machines) = (job.c() as i128, job.speeds.len());
+    let all: i128 = job.speeds.iter().map(|&e| e as i128).sum();
+    let whole = job.weight(0, job.weights.len()) as i128 + c * machines as i128;
+    let mut s = vec![0];
+    for p in 1..machines {
+        let sofar: i128 = job.speeds[..p].iter().map(|&e| e as i128).sum();
+        let off = |i: usize| ((job.weight(0, i) as i128 + c * p as i128) * all - whole * sofar).abs();
+        s.push((s[p - 1]..=job.weights.len()).reduce(|best, i| if off(i) < off(best) { i } else { best }).unwrap());
+    }
+    s.push(job.weights.len());
+    s
+}
+
+/// Bidding's trials from another bound than the ideal on.
+fn bids_from(job: &Job, mut bound: Bound) -> u64 {
+    let mut trials = 1;
+    while let Some(next) = methods::trial(job, bound).next {
+        trials += 1;
+        bound = next;
+    }
+    trials
+}
+
+/// The ideal with the start-up work of all machines.
+fn ideal_with_startup(job: &Job) -> Bound {
+    let (whole, all) = methods::ideal(job);
+    (whole + job.c() * job.speeds.len() as u128, all)
+}
+
 /// The table's value where each entry looks only at its crossing.
 fn crossing_only(job: &Job) -> Bound {
     let tiles = job.weights.len();
-    let mut row: Vec<Bound> = (0..=tiles).map(|i| (job.weight(0, i), job.speeds[0] as u128)).collect();
+    let mut row: Vec<Bound> = (0..=tiles).map(|i| (job.load(0, i), job.speeds[0] as u128)).collect();
     for &e in &job.speeds[1..] {
-        let share = |j: usize, i: usize| (job.weight(j, i), e as u128);
+        let share = |j: usize, i: usize| (job.load(j, i), e as u128);
         let at = |i: usize| (0..=i).find(|&j| !less(row[j], share(j, i))).unwrap();
         row = (0..=tiles).map(|i| row[at(i)]).collect();
     }
@@ -676,7 +861,7 @@ fn keeping_j(job: &Job) -> Option<Bound> {
     let fits = |b: &Bound| methods::trial(job, *b).fits();
     let (mut start, mut list) = (0, Vec::new());
     for &e in &job.speeds {
-        let share = |j: usize| (job.weight(start, j), e as u128);
+        let share = |j: usize| (job.load(start, j), e as u128);
         let Some(j) = (start..=tiles).find(|&j| fits(&share(j))) else { break };
         list.push(share(j));
         start = j;
@@ -699,16 +884,17 @@ fn value(r: &[u8]) -> u32 {
     u32::from_le_bytes(r[4..8].try_into().unwrap())
 }
 
-/// The least number of any record.
+/// The least number of any record, taken for itself: of kind 3 as the first one where it is that.
 fn rule_by_rule(file: &[u8]) -> Option<u32> {
-    (1..=file.len() / 8).filter_map(|n| job::read(&file[..8 * n], 1, usize::MAX).err()).filter(|n| (3..=6).contains(n)).min()
+    let alone = |k: usize| job::parse(&if k == 0 { file[..8].to_vec() } else { [&job::machine(1), &file[8 * k..8 * k + 8]].concat() }).err();
+    (0..file.len() / 8).filter_map(alone).chain(job::parse(file).err()).min()
 }
 
 /// 5 before 4 in one record.
 fn speed_before_place(file: &[u8]) -> Option<u32> {
     let mut tiles = false;
     for r in file.chunks(8) {
-        if r[1] != 0 || r[2] != 0 || r[3] != 0 || r[0] == 0 || r[0] > 2 {
+        if r[1] != 0 || r[2] != 0 || r[3] != 0 || !(1..=3).contains(&r[0]) {
             return None;
         }
         let bad = r[0] == 1 && (value(r) == 0 || value(r) > SPEED);
@@ -759,7 +945,7 @@ const FAULTS: &[(&str, &str, Run)] = &[
     ("host-many", "C call: a separator wrong with the most machines only", |l| l.inner(l.is_host(), |_, s| { let k = s.len() - 2; if k + 1 == MACHINES && s[k] > s[k - 1] { s[k] -= 1 } })),
     ("host-big-endian", "C call: the load's bytes in the other order", |l| l.records(l.is_host(), |r| r[8..12].reverse())),
     ("host-exchanged", "C call: load and speed exchanged", |l| l.records(l.is_host(), swap_fields)),
-    ("host-kind-3", "C call: a record of kind 3 taken for a tile", |l| l.seeing(l.is_host(), |f| f.chunks_exact_mut(8).for_each(|r| if r[0] == 3 { r[0] = 2 }))),
+    ("host-kind-3", "C call: a record of kind 3 past the first taken for a tile", |l| l.seeing(l.is_host(), |f| f.chunks_exact_mut(8).skip(1).for_each(|r| if r[0] == 3 { r[0] = 2 }))),
     ("host-past", "C call: a byte written past the plan buffer", |l| l.stray(l.is_host(), Slot::Plan, true)),
     ("host-before", "C call: a byte written before the plan buffer", |l| l.stray(l.is_host(), Slot::Plan, false)),
     ("host-later", "C call: the bytes after the plan cleared", |l| l.then(l.is_host(), |j| l.bytes(Slot::Plan)[16 * j.speeds.len()..].fill(0))),
@@ -775,7 +961,7 @@ const FAULTS: &[(&str, &str, Run)] = &[
     ("count-bidding", "bidding: the trial that fits not counted", |l| l.figure(l.is_plan(2), 0, |_, v| v - 1)),
     ("count-bisection", "bisection: the closing walk counted", |l| l.figure(l.is_plan(3), 0, |_, v| v + 1)),
     ("count-nicol", "Nicol's search: the closing walk counted", |l| l.figure(l.is_plan(4), 0, |_, v| v + 1)),
-    ("count-nicol-early", "Nicol's search: goes on where the empty share fits", |l| l.figure(l.is_plan(4), 0, |j, v| if methods::ideal(j).0 == 0 { times_digits(j, j.speeds.len() - 1, 0) } else { v })),
+    ("count-nicol-early", "Nicol's search: goes on where the empty share fits", |l| l.figure(l.is_plan(4), 0, |j, v| if j.load(0, j.weights.len()) == 0 { times_digits(j, j.speeds.len() - 1, 0) } else { v })),
     ("count-nicol-high", "Nicol's search: N, known to fit, tried too", |l| l.figure(l.is_plan(4), 0, |j, v| v + j.speeds.len() as u64 - 1)),
     ("count-nicol-many", "Nicol's search: a trial not counted, with more than three quarters of the most machines and 2,000 tiles", |l| l.figure(l.is_plan(4) && l.at[0].1 > MANY && l.at[1].1 > 2_000, 0, |_, v| v.saturating_sub(1))),
     ("count-nicol-bisection", "Nicol's search: bisection's count", |l| l.figure(l.is_plan(4), 0, |j, _| methods::halvings(j))),
@@ -784,7 +970,7 @@ const FAULTS: &[(&str, &str, Run)] = &[
     ("allowance-bidding", "bidding: without its 1", |l| l.figure(l.is_plan(2), 1, |_, v| v - 1)),
     ("allowance-bisection", "bisection: without its 1", |l| l.figure(l.is_plan(3), 1, |_, v| v - 1)),
     ("allowance-nought", "bisection: 0 has a digit", |l| l.figure(l.is_plan(3), 1, |_, v| v.max(2))),
-    ("allowance-slowest", "bisection: D not divided by the slowest speed", |l| l.figure(l.is_plan(3), 1, |j, _| methods::allowance(&Job::new(&[&j.speeds[..], &[1]].concat(), &j.weights), 3))),
+    ("allowance-slowest", "bisection: D not divided by the slowest speed", |l| l.figure(l.is_plan(3), 1, |j, _| methods::allowance(&Job::of(j.startup, &[&j.speeds[..], &[1]].concat(), &j.weights), 3))),
     ("allowance-nicol", "Nicol's search: the digits of N - 1", |l| l.figure(l.is_plan(4), 1, |j, _| times_digits(j, j.speeds.len() - 1, 1))),
     ("allowance-nicol-all", "Nicol's search: once more, for the last machine", |l| l.figure(l.is_plan(4), 1, |j, _| times_digits(j, j.speeds.len(), 0))),
     ("imbalance-down", "rounded down", |l| l.figure(l.is_plans(), 4, |j, v| thousandths(j).map_or(v, |(t, _)| t))),
@@ -795,44 +981,47 @@ const FAULTS: &[(&str, &str, Run)] = &[
     ("bottleneck-last", "plan: the pair of the highest-numbered machine", |l| { let s = l.words(Slot::Separators); l.pair(l.is_plans(), 2, |j, b| of_last_machine(j, s, b)) }),
     ("bottleneck-nought", "plan: 0/1 where nothing weighs", |l| l.pair(l.is_plans(), 2, |_, b| if b.0 == 0 { (0, 1) } else { b })),
     // Refusals.
-    ("order-6-5", "weights before speeds", |l| l.ordered(&[1, 6, 5, 7, 8, 14, 9, 10, 11])),
-    ("order-7-5", "counts before values", |l| l.ordered(&[1, 7, 8, 5, 6, 14, 9, 10, 11])),
-    ("order-8-7", "tiles counted before machines", |l| l.ordered(&[1, 5, 6, 8, 7, 14, 9, 10, 11])),
-    ("order-9-8", "lengths before the count of tiles", |l| l.ordered(&[1, 5, 6, 7, 9, 8, 14, 10, 11])),
-    ("order-10-9", "the bound before the lengths", |l| l.ordered(&[1, 5, 6, 7, 8, 14, 10, 9, 11])),
-    ("order-11-9", "the division before the lengths", |l| l.ordered(&[1, 5, 6, 7, 8, 14, 11, 9, 10])),
-    ("order-1-last", "the method tested last", |l| l.ordered(&[5, 6, 7, 8, 14, 9, 10, 11, 1])),
+    ("order-6-5", "weights before speeds", |l| l.ordered(&[1, 16, 6, 5, 7, 8, 14, 9, 10, 11])),
+    ("order-7-5", "counts before values", |l| l.ordered(&[1, 16, 7, 8, 5, 6, 14, 9, 10, 11])),
+    ("order-8-7", "tiles counted before machines", |l| l.ordered(&[1, 16, 5, 6, 8, 7, 14, 9, 10, 11])),
+    ("order-9-8", "lengths before the count of tiles", |l| l.ordered(&[1, 16, 5, 6, 7, 9, 8, 14, 10, 11])),
+    ("order-10-9", "the bound before the lengths", |l| l.ordered(&[1, 16, 5, 6, 7, 8, 14, 10, 9, 11])),
+    ("order-11-9", "the division before the lengths", |l| l.ordered(&[1, 16, 5, 6, 7, 8, 14, 11, 9, 10])),
+    ("order-16-6", "start-up work tested after the weights", |l| l.ordered(&[1, 5, 6, 16, 7, 8, 14, 9, 10, 11])),
+    ("order-16-8", "start-up work tested after the counts", |l| l.ordered(&[1, 5, 6, 7, 8, 16, 14, 9, 10, 11])),
+    ("order-16-1", "start-up work tested before the method", |l| l.ordered(&[16, 1, 5, 6, 7, 8, 14, 9, 10, 11])),
+    ("order-1-last", "the method tested last", |l| l.ordered(&[16, 5, 6, 7, 8, 14, 9, 10, 11, 1])),
     ("order-rules", "reading: 3 to 6 rule by rule, not record by record", |l| l.by_records(rule_by_rule)),
     ("order-5-4", "reading: 5 before 4 in one record", |l| l.by_records(speed_before_place)),
     ("order-2-late", "reading: the length tested after the records", |l| if l.call == Call::Read && l.at[0].1 % 8 != 0 { let mut f = l.bytes(Slot::File).to_vec(); f.truncate(l.at[0].1 / 8 * 8); match l.with(Slot::File, &mut f) { n @ 3..=6 => n, _ => 2 } } else { l.real() }),
-    ("limit-speed", "the greatest speed refused", |l| if l.call == Call::Test && l.words(Slot::Speeds).contains(&SPEED) { 5 } else { l.real() }),
-    ("limit-weight", "one more than the greatest weight passes", |l| if l.call == Call::Test && l.numbers() == [6] && l.words(Slot::Weights).iter().all(|&w| w <= WEIGHT + 1) { 0 } else { l.real() }),
-    ("limit-tiles", "the most tiles refused", |l| if l.call == Call::Test && l.numbers().is_empty() && l.at[1].1 == TILES { 8 } else { l.real() }),
-    ("limit-load", "the greatest load of a bound refused", |l| if matches!(l.call, Call::Trial { load: BOUND_LOAD, .. }) && l.numbers().is_empty() { 10 } else { l.real() }),
-    ("limit-bound", "one more than the greatest speed of a bound passes", |l| match l.call { Call::Trial { load, speed } if speed == BOUND_SPEED + 1 => l.other(Call::Trial { load, speed: BOUND_SPEED }), _ => l.real() }),
-    ("short-separators", "P separators taken for enough", |l| if l.call == Call::Quick && l.numbers() == [9] && l.at[2].1 == l.at[0].1 { 0 } else { l.real() }),
+    ("limit-speed", "the greatest speed refused", |l| if l.is_test() && l.words(Slot::Speeds).contains(&SPEED) { 5 } else { l.real() }),
+    ("limit-weight", "one more than the greatest weight passes", |l| if l.is_test() && l.numbers() == [6] && l.words(Slot::Weights).iter().all(|&w| w <= WEIGHT + 1) { 0 } else { l.real() }),
+    ("limit-tiles", "the most tiles refused", |l| if l.is_test() && l.numbers().is_empty() && l.at[1].1 == TILES { 8 } else { l.real() }),
+    ("limit-load", "the greatest load of a bound refused", |l| if matches!(l.call, Call::Trial(_, BOUND_LOAD, _)) && l.numbers().is_empty() { 10 } else { l.real() }),
+    ("limit-bound", "one more than the greatest speed of a bound passes", |l| match l.call { Call::Trial(n, load, speed) if speed == BOUND_SPEED + 1 => l.other(Call::Trial(n, load, BOUND_SPEED)), _ => l.real() }),
+    ("short-separators", "P separators taken for enough", |l| if l.is_quick() && l.numbers() == [9] && l.at[2].1 == l.at[0].1 { 0 } else { l.real() }),
     ("short-work", "5 N work numbers taken for enough", |l| if l.is_plans() && l.numbers() == [9] && l.at[3].1 >= 5 * l.at[1].1 { 0 } else { l.real() }),
     // Stores.
     ("refused-separators", "separators changed on refusal", |l| l.mark(true, Slot::Separators)),
     ("refused-work", "a work number changed on refusal", |l| l.mark(l.is_plans(), Slot::Work)),
     ("refused-answer", "an answer given on refusal", |l| l.mark(true, Slot::Answer)),
-    ("refused-file", "writing: the buffer changed on refusal", |l| l.mark(l.call == Call::Write, Slot::File)),
+    ("refused-file", "writing: the buffer changed on refusal", |l| l.mark(l.is_write(), Slot::File)),
     ("refused-speeds", "reading: the list of speeds changed on refusal", |l| l.mark(l.call == Call::Read, Slot::Speeds)),
-    ("refused-plan", "plan file: the buffer changed on refusal", |l| l.mark(l.call == Call::PlanFile, Slot::Plan)),
+    ("refused-plan", "plan file: the buffer changed on refusal", |l| l.mark(l.is_plan_file(), Slot::Plan)),
     ("refused-text", "listing: the buffer changed on refusal", |l| l.mark(l.call == Call::List, Slot::Text)),
-    ("past-separators", "quick plan: written past the separators", |l| l.stray(l.call == Call::Quick, Slot::Separators, true)),
+    ("past-separators", "quick plan: written past the separators", |l| l.stray(l.is_quick(), Slot::Separators, true)),
     ("past-work", "plan: written past the work numbers", |l| l.stray(l.is_plans(), Slot::Work, true)),
     ("past-weights", "reading: written past the weights", |l| l.stray(l.call == Call::Read, Slot::Weights, true)),
-    ("past-file", "writing: written past the buffer", |l| l.stray(l.call == Call::Write, Slot::File, true)),
+    ("past-file", "writing: written past the buffer", |l| l.stray(l.is_write(), Slot::File, true)),
     ("past-text", "listing: written past the buffer", |l| l.listed(|l, _| if let Some((at, n)) = l.place(Slot::Text) { unsafe { *at.wrapping_add(n) ^= 1 } })),
-    ("before-plan", "plan file: written before the buffer", |l| l.stray(l.call == Call::PlanFile, Slot::Plan, false)),
+    ("before-plan", "plan file: written before the buffer", |l| l.stray(l.is_plan_file(), Slot::Plan, false)),
     ("later-separators", "plan: the entry after the separators changed", |l| l.then(l.is_plans(), |j| if let Some(v) = l.words(Slot::Separators).get_mut(j.speeds.len() + 1) { *v ^= 1 })),
     ("later-work", "plan: a work number past 5 (N + 1) changed", |l| l.then(l.is_plans(), |j| if let Some(v) = l.words(Slot::Work).get_mut(5 * (j.weights.len() + 1)) { *v ^= 1 })),
     ("later-speeds", "reading: entries after the speeds cleared", |l| l.then(l.call == Call::Read, |j| l.words(Slot::Speeds)[j.speeds.len()..].fill(0))),
-    ("later-file", "writing: bytes after the file cleared", |l| l.then(l.call == Call::Write, |j| l.bytes(Slot::File)[8 * (j.speeds.len() + j.weights.len())..].fill(0))),
+    ("later-file", "writing: bytes after the file cleared", |l| l.then(l.is_write(), |j| l.bytes(Slot::File)[j.file().len()..].fill(0))),
     ("later-text", "listing: the byte after it changed", |l| l.listed(|l, n| if let Some(v) = l.bytes(Slot::Text).get_mut(n) { *v ^= 1 })),
-    ("input-weights", "measuring: a weight changed", |l| l.then(l.call == Call::Measure, |_| if let Some(v) = l.words(Slot::Weights).first_mut() { *v ^= 1 })),
-    ("input-separators", "plan file: a separator changed", |l| l.then(l.call == Call::PlanFile, |_| l.words(Slot::Separators)[0] ^= 1)),
+    ("input-weights", "measuring: a weight changed", |l| l.then(l.is_measure(), |_| if let Some(v) = l.words(Slot::Weights).first_mut() { *v ^= 1 })),
+    ("input-separators", "plan file: a separator changed", |l| l.then(l.is_plan_file(), |_| l.words(Slot::Separators)[0] ^= 1)),
     // Grading, by lists and by the C call.
     ("grading-own", "grading: best said of the planner's own separators only", |l| l.regrade(|j, d, v| if d == answers::Solved::of(j).best { v } else { 2 })),
     ("grading-valid", "grading: valid always", |l| l.regrade(|_, _, _| 2)),
@@ -849,41 +1038,41 @@ const FAULTS: &[(&str, &str, Run)] = &[
     ("grading-record", "grading: 11 and 13 record by record", |l| l.renumber(record_by_record)),
     ("grading-12-11", "grading: 12 after 11", |l| l.renumber(|j, r, n| if n == 12 && r.len() >= j.speeds.len() && grading::read(j, &job::encode(&r[..j.speeds.len()].to_vec())) == Err(11) { 11 } else { n })),
     ("grading-12-9", "grading: 9 for a shorter plan", |l| l.renumber(|j, r, n| if n == 12 && r.len() < j.speeds.len() { 9 } else { n })),
-    ("grading-12-job", "grading: 12 before the job's tests", |l| if l.call == Call::Grade && l.at[2].1 != 16 * l.at[0].1 { 12 } else { l.real() }),
+    ("grading-12-job", "grading: 12 before the job's tests", |l| if l.is_grade() && l.at[2].1 != 16 * l.at[0].1 { 12 } else { l.real() }),
     ("grading-9-early", "C grading: the grade buffer tested before the job", |l| if l.call == Call::HostGrade && l.at[2].1 == 0 { 9 } else { l.real() }),
     ("grading-9-late", "C grading: the grade buffer tested after the plan's length", |l| if l.call == Call::HostGrade && l.real() == 9 && l.graded_job().is_some_and(|j| l.at[1].1 != 16 * j.speeds.len()) { 12 } else { l.real() }),
     ("grading-longer", "grading: a longer plan taken", |l| l.seeing_plan(|j, f| f.truncate(16 * j.speeds.len()))),
     ("grading-byte", "grading: a byte more taken", |l| l.seeing_plan(|_, f| if f.len() % 16 == 1 { f.pop(); })),
     ("grading-speed", "grading: speeds not compared", |l| l.seeing_records(|j, r| for (r, &e) in r.iter_mut().zip(&j.speeds) { r[3] = e })),
-    ("grading-load", "grading: loads not compared", |l| l.seeing_records(|j, r| for r in r { let (a, b) = (r[0] as usize, r[1] as usize); if a <= b && b <= j.weights.len() { r[2] = j.weight(a, b) as u32 } })),
-    ("grading-sum", "grading: only the sum of the loads compared", |l| l.seeing_records(|j, r| if r.iter().map(|r| r[2] as u128).sum::<u128>() == methods::ideal(j).0 { for r in r { let (a, b) = (r[0] as usize, r[1] as usize); if a <= b && b <= j.weights.len() { r[2] = j.weight(a, b) as u32 } } })),
+    ("grading-load", "grading: loads not compared", |l| l.seeing_records(|j, r| for r in r { let (a, b) = (r[0] as usize, r[1] as usize); if a <= b && b <= j.weights.len() { r[2] = j.load(a, b) as u32 } })),
+    ("grading-sum", "grading: only the sum of the loads compared", |l| l.seeing_records(|j, r| if r.iter().map(|r| r[2] as u128).sum::<u128>() == methods::ideal(j).0 + j.c() * r.iter().filter(|r| r[0] < r[1]).count() as u128 { for r in r { let (a, b) = (r[0] as usize, r[1] as usize); if a <= b && b <= j.weights.len() { r[2] = j.load(a, b) as u32 } } })),
     ("grading-high", "grading: a load's highest byte left out", |l| l.seeing_records(|_, r| for r in r { r[2] &= 0x00FF_FFFF })),
     ("grading-gap", "grading: where a record begins not compared", |l| l.seeing_records(|_, r| for p in 1..r.len() { r[p][0] = r[p - 1][1] })),
     ("grading-first", "grading: where the first record begins not compared", |l| l.seeing_records(|_, r| r[0][0] = 0)),
-    ("grading-last", "grading: the last record not looked at", |l| l.seeing_records(|j, r| { let k = r.len() - 1; let a = if k == 0 { 0 } else { r[k - 1][1] as usize }; if a <= j.weights.len() { r[k] = [a as u32, j.weights.len() as u32, j.weight(a, j.weights.len()) as u32, j.speeds[k]] } })),
+    ("grading-last", "grading: the last record not looked at", |l| l.seeing_records(|j, r| { let k = r.len() - 1; let a = if k == 0 { 0 } else { r[k - 1][1] as usize }; if a <= j.weights.len() { r[k] = [a as u32, j.weights.len() as u32, j.load(a, j.weights.len()) as u32, j.speeds[k]] } })),
     ("grading-end", "grading: the last separator not compared with N", |l| l.renumber(|j, r, n| if n == 11 && r[0][0] == 0 && r.windows(2).all(|t| t[0][1] == t[1][0]) && r.iter().all(|r| r[0] <= r[1]) && r.last().unwrap()[1] > j.weights.len() as u32 { 13 } else { n })),
     ("grading-refused", "C grading: a grade on refusal", |l| l.mark(l.call == Call::HostGrade, Slot::Grade)),
-    ("grading-answer", "grading: an answer on refusal", |l| l.mark(l.call == Call::Grade, Slot::Answer)),
+    ("grading-answer", "grading: an answer on refusal", |l| l.mark(l.is_grade(), Slot::Answer)),
     ("grading-second", "C grading: the second byte of the buffer cleared", |l| l.then(l.call == Call::HostGrade, |_| if let Some(v) = l.bytes(Slot::Grade).get_mut(1) { *v = 0 })),
     ("grading-past", "C grading: a byte written past the grade buffer", |l| l.stray(l.call == Call::HostGrade, Slot::Grade, true)),
     ("grading-input", "grading: the plan changed", |l| l.then(l.is_grading(), |_| l.bytes(Slot::Plan)[8] ^= 1)),
     // Files.
-    ("read-kind-3", "reading: kind 3 taken for a tile", |l| l.seeing(l.call == Call::Read, |f| f.chunks_exact_mut(8).for_each(|r| if r[0] == 3 { r[0] = 2 }))),
+    ("read-kind-3", "reading: kind 3 past the first record taken for a tile", |l| l.seeing(l.call == Call::Read, |f| f.chunks_exact_mut(8).skip(1).for_each(|r| if r[0] == 3 { r[0] = 2 }))),
     ("read-byte-3", "reading: byte 3 not tested", |l| l.seeing(l.call == Call::Read, |f| f.chunks_exact_mut(8).for_each(|r| r[3] = 0))),
     ("read-big-endian", "reading: the value's bytes in the other order", |l| l.seeing(l.call == Call::Read, |f| f.chunks_exact_mut(8).for_each(|r| r[4..8].reverse()))),
     ("read-high-byte", "reading: the value's highest byte left out", |l| l.seeing(l.call == Call::Read, |f| f.chunks_exact_mut(8).for_each(|r| r[7] = 0))),
-    ("read-counts", "reading: P and N exchanged", |l| l.then(l.call == Call::Read, |_| if let Some(a) = l.answer().get_mut(..2) { a.swap(0, 1) })),
+    ("read-counts", "reading: P and N exchanged", |l| l.then(l.call == Call::Read, |_| if let Some(a) = l.answer().get_mut(2..4) { a.swap(0, 1) })),
     ("read-short", "reading: a list of N - 1 weights taken for enough", |l| match l.real() { 9 if l.call == Call::Read => { let j = l.job(); if l.at[1].1 >= j.speeds.len() && l.at[2].1 + 1 == j.weights.len() { 0 } else { 9 } } n => n }),
-    ("write-kind", "writing: tiles as machines", |l| l.then(l.call == Call::Write, |j| l.bytes(Slot::File).chunks_exact_mut(8).take(j.speeds.len() + j.weights.len()).for_each(|r| r[0] = 1))),
-    ("write-blank", "writing: bytes 1 to 3 not cleared", |l| { let before = l.bytes(Slot::File).to_vec(); l.then(l.call == Call::Write, |_| l.bytes(Slot::File)[1..4].copy_from_slice(&before[1..4])) }),
-    ("write-big-endian", "writing: the value's bytes in the other order", |l| l.then(l.call == Call::Write, |_| l.bytes(Slot::File)[4..8].reverse())),
-    ("write-count", "writing: records counted, not bytes", |l| l.figure(l.call == Call::Write, 0, |_, v| v / 8)),
-    ("planfile-big-endian", "plan file: the load's bytes in the other order", |l| l.records(l.call == Call::PlanFile, |r| r[8..12].reverse())),
-    ("planfile-exchanged", "plan file: load and speed exchanged", |l| l.records(l.call == Call::PlanFile, swap_fields)),
-    ("planfile-24-bits", "plan file: a load of 24 bits", |l| l.records(l.call == Call::PlanFile, |r| r[11] = 0)),
-    ("planfile-30-bits", "plan file: a load of 30 bits", |l| l.records(l.call == Call::PlanFile, |r| r[11] &= 0x3F)),
-    ("planfile-count", "plan file: records counted, not bytes", |l| l.figure(l.call == Call::PlanFile, 0, |_, v| v / 16)),
-    ("planfile-no-division", "plan file: a division that ends early taken", |l| match l.real() { 11 if l.call == Call::PlanFile => { let (s, n) = (l.words(Slot::Separators), l.at[0].1); if answers::is_division(&s[..n + 1], s[n] as usize) && (s[n] as usize) < l.at[1].1 { 0 } else { 11 } } n => n }),
+    ("write-kind", "writing: tiles as machines", |l| l.then(l.is_write(), |j| l.bytes(Slot::File)[..j.file().len()].chunks_exact_mut(8).for_each(|r| if r[0] == 2 { r[0] = 1 }))),
+    ("write-blank", "writing: bytes 1 to 3 not cleared", |l| { let before = l.bytes(Slot::File).to_vec(); l.then(l.is_write(), |_| l.bytes(Slot::File)[1..4].copy_from_slice(&before[1..4])) }),
+    ("write-big-endian", "writing: the value's bytes in the other order", |l| l.then(l.is_write(), |_| l.bytes(Slot::File)[4..8].reverse())),
+    ("write-count", "writing: records counted, not bytes", |l| l.figure(l.is_write(), 0, |_, v| v / 8)),
+    ("planfile-big-endian", "plan file: the load's bytes in the other order", |l| l.records(l.is_plan_file(), |r| r[8..12].reverse())),
+    ("planfile-exchanged", "plan file: load and speed exchanged", |l| l.records(l.is_plan_file(), swap_fields)),
+    ("planfile-24-bits", "plan file: a load of 24 bits", |l| l.records(l.is_plan_file(), |r| r[11] = 0)),
+    ("planfile-30-bits", "plan file: a load of 30 bits", |l| l.records(l.is_plan_file(), |r| r[11] &= 0x3F)),
+    ("planfile-count", "plan file: records counted, not bytes", |l| l.figure(l.is_plan_file(), 0, |_, v| v / 16)),
+    ("planfile-no-division", "plan file: a division that ends early taken", |l| match l.real() { 11 if l.is_plan_file() => { let (s, n) = (l.words(Slot::Separators), l.at[0].1); if answers::is_division(&s[..n + 1], s[n] as usize) && (s[n] as usize) < l.at[1].1 { 0 } else { 11 } } n => n }),
     ("list-space", "listing: two spaces in the place of the first digit and its space", |l| l.listed(|l, _| if let Some(k) = l.bytes(Slot::Text).iter().position(|&b| b == b' ') { l.bytes(Slot::Text)[k + 1] = b' ' })),
     ("list-count", "listing: a byte too many counted", |l| l.listed(|l, _| if let Some(v) = l.answer().first_mut() { *v += 1 })),
     ("list-fourth", "listing: the fourth line numbered 3", |l| l.listed(|l, n| { let text = l.bytes(Slot::Text); if let Some(k) = text[..n - 1].iter().rposition(|&b| b == b'\n') { text[k + 1] = b'3' } })),
@@ -894,12 +1083,12 @@ const FAULTS: &[(&str, &str, Run)] = &[
     ("list-intake-whole", "listing: a longer file judged whole", |l| l.judged_by(usize::MAX)),
     ("list-short", "listing: a buffer one byte too short taken for enough", |l| match l.real() { 9 if l.call == Call::List && l.at[1].1 + 1 == LISTING => 0, code => code }),
     // Measuring, trial, quick plan.
-    ("measure-no-division", "measuring: a division that does not begin at 0 taken", |l| match l.real() { 11 if l.call == Call::Measure => { let (s, n) = (l.words(Slot::Separators), l.at[0].1); let first = std::mem::replace(&mut s[0], 0); let code = l.real(); s[0] = first; if n > 0 { code } else { 11 } } n => n }),
-    ("measure-load", "measuring: the greatest load, not the greatest bound", |l| { let s = l.words(Slot::Separators).to_vec(); l.pair(l.call == Call::Measure, 0, |j, _| (0..j.speeds.len()).map(|p| (j.weight(s[p] as usize, s[p + 1] as usize), j.speeds[p] as u128)).reduce(|a, b| if b.0 > a.0 { b } else { a }).unwrap()) }),
-    ("measure-last", "measuring: the pair of the highest-numbered machine", |l| { let s = l.words(Slot::Separators).to_vec(); l.pair(l.call == Call::Measure, 0, |j, b| of_last_machine(j, &s, b)) }),
-    ("measure-reduced", "measuring: the pair reduced", |l| l.pair(l.call == Call::Measure, 0, |_, b| reduced(b))),
-    ("trial-lax", "trial: fits at a bound that is one below", |l| match l.call { Call::Trial { load, speed } if load < BOUND_LOAD => l.other(Call::Trial { load: load + 1, speed }), _ => l.real() }),
-    ("trial-strict", "trial: a share equal to the bound is too much", |l| match l.call { Call::Trial { load, speed } if (1..=BOUND_LOAD).contains(&load) && (1..=BOUND_SPEED).contains(&speed) => l.other(Call::Trial { load: load - 1, speed }), _ => l.real() }),
+    ("measure-no-division", "measuring: a division that does not begin at 0 taken", |l| match l.real() { 11 if l.is_measure() => { let (s, n) = (l.words(Slot::Separators), l.at[0].1); let first = std::mem::replace(&mut s[0], 0); let code = l.real(); s[0] = first; if n > 0 { code } else { 11 } } n => n }),
+    ("measure-load", "measuring: the greatest load, not the greatest bound", |l| { let s = l.words(Slot::Separators).to_vec(); l.pair(l.is_measure(), 0, |j, _| (0..j.speeds.len()).map(|p| (j.load(s[p] as usize, s[p + 1] as usize), j.speeds[p] as u128)).reduce(|a, b| if b.0 > a.0 { b } else { a }).unwrap()) }),
+    ("measure-last", "measuring: the pair of the highest-numbered machine", |l| { let s = l.words(Slot::Separators).to_vec(); l.pair(l.is_measure(), 0, |j, b| of_last_machine(j, &s, b)) }),
+    ("measure-reduced", "measuring: the pair reduced", |l| l.pair(l.is_measure(), 0, |_, b| reduced(b))),
+    ("trial-lax", "trial: fits at a bound that is one below", |l| match l.call { Call::Trial(n, load, speed) if load < BOUND_LOAD => l.other(Call::Trial(n, load + 1, speed)), _ => l.real() }),
+    ("trial-strict", "trial: a share equal to the bound is too much", |l| match l.call { Call::Trial(n, load, speed) if (1..=BOUND_LOAD).contains(&load) && (1..=BOUND_SPEED).contains(&speed) => l.other(Call::Trial(n, load - 1, speed)), _ => l.real() }),
     ("trial-silent", "trial: no separators written by a fit", |l| l.tried(true, |_, _, before, s| s.copy_from_slice(&before[..s.len()]))),
     ("trial-fit-short", "trial: the last share of a fit stopped before tiles of weight 0", |l| l.tried(true, |j, _, _, s| while let [.., start, end] = s { if *end == *start || j.weights[*end as usize - 1] > 0 { break } *end -= 1 })),
     ("trial-fit-zeros", "trial: a fit whose last share ends with a tile of weight 0 said to fail", |l| { let Some(b) = l.bound() else { return l.real() }; l.figure(true, 0, |j, v| { let (start, end) = methods::trial(j, b).last(); if end > start && j.weights[end - 1] == 0 { 0 } else { v } }) }),
@@ -933,7 +1122,7 @@ const FAULTS: &[(&str, &str, Run)] = &[
     ("trial-reach-speed-before", "trial: the last machine reaches by the speed of the one before", |l| l.reach(|j, b, start, _| reached(j, start, start, j.speeds[j.speeds.len().saturating_sub(2)], b))),
     ("trial-reach-speed-first", "trial: the last machine reaches by the speed of the first", |l| l.reach(|j, b, start, _| reached(j, start, start, j.speeds[0], b))),
     ("trial-reach-zeros", "trial: the last share stopped before tiles of weight 0", |l| l.reach(|j, _, start, end| (start..end).rev().find(|&i| j.weights[i] > 0).map_or(start, |i| i + 1))),
-    ("trial-reach-strict", "trial: a last share equal to the bound is too much", |l| l.reach(|j, b, start, _| (start..=j.weights.len()).rev().find(|&to| less((j.weight(start, to), *j.speeds.last().unwrap() as u128), b)).unwrap_or(start))),
+    ("trial-reach-strict", "trial: a last share equal to the bound is too much", |l| l.reach(|j, b, start, _| (start..=j.weights.len()).rev().find(|&to| less((j.load(start, to), *j.speeds.last().unwrap() as u128), b)).unwrap_or(start))),
     ("trial-reach-whole-numbers", "trial: the last machine reaches by the bound rounded down", |l| l.reach(|j, b, start, _| reached(j, start, start, *j.speeds.last().unwrap(), (b.0 / b.1, 1)))),
     ("trial-reach-30-bits", "trial: what the last machine can carry in 30 bits", |l| l.reach(|j, b, start, _| reached(j, start, start, 1, (b.0 * *j.speeds.last().unwrap() as u128 / b.1 % (1 << 30), 1)))),
     ("trial-reach-64", "trial: the last machine reaches one tile less, where it reaches just 64", |l| l.reach(|_, _, start, end| if end - start == 64 { end - 1 } else { end })),
@@ -957,7 +1146,7 @@ const FAULTS: &[(&str, &str, Run)] = &[
     ("trial-refused-10", "trial: the walk at the nearest bound in range written with 10", |l| l.refused_walk(10)),
     ("quick-tie", "quick plan: the greatest of the nearest indices", |l| requick(l, |new, old| new.abs() <= old.abs())),
     ("quick-below", "quick plan: the last index below the target, not the nearest", |l| requick(l, |new, _| new <= 0)),
-    ("quick-best", "quick plan: the bottleneck of the best plan", |l| l.pair(l.call == Call::Quick, 0, |j, _| best_bound(j))),
+    ("quick-best", "quick plan: the bottleneck of the best plan", |l| l.pair(l.is_quick(), 0, |j, _| best_bound(j))),
     // Halving the row: where the separators are put.
     ("halving-greater", "halving: of two nearest weights on the left the greater", |l| rehalve(l, |j| halved_nearer(j, |new, old| new.abs() < old.abs() || new == -old && new > 0))),
     ("halving-zeros", "halving: behind the tiles of weight 0 at the separator", |l| rehalve(l, |j| halved_nearer(j, |new, old| is_nearer(new, old) || new == old))),
@@ -971,34 +1160,34 @@ const FAULTS: &[(&str, &str, Run)] = &[
     ("halving-right", "halving: no right side is split, all is its last machine's", |l| rehalve(l, |j| halved_but(j, &|_, left| left))),
     ("halving-right-first", "halving: of the right half of the row all is the first machine's", |l| rehalve(l, |j| { let mut s = halving::by_sums(j); let half = j.speeds.len() / 2; s[half + 1..].fill(j.weights.len()); s })),
     ("halving-deep", "halving: the longest row's pairs of machines not split", |l| rehalve(l, |j| { let most = j.speeds.len() == LONGEST_HALVED; halved_but(j, &|part, _| part > 2 || !most) })),
-    ("halving-relative", "halving: in the right half of the row indices counted from where it begins", |l| l.inner(l.call == Call::Halving, |_, s| { let (machines, half) = (s.len() - 1, s.len() / 2); for p in half + 1..machines { s[p] -= s[half] } })),
-    ("halving-end", "halving: the tiles of weight 0 at the end left out", |l| l.inner(l.call == Call::Halving, |j, s| { let k = s.len() - 1; s[k] = j.weights.iter().rposition(|&w| w > 0).map_or(0, |i| i as u32 + 1).max(s[k - 1]) })),
-    ("halving-start", "halving: the first separator not written", |l| { let first = l.words(Slot::Separators).first().copied(); l.inner(l.call == Call::Halving, |_, s| s[0] = first.unwrap()) }),
+    ("halving-relative", "halving: in the right half of the row indices counted from where it begins", |l| l.inner(l.is_halving(), |_, s| { let (machines, half) = (s.len() - 1, s.len() / 2); for p in half + 1..machines { s[p] -= s[half] } })),
+    ("halving-end", "halving: the tiles of weight 0 at the end left out", |l| l.inner(l.is_halving(), |j, s| { let k = s.len() - 1; s[k] = j.weights.iter().rposition(|&w| w > 0).map_or(0, |i| i as u32 + 1).max(s[k - 1]) })),
+    ("halving-start", "halving: the first separator not written", |l| { let first = l.words(Slot::Separators).first().copied(); l.inner(l.is_halving(), |_, s| s[0] = first.unwrap()) }),
     ("halving-quick", "halving: the quick plan in its place", |l| rehalve(l, methods::quick)),
     ("halving-best", "halving: a best division in its place, where its bottleneck is smaller", |l| rehalve(l, |j| { let s = halving::by_sums(j); if j.weights.len() < 200 && less(best_bound(j), slow::bottleneck(j, &s)) { answers::Solved::of(j).best } else { s } })),
-    ("halving-many", "halving: a separator wrong with the longest row and 2,000 tiles only", |l| l.inner(l.call == Call::Halving && l.at[0].1 == LONGEST_HALVED && l.at[1].1 > 2_000, |_, s| { let k = s.len() - 2; if s[k] > s[k - 1] { s[k] -= 1 } })),
-    ("halving-seldom", "halving: a separator wrong once in 5,000 rows", |l| l.inner(l.call == Call::Halving, |_, s| if s.len() > 2 && s[1] > 0 && seldom(5_000) { s[1] -= 1 })),
-    ("halving-nothing", "halving: no separators written", |l| { let before = l.words(Slot::Separators).to_vec(); l.then(l.call == Call::Halving, |_| l.words(Slot::Separators).copy_from_slice(&before)) }),
+    ("halving-many", "halving: a separator wrong with the longest row and 2,000 tiles only", |l| l.inner(l.is_halving() && l.at[0].1 == LONGEST_HALVED && l.at[1].1 > 2_000, |_, s| { let k = s.len() - 2; if s[k] > s[k - 1] { s[k] -= 1 } })),
+    ("halving-seldom", "halving: a separator wrong once in 5,000 rows", |l| l.inner(l.is_halving(), |_, s| if s.len() > 2 && s[1] > 0 && seldom(5_000) { s[1] -= 1 })),
+    ("halving-nothing", "halving: no separators written", |l| { let before = l.words(Slot::Separators).to_vec(); l.then(l.is_halving(), |_| l.words(Slot::Separators).copy_from_slice(&before)) }),
     // Its answer.
-    ("halving-answer-quick", "halving: the bottleneck of the quick plan", |l| l.pair(l.call == Call::Halving, 0, |j, _| slow::bottleneck(j, &methods::quick(j)))),
-    ("halving-answer-best", "halving: the bottleneck of the best plan", |l| l.pair(l.call == Call::Halving && l.at[1].1 < 200, 0, |j, _| best_bound(j))),
-    ("halving-answer-most", "halving: the greatest load that its bound allows", |l| l.figure(l.call == Call::Halving, 0, |j, _| (halving::most(j) / j.speeds.len() as u128) as u64)),
-    ("halving-answer-speed", "halving: the greatest load over the speed of the whole row", |l| l.pair(l.call == Call::Halving, 0, |j, b| (b.0, methods::ideal(j).1))),
-    ("halving-answer-reduced", "halving: the pair reduced", |l| l.pair(l.call == Call::Halving, 0, |_, b| reduced(b))),
-    ("halving-answer-nought", "halving: 0/1 where nothing weighs", |l| l.pair(l.call == Call::Halving, 0, |_, b| if b.0 == 0 { (0, 1) } else { b })),
+    ("halving-answer-quick", "halving: the bottleneck of the quick plan", |l| l.pair(l.is_halving(), 0, |j, _| slow::bottleneck(j, &methods::quick(j)))),
+    ("halving-answer-best", "halving: the bottleneck of the best plan", |l| l.pair(l.is_halving() && l.at[1].1 < 200, 0, |j, _| best_bound(j))),
+    ("halving-answer-most", "halving: the greatest load that its bound allows", |l| l.figure(l.is_halving(), 0, |j, _| (halving::most(j) / j.speeds.len() as u128) as u64)),
+    ("halving-answer-speed", "halving: the greatest load over the speed of the whole row", |l| l.pair(l.is_halving(), 0, |j, b| (b.0, methods::ideal(j).1))),
+    ("halving-answer-reduced", "halving: the pair reduced", |l| l.pair(l.is_halving(), 0, |_, b| reduced(b))),
+    ("halving-answer-nought", "halving: 0/1 where nothing weighs", |l| l.pair(l.is_halving(), 0, |_, b| if b.0 == 0 { (0, 1) } else { b })),
     // Its refusals.
-    ("halving-9-14", "halving: 9 before 14", |l| l.halving_ordered(&[5, 6, 7, 8, 9, 14])),
-    ("halving-14-8", "halving: 14 before 8", |l| l.halving_ordered(&[5, 6, 7, 14, 8, 9])),
-    ("halving-14-7", "halving: 14 before 7", |l| l.halving_ordered(&[5, 6, 14, 7, 8, 9])),
-    ("halving-14-6", "halving: 14 before 6", |l| l.halving_ordered(&[5, 14, 6, 7, 8, 9])),
-    ("halving-14-5", "halving: 14 before 5", |l| l.halving_ordered(&[14, 5, 6, 7, 8, 9])),
+    ("halving-9-14", "halving: 9 before 14", |l| l.halving_ordered(&[16, 5, 6, 7, 8, 9, 14])),
+    ("halving-14-8", "halving: 14 before 8", |l| l.halving_ordered(&[16, 5, 6, 7, 14, 8, 9])),
+    ("halving-14-7", "halving: 14 before 7", |l| l.halving_ordered(&[16, 5, 6, 14, 7, 8, 9])),
+    ("halving-14-6", "halving: 14 before 6", |l| l.halving_ordered(&[16, 5, 14, 6, 7, 8, 9])),
+    ("halving-14-5", "halving: 14 before 5", |l| l.halving_ordered(&[16, 14, 5, 6, 7, 8, 9])),
     ("halving-7-for-14", "halving: 7 for a number of machines that is no power of two", |l| l.halving_gives(7, 14, |e| !e.len().is_power_of_two())),
     ("halving-5-for-14", "halving: 5 for speeds that are not equal", |l| l.halving_gives(5, 14, |e| e.iter().any(|v| *v != e[0]))),
     ("halving-3-taken", "halving: three machines taken", |l| l.halving_gives(0, 14, |e| e.len() == 3 && e.windows(2).all(|v| v[0] == v[1]))),
     ("halving-6-taken", "halving: six machines taken", |l| l.halving_gives(0, 14, |e| e.len() == 6 && e.windows(2).all(|v| v[0] == v[1]))),
     ("halving-96-taken", "halving: the most machines taken", |l| l.halving_gives(0, 14, |e| e.len() == MACHINES && e.windows(2).all(|v| v[0] == v[1]))),
     ("halving-128-taken", "halving: a power of two above the most machines taken", |l| l.halving_gives(0, 7, |e| e.len() == 2 * LONGEST_HALVED)),
-    ("halving-no-machine", "halving: 14 for no machine", |l| match l.real() { 7 if l.call == Call::Halving && l.at[0].1 == 0 => 14, code => code }),
+    ("halving-no-machine", "halving: 14 for no machine", |l| match l.real() { 7 if l.is_halving() && l.at[0].1 == 0 => 14, code => code }),
     ("halving-one-refused", "halving: one machine refused", |l| l.halving_gives(14, 0, |e| e.len() == 1)),
     ("halving-64-refused", "halving: the longest row refused", |l| l.halving_gives(14, 0, |e| e.len() == LONGEST_HALVED)),
     ("halving-speeds-last", "halving: the last speed not compared", |l| l.halving_gives(0, 14, |e| e.len().is_power_of_two() && e[..e.len() - 1].windows(2).all(|v| v[0] == v[1]))),
@@ -1007,14 +1196,84 @@ const FAULTS: &[(&str, &str, Run)] = &[
     ("halving-speeds-pairs", "halving: speeds compared in pairs only", |l| l.halving_gives(0, 14, |e| e.len().is_power_of_two() && e.chunks(2).all(|v| v[0] == v[1]))),
     ("halving-speeds-sum", "halving: speeds whose sum is P times the first taken", |l| l.halving_gives(0, 14, |e| e.len().is_power_of_two() && e.iter().sum::<u32>() == e.len() as u32 * e[0])),
     ("halving-speeds-byte", "halving: the lowest bytes of the speeds compared", |l| l.halving_gives(0, 14, |e| e.len().is_power_of_two() && e.iter().all(|v| v % 256 == e[0] % 256))),
-    ("halving-speeds-empty", "halving: unequal speeds taken where there are no tiles", |l| if l.call == Call::Halving && l.at[1].1 == 0 { l.halving_gives(0, 14, |e| e.len().is_power_of_two()) } else { l.real() }),
-    ("halving-short", "halving: P separators taken for enough", |l| if l.call == Call::Halving && l.numbers() == [9] && l.at[2].1 == l.at[0].1 { 0 } else { l.real() }),
+    ("halving-speeds-empty", "halving: unequal speeds taken where there are no tiles", |l| if l.is_halving() && l.at[1].1 == 0 { l.halving_gives(0, 14, |e| e.len().is_power_of_two()) } else { l.real() }),
+    ("halving-short", "halving: P separators taken for enough", |l| if l.is_halving() && l.numbers() == [9] && l.at[2].1 == l.at[0].1 { 0 } else { l.real() }),
     // What it leaves.
-    ("halving-refused", "halving: separators changed by a refusal with 14", |l| { let code = l.real(); if l.call == Call::Halving && code == 14 { if let Some(v) = l.words(Slot::Separators).last_mut() { *v = 0 } } code }),
-    ("halving-refused-answer", "halving: an answer given with 14", |l| { let code = l.real(); if l.call == Call::Halving && code == 14 { if let Some(v) = l.answer().first_mut() { *v ^= 1 } } code }),
-    ("halving-past", "halving: written past the separators", |l| l.stray(l.call == Call::Halving, Slot::Separators, true)),
-    ("halving-later", "halving: the entry after the separators changed", |l| l.then(l.call == Call::Halving, |j| if let Some(v) = l.words(Slot::Separators).get_mut(j.speeds.len() + 1) { *v = j.weights.len() as u32 })),
-    ("halving-input", "halving: a weight changed", |l| l.then(l.call == Call::Halving, |_| if let Some(v) = l.words(Slot::Weights).last_mut() { *v ^= 1 })),
+    ("halving-refused", "halving: separators changed by a refusal with 14", |l| { let code = l.real(); if l.is_halving() && code == 14 { if let Some(v) = l.words(Slot::Separators).last_mut() { *v = 0 } } code }),
+    ("halving-refused-answer", "halving: an answer given with 14", |l| { let code = l.real(); if l.is_halving() && code == 14 { if let Some(v) = l.answer().first_mut() { *v ^= 1 } } code }),
+    ("halving-past", "halving: written past the separators", |l| l.stray(l.is_halving(), Slot::Separators, true)),
+    ("halving-later", "halving: the entry after the separators changed", |l| l.then(l.is_halving(), |j| if let Some(v) = l.words(Slot::Separators).get_mut(j.speeds.len() + 1) { *v = j.weights.len() as u32 })),
+    ("halving-input", "halving: a weight changed", |l| l.then(l.is_halving(), |_| if let Some(v) = l.words(Slot::Weights).last_mut() { *v ^= 1 })),
+    // Start-up work: loads.
+    ("startup-empty", "measuring: an empty share has the start-up work too", |l| l.measuring(|j, a, b, _| j.c() + j.weight(a, b))),
+    ("startup-once", "measuring: the start-up work once a plan", |l| l.measuring(|j, a, b, _| once(j, a, b))),
+    ("startup-nought", "measuring: no start-up work for tiles of weight 0", |l| l.measuring(|j, a, b, _| if j.weight(a, b) == 0 { 0 } else { j.load(a, b) })),
+    ("startup-first", "measuring: no start-up work on machine 1", |l| l.measuring(|j, a, b, p| if p == 0 { j.weight(a, b) } else { j.load(a, b) })),
+    ("startup-last", "measuring: no start-up work on the last machine", |l| l.measuring(|j, a, b, p| if p + 1 == j.speeds.len() { j.weight(a, b) } else { j.load(a, b) })),
+    ("startup-planfile-empty", "plan file: an empty share has the start-up work too", |l| l.reload(l.is_plan_file(), |j, r, _| if r[0] == r[1] { j.c() } else { r[2] as u128 })),
+    ("startup-planfile-once", "plan file: the start-up work once a plan", |l| l.reload(l.is_plan_file(), |j, r, _| once(j, r[0] as usize, r[1] as usize))),
+    ("startup-planfile-nought", "plan file: no start-up work for tiles of weight 0", |l| l.reload(l.is_plan_file(), |j, r, _| if j.weight(r[0] as usize, r[1] as usize) == 0 { 0 } else { r[2] as u128 })),
+    ("startup-host-empty", "C call: an empty share has the start-up work too", |l| l.reload(l.is_host(), |j, r, _| if r[0] == r[1] { j.c() } else { r[2] as u128 })),
+    ("startup-host-load", "C call: loads without start-up work", |l| l.reload(l.is_host(), |j, r, _| j.weight(r[0] as usize, r[1] as usize))),
+    ("startup-host-plan", "C call: the plan without start-up work, with loads that have it", |l| l.inner(l.is_host(), |j, s| put(s, &crate::fast::solve(&without(j)).0))),
+    ("startup-host", "C call: no start-up work", |l| l.seeing_head(l.is_host(), |r| r[4..8].fill(0))),
+    ("startup-list", "listing: no start-up work", |l| l.seeing_head(l.call == Call::List, |r| r[4..8].fill(0))),
+    ("startup-hostgrade", "C grading: no start-up work", |l| l.seeing_head(l.call == Call::HostGrade, |r| r[4..8].fill(0))),
+    ("startup-16-bits", "files: start-up work of 16 bits", |l| l.seeing_head(true, |r| r[6..8].fill(0))),
+    ("startup-big-endian", "files: the bytes of the start-up work in the other order", |l| l.seeing_head(true, |r| r[4..8].reverse())),
+    // Start-up work: trials, plans and their figures.
+    ("startup-trial-walk", "trial: a walk without start-up work, bids with it", |l| l.failed(|j, b, _, s| put(s, &methods::trial(&without(j), b).separators))),
+    ("startup-trial-reach", "trial: the last machine reaches as without start-up work", |l| l.reach(|j, b, start, _| reached(&without(j), start, start, *j.speeds.last().unwrap(), b))),
+    ("startup-trial-bid", "trial: the next bid without start-up work", |l| { let Some(b) = l.bound() else { return l.real() }; l.pair(true, 1, |j, found| if methods::trial(j, b).fits() { found } else { (found.0 - j.c(), found.1) }) }),
+    ("startup-trial-last", "trial: the last machine bids without start-up work", |l| { let Some(b) = l.bound() else { return l.real() }; l.pair(true, 1, |j, found| { if methods::trial(j, b).fits() { return found } let mut bids = all_bids(j, b); bids.last_mut().unwrap().0 -= j.c(); least_of(&bids).unwrap() }) }),
+    ("startup-plan-table", "table: the plan without start-up work", |l| l.inner(l.is_plan(1), |j, s| put(s, &crate::fast::solve(&without(j)).0))),
+    ("startup-plan-bidding", "bidding: the plan without start-up work", |l| l.inner(l.is_plan(2), |j, s| put(s, &crate::fast::solve(&without(j)).0))),
+    ("startup-plan-bisection", "bisection: the plan without start-up work", |l| l.inner(l.is_plan(3), |j, s| put(s, &crate::fast::solve(&without(j)).0))),
+    ("startup-plan-nicol", "Nicol's search: the plan without start-up work", |l| l.inner(l.is_plan(4), |j, s| put(s, &crate::fast::solve(&without(j)).0))),
+    ("startup-count-table", "table: the moves without start-up work", |l| l.figure(l.is_plan(1), 0, |j, _| methods::moves_by_walks(&without(j)))),
+    ("startup-count-bidding", "bidding: begins at an ideal with start-up work", |l| l.figure(l.is_plan(2), 0, |j, v| if less(best_bound(j), ideal_with_startup(j)) { v } else { bids_from(j, ideal_with_startup(j)) })),
+    ("startup-count-one", "bidding: one trial on one machine", |l| l.figure(l.is_plan(2), 0, |j, v| if j.speeds.len() == 1 { 1 } else { v })),
+    ("startup-count-nicol", "Nicol's search: the trials without start-up work", |l| l.figure(l.is_plan(4), 0, |j, _| methods::search_by_sums(&without(j)).trials)),
+    ("startup-ideal", "plan: imbalance against an ideal with the start-up work of all machines", |l| l.figure(l.is_plans(), 4, |j, v| { let (b, i) = (best_bound(j), ideal_with_startup(j)); let (high, low) = (b.0 * i.1, i.0 * b.1); if low == 0 { v } else { (1000 * high.saturating_sub(low)).div_ceil(low) as u64 } })),
+    ("startup-ideal-once", "plan: imbalance against an ideal with the start-up work once", |l| l.figure(l.is_plans(), 4, |j, v| { let (b, (w, e)) = (best_bound(j), methods::ideal(j)); let (high, low) = (b.0 * e, (w + j.c()) * b.1); if low == 0 { v } else { (1000 * high.saturating_sub(low)).div_ceil(low) as u64 } })),
+    ("startup-imbalance", "plan: an imbalance where nothing weighs and start-up work makes a bottleneck", |l| l.figure(l.is_plans(), 4, |j, v| if methods::ideal(j).0 == 0 && j.load(0, j.weights.len()) > 0 { 1000 } else { v })),
+    ("allowance-startup", "bisection: D without start-up work", |l| l.figure(l.is_plan(3), 1, |j, _| methods::allowance(&without(j), 3))),
+    ("allowance-startup-empty", "bisection: D without start-up work where there are no tiles", |l| l.figure(l.is_plan(3), 1, |j, v| if j.weights.is_empty() { 1 } else { v })),
+    ("allowance-one", "bidding: 1 on one machine in the second edition", |l| l.figure(l.is_plan(2), 1, |j, v| if j.speeds.len() == 1 { 1 } else { v })),
+    ("allowance-one-nought", "bidding: 1 on one machine in the second edition without start-up work", |l| l.figure(l.is_plan(2), 1, |j, v| if j.speeds.len() == 1 && j.startup == Some(0) { 1 } else { v })),
+    ("allowance-one-first", "bidding: 2 on one machine in the first edition", |l| l.figure(l.is_plan(2), 1, |j, v| if j.speeds.len() == 1 { 2 } else { v })),
+    ("allowance-one-empty", "bidding: 1 on one machine without tiles in the second edition", |l| l.figure(l.is_plan(2), 1, |j, v| if j.speeds.len() == 1 && j.weights.is_empty() { 1 } else { v })),
+    ("allowance-second", "bidding: one more on several machines in the second edition", |l| l.figure(l.is_plan(2), 1, |j, v| if j.is_second() && j.speeds.len() > 1 { v + 1 } else { v })),
+    ("startup-quick", "quick plan: separators by weights and start-up work", |l| l.then(l.is_quick(), |j| { let s = quick_by_loads(j); let found = slow::bottleneck(j, &s); put(l.words(Slot::Separators), &s); for (to, from) in l.answer().iter_mut().zip([found.0, found.1]) { *to = from as u64 } })),
+    ("startup-halving", "halving: half of the part's load, with start-up work on the left", |l| rehalve(l, |j| halved_by(j, &|a, b, _| { let off = |i: usize| (2 * j.load(a, i) as i128 - j.load(a, b) as i128).abs(); (a..=b).reduce(|best, i| if off(i) < off(best) { i } else { best }).unwrap() }, &|_, _| true))),
+    ("startup-halving-empty", "halving: an empty share has the start-up work too", |l| l.pair(l.is_halving(), 0, |j, b| if j.weights.is_empty() { (j.c(), b.1) } else { b })),
+    ("startup-grading", "grading: best by weights alone", |l| l.regrade(|j, d, _| { let j = without(j); if less(best_bound(&j), slow::bottleneck(&j, d)) { 2 } else { 1 } })),
+    ("startup-grading-load", "grading: loads without start-up work taken", |l| l.seeing_records(|j, r| for r in r { let (a, b) = (r[0] as usize, r[1] as usize); if a < b && b <= j.weights.len() && r[2] as u128 == j.weight(a, b) { r[2] = j.load(a, b) as u32 } })),
+    ("startup-grading-empty", "grading: a load of the start-up work without a tile taken", |l| l.seeing_records(|j, r| for r in r { if r[0] == r[1] && r[2] as u128 == j.c() { r[2] = 0 } })),
+    // Start-up work: reading and writing.
+    ("read-edition", "reading: the first edition always", |l| l.figure(l.call == Call::Read, 0, |_, _| 1)),
+    ("read-edition-nought", "reading: the second edition without start-up work said to be the first", |l| l.figure(l.call == Call::Read, 0, |j, v| if j.c() == 0 { 1 } else { v })),
+    ("read-edition-bit", "reading: the editions as 0 and 1", |l| l.figure(l.call == Call::Read, 0, |_, v| v - 1)),
+    ("read-startup", "reading: no start-up work answered", |l| l.figure(l.call == Call::Read, 1, |_, _| 0)),
+    ("read-startup-order", "reading: start-up work before the edition", |l| l.then(l.call == Call::Read, |_| if let Some(a) = l.answer().get_mut(..2) { a.swap(0, 1) })),
+    ("read-head-machine", "reading: the first record counted among the machines", |l| l.figure(l.call == Call::Read, 2, |j, v| v + j.is_second() as u64)),
+    ("write-nought", "writing: the second edition without start-up work written as the first", |l| if l.is_write() && l.edition() == (Edition { second: true, startup: 0 }) { l.with_edition(|_| Edition::FIRST) } else { l.real() }),
+    ("write-head-last", "writing: the record of kind 3 behind all others", |l| l.then(l.is_write(), |j| if j.is_second() { l.bytes(Slot::File)[..j.file().len()].rotate_left(8) })),
+    ("write-head-kind", "writing: start-up work as a tile", |l| l.then(l.is_write(), |j| if j.is_second() { l.bytes(Slot::File)[0] = 2 })),
+    ("write-short", "writing: 8 (N + P) bytes taken for enough in the second edition", |l| if l.is_write() && l.numbers() == [9] && l.edition().second && l.at[2].1 >= 8 * (l.at[0].1 + l.at[1].1) { 0 } else { l.real() }),
+    ("write-more", "writing: a record more asked for in the first edition", |l| if l.is_write() && l.numbers().is_empty() && !l.edition().second && l.at[2].1 < 8 * (l.at[0].1 + l.at[1].1 + 1) { 9 } else { l.real() }),
+    ("file-second-record", "files: kind 3 as the second record taken for the first", |l| if l.call.edition().is_none() && l.bytes(Slot::File).len() >= 16 && l.bytes(Slot::File)[0] == 1 && l.bytes(Slot::File)[8] == 3 { let mut f = l.bytes(Slot::File).to_vec(); f[..16].rotate_left(8); l.with(Slot::File, &mut f) } else { l.real() }),
+    ("file-second-twice", "files: a second record of kind 3 left out of account", |l| if l.call.edition().is_none() && l.bytes(Slot::File).len() >= 16 && l.bytes(Slot::File)[0] == 3 && l.bytes(Slot::File)[8] == 3 { let mut f = l.bytes(Slot::File).to_vec(); f.drain(8..16); l.with(Slot::File, &mut f) } else { l.real() }),
+    ("file-head-refused", "files: kind 3 refused with 3 as the first record too", |l| l.recode(|f, n| if n != 1 && n != 2 && f.first() == Some(&3) { 3 } else { n })),
+    ("file-head-blank", "files: bytes 1 to 3 of the first record of kind 3 not tested", |l| l.seeing_head(true, |r| r[1..4].fill(0))),
+    ("file-15-3", "files: 3 for kind 3 past the first record", |l| l.recode(|_, n| if n == 15 { 3 } else { n })),
+    ("file-15-4", "files: 4 for kind 3 behind a tile", |l| l.recode(|f, n| if n == 15 && f.chunks_exact(8).take_while(|r| r[0] != 3).any(|r| r[0] == 2) { 4 } else { n })),
+    ("file-16-15", "files: 16 before 15 in one record", |l| l.recode(|f, n| if n == 15 && f.chunks_exact(8).skip(1).find(|r| r[0] == 3).is_some_and(|r| value(r) > STARTUP) { 16 } else { n })),
+    ("file-16-6", "files: 6 for start-up work out of range", |l| l.recode(|_, n| if n == 16 { 6 } else { n })),
+    ("file-16-late", "files: the start-up work tested after all records", |l| l.recode(|f, n| if n == 16 { let mut f = f.to_vec(); f[4..8].fill(0); match job::parse(&f) { Err(other) => other, _ => 16 } } else { n })),
+    ("file-16-counts", "files: the start-up work tested after the counts", |l| l.recode(|f, n| if n == 16 { let mut f = f.to_vec(); f[4..8].fill(0); match job::read(&f, 1, usize::MAX) { Err(other @ (7 | 8)) => other, _ => 16 } } else { n })),
+    ("file-16-limit", "files: the greatest start-up work refused", |l| l.recode(|f, n| if n != 1 && n != 2 && f.len() >= 8 && f[..4] == [3, 0, 0, 0] && value(f) == STARTUP { 16 } else { n })),
+    ("file-16-more", "files: one more than the greatest start-up work taken", |l| l.seeing_head(true, |r| if value(r) == STARTUP + 1 { r[4] -= 1 })),
 ];
 
 /// Of each call alone: a row of the most machines refused, one of a machine more taken.
@@ -1028,16 +1287,65 @@ macro_rules! rows {
 }
 
 const ROWS: &[(&str, &str, Run)] = rows![
-    ("test", "testing", Call::Test),
+    ("test", "testing", Call::Test(_)),
     ("read", "reading", Call::Read),
-    ("write", "writing", Call::Write),
-    ("measure", "measuring", Call::Measure),
-    ("trial", "trial", Call::Trial { .. }),
-    ("quick", "quick plan", Call::Quick),
-    ("plan", "plan", Call::Plan { .. }),
-    ("planfile", "plan file", Call::PlanFile),
+    ("write", "writing", Call::Write(_)),
+    ("measure", "measuring", Call::Measure(_)),
+    ("trial", "trial", Call::Trial(..)),
+    ("quick", "quick plan", Call::Quick(_)),
+    ("plan", "plan", Call::Plan(..)),
+    ("planfile", "plan file", Call::PlanFile(_)),
     ("list", "listing", Call::List),
     ("host", "C call", Call::Host { .. }),
-    ("grade", "grading", Call::Grade),
+    ("grade", "grading", Call::Grade(_)),
     ("hostgrade", "C grading", Call::HostGrade),
+];
+
+/// Of each call on lists alone: start-up work left out, counted for each tile, and that of the first edition counted.
+macro_rules! startups {
+    ($(($name:literal, $words:literal, $call:pat),)*) => {
+        &[$(
+            (concat!("startup-lost-", $name), concat!($words, ": no start-up work"), |l| l.counting(matches!(l.call, $call), |_| 0)),
+            (concat!("startup-each-", $name), concat!($words, ": start-up work for each tile"), |l| l.counting_each(matches!(l.call, $call))),
+            (concat!("startup-counted-", $name), concat!($words, ": start-up work of the first edition counted"), |l| l.first_counted(matches!(l.call, $call))),
+        )*]
+    };
+}
+
+const STARTUPS: &[(&str, &str, Run)] = startups![
+    ("write", "writing", Call::Write(_)),
+    ("measure", "measuring", Call::Measure(_)),
+    ("trial", "trial", Call::Trial(..)),
+    ("quick", "quick plan", Call::Quick(_)),
+    ("halving", "halving", Call::Halving(_)),
+    ("table", "table", Call::Plan(_, 1)),
+    ("bidding", "bidding", Call::Plan(_, 2)),
+    ("bisection", "bisection", Call::Plan(_, 3)),
+    ("nicol", "Nicol's search", Call::Plan(_, 4)),
+    ("planfile", "plan file", Call::PlanFile(_)),
+    ("grade", "grading", Call::Grade(_)),
+];
+
+/// Of each call on lists alone: the greatest start-up work refused, one more taken; that of the first edition tested; 16 after 5.
+macro_rules! tests_of_startup {
+    ($(($name:literal, $words:literal, $call:pat),)*) => {
+        &[$(
+            (concat!("limit-startup-", $name), concat!($words, ": the greatest start-up work refused"), |l| match l.real() { 0 if matches!(l.call, $call) && l.edition() == Edition { second: true, startup: STARTUP } => 16, n => n }),
+            (concat!("more-startup-", $name), concat!($words, ": one more than the greatest start-up work taken"), |l| if matches!(l.call, $call) && l.edition() == (Edition { second: true, startup: STARTUP + 1 }) { l.with_edition(|e| Edition { startup: STARTUP, ..e }) } else { l.real() }),
+            (concat!("tested-startup-", $name), concat!($words, ": start-up work of the first edition tested"), |l| l.first_tested(matches!(l.call, $call))),
+            (concat!("order-5-16-", $name), concat!($words, ": 16 after 5"), |l| l.late_startup(matches!(l.call, $call))),
+        )*]
+    };
+}
+
+const TESTS: &[(&str, &str, Run)] = tests_of_startup![
+    ("test", "testing", Call::Test(_)),
+    ("write", "writing", Call::Write(_)),
+    ("measure", "measuring", Call::Measure(_)),
+    ("trial", "trial", Call::Trial(..)),
+    ("quick", "quick plan", Call::Quick(_)),
+    ("halving", "halving", Call::Halving(_)),
+    ("plan", "plan", Call::Plan(..)),
+    ("planfile", "plan file", Call::PlanFile(_)),
+    ("grade", "grading", Call::Grade(_)),
 ];

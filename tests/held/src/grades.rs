@@ -7,10 +7,10 @@ use crate::answers::{bytes_of, Solved};
 use crate::check::{self, Check};
 use crate::damage::{self, is_tiny};
 use crate::grading::{self, Grade};
-use crate::job::{self, machine, Job, Plan};
-use crate::limits::{plan_bytes, work_numbers, JOB_INTAKE, LONGEST_PLAN, MACHINES, PLAN_INTAKE, SPEED, TILES, TOO_MANY, WEIGHT};
+use crate::job::{self, head, machine, Job, Plan};
+use crate::limits::{plan_bytes, work_numbers, JOB_INTAKE, LONGEST_PLAN, MACHINES, PLAN_INTAKE, SPEED, STARTUP, TILES, TOO_MANY, WEIGHT};
 use crate::lists::job_with;
-use crate::planner::Call;
+use crate::planner::{Call, Edition};
 use crate::rng::Rng;
 use crate::{listing, methods, slow, small};
 
@@ -18,24 +18,34 @@ use Grade::{Best, Valid};
 
 /// A job with plans whose grade is known.
 struct Worked {
+    startup: Option<u32>,
     weights: &'static [u32],
     speeds: &'static [u32],
     plans: &'static [(&'static [usize], Grade)],
 }
 
 /// Jobs A to E, every division of each; then two best plans whose bottlenecks 6/2 and 3/1 are one fraction, a lesser load on a
-/// slower machine that is not best, one machine, and a row of weight 0 at the end that may go to any machine from the second on.
+/// slower machine that is not best, one machine, and a row of weight 0 at the end that may go to any machine from the second on. Then the
+/// second edition: A without start-up work; work that makes one machine do all, and a little less of it, with which two plans have the
+/// bottlenecks 8/4 and 2/1; tiles of weight 0, whose machines have a load; a machine without a tile, which has none; no tiles; the most.
 #[rustfmt::skip]
-const WORKED: [Worked; 9] = [
-    Worked { weights: &[1, 3, 8], speeds: &[1, 3], plans: &[(&[0, 0, 3], Valid), (&[0, 1, 3], Best), (&[0, 2, 3], Valid), (&[0, 3, 3], Valid)] },
-    Worked { weights: &[4, 3, 2, 6, 1], speeds: &[1, 2], plans: &[(&[0, 0, 5], Valid), (&[0, 1, 5], Best), (&[0, 2, 5], Valid), (&[0, 3, 5], Valid), (&[0, 4, 5], Valid), (&[0, 5, 5], Valid)] },
-    Worked { weights: &[], speeds: &[7, 2], plans: &[(&[0, 0, 0], Best)] },
-    Worked { weights: &[0, 0], speeds: &[1, 1], plans: &[(&[0, 0, 2], Best), (&[0, 1, 2], Best), (&[0, 2, 2], Best)] },
-    Worked { weights: &[6], speeds: &[1, 1], plans: &[(&[0, 0, 1], Best), (&[0, 1, 1], Best)] },
-    Worked { weights: &[1, 2, 4], speeds: &[1, 2], plans: &[(&[0, 0, 3], Valid), (&[0, 1, 3], Best), (&[0, 2, 3], Best), (&[0, 3, 3], Valid)] },
-    Worked { weights: &[9, 10], speeds: &[1, 10_000], plans: &[(&[0, 0, 2], Best), (&[0, 1, 2], Valid), (&[0, 2, 2], Valid)] },
-    Worked { weights: &[4, 0, 3], speeds: &[5], plans: &[(&[0, 3], Best)] },
-    Worked { weights: &[5, 5, 0, 0], speeds: &[1, 1, 1], plans: &[(&[0, 1, 2, 4], Best), (&[0, 1, 3, 4], Best), (&[0, 1, 4, 4], Best), (&[0, 0, 1, 4], Best), (&[0, 2, 3, 4], Valid), (&[0, 0, 4, 4], Valid), (&[0, 0, 0, 4], Valid)] },
+const WORKED: [Worked; 16] = [
+    Worked { startup: None, weights: &[1, 3, 8], speeds: &[1, 3], plans: &[(&[0, 0, 3], Valid), (&[0, 1, 3], Best), (&[0, 2, 3], Valid), (&[0, 3, 3], Valid)] },
+    Worked { startup: None, weights: &[4, 3, 2, 6, 1], speeds: &[1, 2], plans: &[(&[0, 0, 5], Valid), (&[0, 1, 5], Best), (&[0, 2, 5], Valid), (&[0, 3, 5], Valid), (&[0, 4, 5], Valid), (&[0, 5, 5], Valid)] },
+    Worked { startup: None, weights: &[], speeds: &[7, 2], plans: &[(&[0, 0, 0], Best)] },
+    Worked { startup: None, weights: &[0, 0], speeds: &[1, 1], plans: &[(&[0, 0, 2], Best), (&[0, 1, 2], Best), (&[0, 2, 2], Best)] },
+    Worked { startup: None, weights: &[6], speeds: &[1, 1], plans: &[(&[0, 0, 1], Best), (&[0, 1, 1], Best)] },
+    Worked { startup: None, weights: &[1, 2, 4], speeds: &[1, 2], plans: &[(&[0, 0, 3], Valid), (&[0, 1, 3], Best), (&[0, 2, 3], Best), (&[0, 3, 3], Valid)] },
+    Worked { startup: None, weights: &[9, 10], speeds: &[1, 10_000], plans: &[(&[0, 0, 2], Best), (&[0, 1, 2], Valid), (&[0, 2, 2], Valid)] },
+    Worked { startup: None, weights: &[4, 0, 3], speeds: &[5], plans: &[(&[0, 3], Best)] },
+    Worked { startup: None, weights: &[5, 5, 0, 0], speeds: &[1, 1, 1], plans: &[(&[0, 1, 2, 4], Best), (&[0, 1, 3, 4], Best), (&[0, 1, 4, 4], Best), (&[0, 0, 1, 4], Best), (&[0, 2, 3, 4], Valid), (&[0, 0, 4, 4], Valid), (&[0, 0, 0, 4], Valid)] },
+    Worked { startup: Some(0), weights: &[1, 3, 8], speeds: &[1, 3], plans: &[(&[0, 0, 3], Valid), (&[0, 1, 3], Best), (&[0, 2, 3], Valid), (&[0, 3, 3], Valid)] },
+    Worked { startup: Some(2), weights: &[6, 1], speeds: &[4, 1], plans: &[(&[0, 0, 2], Valid), (&[0, 1, 2], Valid), (&[0, 2, 2], Best)] },
+    Worked { startup: Some(1), weights: &[6, 1], speeds: &[4, 1], plans: &[(&[0, 0, 2], Valid), (&[0, 1, 2], Best), (&[0, 2, 2], Best)] },
+    Worked { startup: Some(3), weights: &[0, 0], speeds: &[2, 1], plans: &[(&[0, 0, 2], Valid), (&[0, 1, 2], Valid), (&[0, 2, 2], Best)] },
+    Worked { startup: Some(2), weights: &[5], speeds: &[1, 1], plans: &[(&[0, 0, 1], Best), (&[0, 1, 1], Best)] },
+    Worked { startup: Some(9), weights: &[], speeds: &[7, 2], plans: &[(&[0, 0, 0], Best)] },
+    Worked { startup: Some(1_000_000), weights: &[1_000_000, 0], speeds: &[1, 2, 3], plans: &[(&[0, 0, 0, 2], Best), (&[0, 0, 1, 2], Valid), (&[0, 0, 2, 2], Valid), (&[0, 1, 1, 2], Valid)] },
 ];
 
 /// Plan files of job A, field by field, each with what it gives.
@@ -86,7 +96,8 @@ fn both(c: &mut Check, s: &Solved, plan: &[u8], rule: Result<Grade, u32>) {
 
 fn by_lists(c: &mut Check, s: &Solved, plan: &[u8], entries: usize) {
     let (e, w, answer) = (bytes_of(&s.job.speeds), bytes_of(&s.job.weights), c.rng.pattern(8 * entries));
-    c.judge(Call::Grade, &[&e, &w, plan, &answer], Some(s));
+    let edition = c.edition(&s.job);
+    c.judge(Call::Grade(edition), &[&e, &w, plan, &answer], Some(s));
 }
 
 fn by_call(c: &mut Check, s: &Solved, plan: &[u8], room: usize) {
@@ -105,7 +116,7 @@ fn of_division(c: &mut Check, s: &Solved, division: &[usize], rule: Grade) {
 
 fn worked(c: &mut Check) {
     for k in &WORKED {
-        let s = Solved::of(&Job::new(k.speeds, k.weights));
+        let s = Solved::of(&Job::of(k.startup, k.speeds, k.weights));
         for (division, grade) in k.plans {
             for _ in 0..8 {
                 of_division(c, &s, division, *grade);
@@ -130,11 +141,34 @@ fn worked(c: &mut Check) {
         by_call(c, &a, &bytes[..room.min(31)], room);
     }
     both(c, &a, &bytes, Ok(Best));
+    // With start-up work 5 the same division has the loads 6 and 16 and is no longer best: 6/1 against 17/3 of all on machine 2. Plans
+    // whose loads leave it out, count it once, or count it without a tile are untrue.
+    let second = Solved::of(&Job::of(Some(5), &[1, 3], &[1, 3, 8]));
+    for (records, rule) in OF_A_SECOND {
+        for _ in 0..8 {
+            both(c, &second, &job::encode(&records.to_vec()), rule);
+        }
+    }
 }
 
-/// The longest job of equal tiles and machines: as many tiles on each machine, but for one, and all on one.
-fn longest(c: &mut Check) {
-    let s = Solved::of(&Job::new(&[SPEED; MACHINES], &[WEIGHT; TILES]));
+/// Plan files of A in the second edition, with start-up work 5.
+const OF_A_SECOND: [(&[[u32; 4]], Result<Grade, u32>); 11] = [
+    (&[[0, 0, 0, 1], [0, 3, 17, 3]], Ok(Best)),
+    (&[[0, 1, 6, 1], [1, 3, 16, 3]], Ok(Valid)),
+    (&[[0, 2, 9, 1], [2, 3, 13, 3]], Ok(Valid)),
+    (&[[0, 3, 17, 1], [3, 3, 0, 3]], Ok(Valid)),
+    (&[[0, 0, 0, 1], [0, 3, 12, 3]], Err(13)),
+    (&[[0, 0, 5, 1], [0, 3, 17, 3]], Err(13)),
+    (&[[0, 1, 1, 1], [1, 3, 11, 3]], Err(13)),
+    (&[[0, 1, 6, 1], [1, 3, 11, 3]], Err(13)),
+    (&[[0, 1, 1, 1], [1, 3, 16, 3]], Err(13)),
+    (&[[0, 1, 6, 1], [1, 3, 21, 3]], Err(13)),
+    (&[[0, 3, 17, 1], [3, 3, 5, 3]], Err(13)),
+];
+
+/// The longest job of equal tiles and machines, of either edition: as many tiles on each machine, but for one, and all on one.
+fn longest(c: &mut Check, startup: Option<u32>) {
+    let s = Solved::of(&Job::of(startup, &[SPEED; MACHINES], &[WEIGHT; TILES]));
     let even: Vec<usize> = (0..=MACHINES).map(|p| p * TILES / MACHINES).collect();
     of_division(c, &s, &even, Best);
     damaged(c, &s, &even);
@@ -143,21 +177,28 @@ fn longest(c: &mut Check) {
         let all: Vec<usize> = (0..=MACHINES).map(|p| if p > first { TILES } else { 0 }).collect();
         of_division(c, &s, &all, Valid);
     }
-    let nothing = Solved::of(&Job::new(&[1; MACHINES], &[0; TILES]));
+    let nothing = Solved::of(&Job::of(startup, &[1; MACHINES], &[0; TILES]));
     for _ in 0..20 {
         let division = some_division(&mut c.rng, MACHINES, TILES);
         of_division(c, &nothing, &division, Best);
     }
 }
 
-/// Every division of every job of small numbers; best or valid by every other division.
+/// Every division of every job of small numbers, and of a third of them with start-up work; best or valid by every other division.
 fn every(c: &mut Check) {
     for (tiles, machines, heaviest, fastest) in
         [(0, 3, 0, 3), (1, 3, 5, 4), (2, 3, 4, 3), (3, 3, 4, 3), (4, 3, 2, 2), (5, 3, 2, 2), (3, 4, 2, 2)]
     {
         for m in 1..=machines {
             small::every_list(m, 1, fastest, &mut |speeds| {
-                small::every_list(tiles, 0, heaviest, &mut |weights| every_division(c, &Job::new(speeds, weights)));
+                small::every_list(tiles, 0, heaviest, &mut |weights| {
+                    let job = Job::new(speeds, weights);
+                    every_division(c, &job);
+                    if c.rng.once_in(3) {
+                        let job = small::in_second(&mut c.rng, &job);
+                        every_division(c, &job);
+                    }
+                });
             });
         }
     }
@@ -194,8 +235,8 @@ fn own(c: &mut Check, job: &Job) {
     let (e, w) = (bytes_of(&job.speeds), bytes_of(&job.weights));
     let separators = c.rng.pattern(4 * (machines + 1));
     for method in 1..=4 {
-        let work = c.rng.pattern(4 * work_numbers(tiles));
-        c.judge(Call::Plan { method }, &[&e, &w, &separators, &work, &[]], Some(&s));
+        let (work, edition) = (c.rng.pattern(4 * work_numbers(tiles)), c.edition(job));
+        c.judge(Call::Plan(edition, method), &[&e, &w, &separators, &work, &[]], Some(&s));
         let plan = written(c, &e, &w, &s);
         both(c, &s, &plan, Ok(Best));
         let room = c.rng.pattern(plan_bytes(machines));
@@ -203,7 +244,8 @@ fn own(c: &mut Check, job: &Job) {
         let plan = c.after(1);
         both(c, &s, &plan, Ok(Best));
     }
-    c.judge(Call::Quick, &[&e, &w, &separators, &[]], Some(&s));
+    let edition = c.edition(job);
+    c.judge(Call::Quick(edition), &[&e, &w, &separators, &[]], Some(&s));
     let plan = written(c, &e, &w, &s);
     let level = slow::bottleneck(job, &s.quick);
     both(c, &s, &plan, Ok(if slow::less(s.bottleneck, level) { Valid } else { Best }));
@@ -212,7 +254,8 @@ fn own(c: &mut Check, job: &Job) {
 /// The plan file that the planner writes of the separators that its last call left.
 fn written(c: &mut Check, e: &[u8], w: &[u8], s: &Solved) -> Vec<u8> {
     let (separators, room) = (c.after(2), c.rng.pattern(plan_bytes(s.job.speeds.len())));
-    c.judge(Call::PlanFile, &[e, w, &separators, &room, &[]], Some(s));
+    let edition = c.edition(&s.job);
+    c.judge(Call::PlanFile(edition), &[e, w, &separators, &room, &[]], Some(s));
     c.after(3)
 }
 
@@ -283,17 +326,19 @@ fn exchanged(c: &mut Check, s: &Solved, plan: &Plan, p: usize, q: usize) {
     both(c, s, &job::encode(&broken), if broken == *plan { grade } else { rule });
 }
 
-/// The separator after machine p moved in both records, the loads as they were: untrue, but for a tile of weight 0.
+/// The separator after machine p moved in both records, the loads as they were: untrue, but for a tile of weight 0 where no start-up work
+/// comes or goes with it.
 fn moved(c: &mut Check, s: &Solved, division: &[usize], p: usize) {
     let plan = job::plan_of(&s.job, division);
     let at = division[p + 1];
-    for (to, tile) in [(at.wrapping_add(1), at), (at.wrapping_sub(1), at.wrapping_sub(1))] {
+    let (from, end) = (division[p], division[p + 2]);
+    for to in [at.wrapping_add(1), at.wrapping_sub(1)] {
         let mut broken = plan.clone();
         (broken[p][1], broken[p + 1][0]) = (to as u32, to as u32);
-        let inside = to >= division[p] && to <= division[p + 2] && to <= s.job.weights.len();
+        let inside = to >= from && to <= end;
         let rule = match inside {
             false => Err(11),
-            true if s.job.weights[tile] == 0 => grading::grade(&s.job, &job::encode(&plan), Some(s)),
+            true if s.job.load(from, to) == s.job.load(from, at) && s.job.load(to, end) == s.job.load(at, end) => grading::grade(&s.job, &job::encode(&plan), Some(s)),
             true => Err(13),
         };
         both(c, s, &job::encode(&broken), rule);
@@ -358,11 +403,12 @@ fn spoil(r: &mut Rng, plan: &mut Vec<u8>) {
 }
 
 /// The plan file of any lists with as many machines as they have, then with these faults; those that could be made are added.
-fn plan_with(r: &mut Rng, speeds: &[u32], weights: &[u32], faults: &[u32], made: &mut Vec<u32>) -> Vec<u8> {
+fn plan_with(r: &mut Rng, edition: Edition, speeds: &[u32], weights: &[u32], faults: &[u32], made: &mut Vec<u32>) -> Vec<u8> {
     let has = |n: u32| faults.contains(&n);
     let machines = speeds.len();
     let division = some_division(r, machines.max(1), weights.len());
-    let load = |p: usize| weights[division[p]..division[p + 1]].iter().fold(0u32, |sum, &w| sum.wrapping_add(w));
+    let startup = |p: usize| if division[p] == division[p + 1] { 0 } else { edition.counts().unwrap_or(0) };
+    let load = |p: usize| weights[division[p]..division[p + 1]].iter().fold(startup(p), |sum, &w| sum.wrapping_add(w));
     let mut plan: Plan = (0..machines).map(|p| [division[p] as u32, division[p + 1] as u32, load(p), speeds[p]]).collect();
     // The first record, the last, or one between; for 13 and 11 each for itself.
     let places = [0, machines / 2, machines.saturating_sub(1)];
@@ -390,26 +436,26 @@ fn plan_with(r: &mut Rng, speeds: &[u32], weights: &[u32], faults: &[u32], made:
     bytes
 }
 
-/// Every set of faults by lists: the first of 5, 6, 7, 8, 12, 11, 13 counts.
+/// Every set of faults by lists: the first of 16, 5, 6, 7, 8, 12, 11, 13 counts.
 fn together(c: &mut Check, rounds: usize) {
-    let order = [5, 6, 7, 8, 12, 11, 13];
+    let order = [16, 5, 6, 7, 8, 12, 11, 13];
     for set in 1u32..1 << order.len() {
         let faults: Vec<u32> = (0..order.len()).filter(|k| set >> k & 1 == 1).map(|k| order[k]).collect();
         for _ in 0..rounds {
-            let (speeds, weights, mut made) = job_with(&mut c.rng, &faults);
-            let plan = plan_with(&mut c.rng, &speeds, &weights, &faults, &mut made);
+            let (edition, speeds, weights, mut made) = job_with(&mut c.rng, &faults);
+            let plan = plan_with(&mut c.rng, edition, &speeds, &weights, &faults, &mut made);
             let entries = c.rng.below(3);
             let answer = c.rng.pattern(8 * entries);
             let number = order.iter().copied().find(|n| made.contains(n)).unwrap_or(0);
-            c.refuse(Call::Grade, &[&bytes_of(&speeds), &bytes_of(&weights), &plan, &answer], number);
+            c.refuse(Call::Grade(edition), &[&bytes_of(&speeds), &bytes_of(&weights), &plan, &answer], number);
         }
     }
 }
 
-/// Every set of faults by the C call. A record spoilt for 3 is the first, one for 4 the last, so that 3 comes before 5 and 6, and 4
-/// after them.
+/// Every set of faults by the C call. A record spoilt for 3 is the first, so is one for 16; one for 4 is the last, so that 3 and 16 come
+/// before 5 and 6, and 4 after them. One for 15 stands behind all others, or as the second record behind a first one of kind 3.
 fn together_in_c(c: &mut Check, rounds: usize) {
-    let order = [2, 3, 5, 6, 4, 7, 8, 9, 12, 11, 13];
+    let order = [2, 3, 16, 5, 6, 4, 15, 7, 8, 9, 12, 11, 13];
     for set in 1u32..1 << order.len() {
         let faults: Vec<u32> = (0..order.len()).filter(|k| set >> k & 1 == 1).map(|k| order[k]).collect();
         for _ in 0..rounds {
@@ -420,9 +466,17 @@ fn together_in_c(c: &mut Check, rounds: usize) {
 
 fn one_set_in_c(c: &mut Check, order: &[u32], faults: &[u32]) {
     let has = |n: u32| faults.contains(&n);
-    let (speeds, weights, mut made) = job_with(&mut c.rng, faults);
-    let plan = plan_with(&mut c.rng, &speeds, &weights, faults, &mut made);
-    let mut file = Job { speeds, weights }.file();
+    let (edition, speeds, weights, mut made) = job_with(&mut c.rng, faults);
+    let plan = plan_with(&mut c.rng, edition, &speeds, &weights, faults, &mut made);
+    let mut order = order.to_vec();
+    let mut file = Job { startup: edition.counts(), speeds, weights }.file();
+    let kind_3 = head(c.rng.pick(&[0, 1, STARTUP, STARTUP + 1, u32::MAX]));
+    let early = has(15) && edition.second && c.rng.once_in(2);
+    if early {
+        file.splice(8..8, kind_3);
+        order.retain(|&n| n != 15);
+        order.insert(3, 15);
+    }
     if has(3) {
         let place = c.rng.below(4);
         file[place] ^= 0x80;
@@ -431,6 +485,12 @@ fn one_set_in_c(c: &mut Check, order: &[u32], faults: &[u32]) {
     if has(4) {
         file.extend(machine(7));
         made.push(4);
+    }
+    if has(15) {
+        if !early {
+            file.extend(kind_3);
+        }
+        made.push(15);
     }
     if has(2) {
         let more = 1 + c.rng.below(7);
@@ -504,7 +564,7 @@ fn said_refused(c: &mut Check, program: &str, folder: &std::path::Path, file: &[
 fn rows(c: &mut Check, program: &str, folder: &std::path::Path) {
     for machines in [MACHINES - 1, MACHINES] {
         for tiles in [0, 1, TILES] {
-            let job = some_job(&mut c.rng, machines, tiles);
+            let job = small::sized(&mut c.rng, machines, tiles);
             let plan = grading::file(&job, &some_division(&mut c.rng, machines, tiles));
             said(c, program, folder, &job.file(), &plan);
             said_refused(c, program, folder, &job.file(), &[&plan[..], &[0; 16]].concat(), 12);
@@ -513,7 +573,7 @@ fn rows(c: &mut Check, program: &str, folder: &std::path::Path) {
     }
     for machines in TOO_MANY {
         for tiles in [0, 1, TILES, TILES + 1] {
-            let job = some_job(&mut c.rng, machines, tiles);
+            let job = small::sized(&mut c.rng, machines, tiles);
             let plan = grading::file(&job, &some_division(&mut c.rng, machines, tiles));
             said_refused(c, program, folder, &job.file(), &plan, 7);
             said_refused(c, program, folder, &job.file(), &[], 7);
@@ -529,7 +589,7 @@ fn program(c: &mut Check, times: usize) {
     for k in 0..300 * times {
         let (most, longest) = if k % 10 == 0 { (MACHINES, TILES + 1) } else { (4, 8) };
         let (machines, tiles) = (1 + c.rng.below(most), c.rng.below(longest));
-        let job = some_job(&mut c.rng, machines, tiles);
+        let job = small::sized(&mut c.rng, machines, tiles);
         let s = Solved::of(&job);
         let (mut file, plan) = (job.file(), some_plan(&mut c.rng, &s));
         if c.rng.once_in(5) {
@@ -537,7 +597,7 @@ fn program(c: &mut Check, times: usize) {
         }
         said(c, &program, &folder, &file, &plan);
     }
-    let job = some_job(&mut c.rng, MACHINES, TILES);
+    let job = small::sized(&mut c.rng, MACHINES, TILES);
     let (file, plan) = (job.file(), grading::file(&job, &methods::quick(&job)));
     for more in [0, 1, 8, 9, 16, 17, 100_000] {
         let filler = c.rng.pattern(more);
@@ -551,15 +611,9 @@ fn program(c: &mut Check, times: usize) {
     let _ = std::fs::remove_dir_all(&folder);
 }
 
-fn some_job(r: &mut Rng, machines: usize, tiles: usize) -> Job {
-    let speeds = small::speeds(r, machines);
-    let weights = small::weights(r, tiles, &speeds);
-    Job { speeds, weights }
-}
-
 /// Damaged plans and the planner's own files of random jobs.
 fn random(c: &mut Check, machines: usize, tiles: usize) {
-    let job = some_job(&mut c.rng, machines, tiles);
+    let job = small::sized(&mut c.rng, machines, tiles);
     own(c, &job);
     let s = Solved::of(&job);
     let back = grading::backwards(&job, s.bottleneck);
@@ -575,7 +629,9 @@ fn random(c: &mut Check, machines: usize, tiles: usize) {
 
 pub fn run(c: &mut Check, times: usize) {
     worked(c);
-    longest(c);
+    for startup in [None, Some(STARTUP)] {
+        longest(c, startup);
+    }
     every(c);
     for _ in 0..1_200 * times {
         let (machines, tiles) = (1 + c.rng.below(4), c.rng.below(9));
@@ -585,7 +641,7 @@ pub fn run(c: &mut Check, times: usize) {
         let (machines, tiles) = (1 + c.rng.below(MACHINES), c.rng.below(TILES + 1));
         random(c, machines, tiles);
     }
-    together(c, 24 * times);
-    together_in_c(c, 6 * times);
+    together(c, 16 * times);
+    together_in_c(c, 2 * times);
     program(c, times);
 }

@@ -35,7 +35,7 @@ pub fn read(job: &Job, plan: &[u8]) -> Result<Vec<usize>, u32> {
     }
     let division: Vec<usize> = separators.iter().map(|&s| s as usize).collect();
     let is_true = |p: usize| {
-        let load = job.weight(division[p], division[p + 1]);
+        let load = job.load(division[p], division[p + 1]);
         records[p][2] as u128 == load && records[p][3] == job.speeds[p]
     };
     if !(0..records.len()).all(is_true) {
@@ -85,7 +85,7 @@ pub fn backwards(job: &Job, bound: Bound) -> Vec<usize> {
     let mut at = job.weights.len();
     let mut separators = vec![at];
     for &e in job.speeds[1..].iter().rev() {
-        let mut load = 0;
+        let mut load = job.c();
         while at > 0 && !less(bound, (load + job.weights[at - 1] as u128, e as u128)) {
             at -= 1;
             load += job.weights[at] as u128;

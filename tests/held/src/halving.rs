@@ -82,8 +82,9 @@ pub fn by_sums(job: &Job) -> Vec<usize> {
     list
 }
 
-/// What P times the greatest load may be at most, 16.7: Wtot and P − 1 times the heaviest weight.
+/// What P times the greatest load may be at most, 16.7: Wtot and P − 1 times the heaviest weight, and P times the start-up work.
 pub fn most(job: &Job) -> u128 {
     let heaviest = job.weights.iter().copied().max().unwrap_or(0) as u128;
-    job.weight(0, job.weights.len()) + heaviest * (job.speeds.len() as u128 - 1)
+    let machines = job.speeds.len() as u128;
+    job.weight(0, job.weights.len()) + heaviest * (machines - 1) + job.c() * machines
 }

@@ -1,9 +1,11 @@
 //! Job files, read and written from the document alone.
 
-use crate::limits::{plan_bytes, MACHINES, SPEED, TILES, WEIGHT};
+use crate::limits::{plan_bytes, MACHINES, SPEED, STARTUP, TILES, WEIGHT};
 
 #[derive(Clone, Debug, PartialEq)]
 pub struct Job {
+    /// The start-up work c of a job of the second edition; none in the first.
+    pub startup: Option<u32>,
     pub speeds: Vec<u32>,
     pub weights: Vec<u32>,
 }
@@ -23,34 +25,66 @@ pub fn tile(weight: u32) -> Record {
     record(2, weight)
 }
 
+/// The first record of a job of the second edition.
+pub fn head(startup: u32) -> Record {
+    record(3, startup)
+}
+
 impl Job {
+    /// A job of the first edition.
     pub fn new(speeds: &[u32], weights: &[u32]) -> Job {
-        Job { speeds: speeds.to_vec(), weights: weights.to_vec() }
+        Job::of(None, speeds, weights)
+    }
+
+    pub fn of(startup: Option<u32>, speeds: &[u32], weights: &[u32]) -> Job {
+        Job { startup, speeds: speeds.to_vec(), weights: weights.to_vec() }
     }
 
     pub fn file(&self) -> Vec<u8> {
-        let mut records: Vec<Record> = self.speeds.iter().map(|&e| machine(e)).collect();
+        let mut records: Vec<Record> = self.startup.iter().map(|&c| head(c)).collect();
+        records.extend(self.speeds.iter().map(|&e| machine(e)));
         records.extend(self.weights.iter().map(|&w| tile(w)));
         records.concat()
+    }
+
+    pub fn is_second(&self) -> bool {
+        self.startup.is_some()
+    }
+
+    /// The start-up work that counts: 0 in the first edition.
+    pub fn c(&self) -> u128 {
+        self.startup.unwrap_or(0) as u128
     }
 
     /// The weight of tiles a + 1 to b.
     pub fn weight(&self, a: usize, b: usize) -> u128 {
         self.weights[a..b].iter().map(|&w| w as u128).sum()
     }
+
+    /// The load of a share of tiles a + 1 to b: the start-up work and their weight; 0 if there are none.
+    pub fn load(&self, a: usize, b: usize) -> u128 {
+        if a == b {
+            return 0;
+        }
+        self.c() + self.weight(a, b)
+    }
 }
 
 impl Job {
     /// The tests of one record in their order; a good one is added.
-    fn take(&mut self, r: &[u8]) -> Result<(), u32> {
+    fn take(&mut self, r: &[u8], is_first: bool) -> Result<(), u32> {
         let value = u32::from_le_bytes([r[4], r[5], r[6], r[7]]);
         let is_machine = r[0] == 1;
         let is_tile = r[0] == 2;
-        if !(is_machine || is_tile) || r[1] != 0 || r[2] != 0 || r[3] != 0 {
+        let is_head = r[0] == 3;
+        if !(is_machine || is_tile || is_head) || r[1] != 0 || r[2] != 0 || r[3] != 0 {
             return Err(3);
         }
         if is_machine && !self.weights.is_empty() {
             return Err(4);
+        }
+        if is_head && !is_first {
+            return Err(15);
         }
         if is_machine && (value < 1 || value > SPEED) {
             return Err(5);
@@ -58,20 +92,27 @@ impl Job {
         if is_tile && value > WEIGHT {
             return Err(6);
         }
+        if is_head {
+            if value > STARTUP {
+                return Err(16);
+            }
+            self.startup = Some(value);
+            return Ok(());
+        }
         let list = if is_machine { &mut self.speeds } else { &mut self.weights };
         list.push(value);
         Ok(())
     }
 }
 
-/// The tests 2 to 6 of a file: its lists, however long, or the number of the refusal.
+/// The tests of a file's length and records: its lists, however long, or the number of the refusal.
 pub fn parse(file: &[u8]) -> Result<Job, u32> {
     if file.len() % 8 != 0 {
         return Err(2);
     }
-    let mut job = Job { speeds: Vec::new(), weights: Vec::new() };
-    for r in file.chunks(8) {
-        job.take(r)?;
+    let mut job = Job::new(&[], &[]);
+    for (k, r) in file.chunks(8).enumerate() {
+        job.take(r, k == 0)?;
     }
     Ok(job)
 }
@@ -102,7 +143,7 @@ pub fn plan_of(job: &Job, separators: &[usize]) -> Plan {
     let mut plan = Plan::new();
     for (p, &speed) in job.speeds.iter().enumerate() {
         let (a, b) = (separators[p], separators[p + 1]);
-        plan.push([a as u32, b as u32, job.weight(a, b) as u32, speed]);
+        plan.push([a as u32, b as u32, job.load(a, b) as u32, speed]);
     }
     plan
 }

@@ -1,13 +1,14 @@
-//! The jobs A to E, the edge lines of the scope, section 11, and the rows F to L of section 16, with the values written there, and more
-//! jobs, worked by hand.
+//! The jobs A to E, the edge lines of the scope, section 11, the rows F to L of section 16 and the jobs M to Q of section 17, with the values
+//! written there, and more jobs, of both editions, worked by hand.
 
 use crate::answers::{bytes_of, After, Solved};
 use crate::check::Check;
 use crate::damage::is_tiny;
-use crate::job::{self, machine, tile, Job, Record};
-use crate::limits::{BOUND_LOAD, BOUND_SPEED, LISTING, LONGEST_HALVED, LONGEST_PLAN, MACHINES, PLAN_INTAKE, SPEED, TILES, TOO_MANY, WEIGHT};
+use crate::job::{self, head, machine, tile, Job, Record};
+use crate::limits::{BOUND_LOAD, BOUND_SPEED, LISTING, LONGEST_HALVED, LONGEST_JOB, LONGEST_PLAN, MACHINES, PLAN_INTAKE};
+use crate::limits::{SPEED, STARTUP, TILES, TOO_MANY, WEIGHT};
 use crate::methods::{self, Trial};
-use crate::planner::Call;
+use crate::planner::{Call, Edition};
 use crate::slow::{self, Bound};
 use crate::trials::{self, Case};
 use crate::{every, fast, halving};
@@ -54,6 +55,35 @@ const ROUNDED: [Known; 5] = [
     Known { name: "more than a thousandth", weights: &[1_000_000, 998_001], speeds: &[1, 1], separators: &[0, 1, 2], bottleneck: (1_000_000, 1), counts: [1, 2, 1, 2], allowances: [2, 3, 21, 2], imbalance: 2 },
     Known { name: "the ideal 6/3 met by 4/2", weights: &[4, 2], speeds: &[2, 1], separators: &[0, 1, 2], bottleneck: (4, 2), counts: [1, 1, 1, 2], allowances: [2, 3, 6, 2], imbalance: 0 },
     Known { name: "a long row, one unit from even", weights: &ONE_LIGHTER, speeds: &[1, 1], separators: &[0, 1024, 2048], bottleneck: (1_024_000_000, 1), counts: [1025, 2, 1, 11], allowances: [2048, 2049, 21, 12], imbalance: 1 },
+];
+
+/// The jobs of the second edition of the scope, section 17, each with its start-up work.
+#[rustfmt::skip]
+const STARTED: [(u32, Known); 4] = [
+    (2, Known { name: "M", weights: &[1, 3, 8], speeds: &[1, 3], separators: &[0, 1, 3], bottleneck: (13, 3), counts: [2, 2, 2, 2], allowances: [3, 4, 8, 2], imbalance: 445 }),
+    (3, Known { name: "N", weights: &[1, 4, 4], speeds: &[1, 4], separators: &[0, 0, 3], bottleneck: (12, 4), counts: [1, 2, 2, 2], allowances: [3, 4, 8, 2], imbalance: 667 }),
+    (5, Known { name: "O", weights: &[0, 0], speeds: &[1, 1], separators: &[0, 2, 2], bottleneck: (5, 1), counts: [1, 2, 1, 2], allowances: [2, 3, 4, 2], imbalance: 0 }),
+    (4, Known { name: "Q", weights: &[5, 2], speeds: &[3], separators: &[0, 2], bottleneck: (11, 3), counts: [0, 2, 1, 0], allowances: [0, 2, 6, 0], imbalance: 572 }),
+];
+
+/// Of the second edition, worked by hand, each with its start-up work: A, which one machine does alone; one machine, without start-up work,
+/// with some, without tiles, and with the most of everything; tiles of weight 0; no tiles; a second machine left out, where bidding
+/// makes as many trials as it may; three machines; and E.
+#[rustfmt::skip]
+const SECOND: [(u32, Known); 13] = [
+    (5, Known { name: "A with start-up work", weights: &[1, 3, 8], speeds: &[1, 3], separators: &[0, 0, 3], bottleneck: (17, 3), counts: [1, 2, 3, 2], allowances: [3, 4, 8, 2], imbalance: 889 }),
+    (0, Known { name: "A in the second edition", weights: &[1, 3, 8], speeds: &[1, 3], separators: &[0, 1, 3], bottleneck: (11, 3), counts: [2, 2, 2, 2], allowances: [3, 4, 8, 2], imbalance: 223 }),
+    (0, Known { name: "one machine in the second edition", weights: &[4, 0, 3], speeds: &[5], separators: &[0, 3], bottleneck: (7, 5), counts: [0, 1, 1, 0], allowances: [0, 2, 6, 0], imbalance: 0 }),
+    (2, Known { name: "one machine with start-up work", weights: &[4, 0, 3], speeds: &[5], separators: &[0, 3], bottleneck: (9, 5), counts: [0, 2, 1, 0], allowances: [0, 2, 6, 0], imbalance: 286 }),
+    (9, Known { name: "one machine with start-up work and no tiles", weights: &[], speeds: &[5], separators: &[0, 0], bottleneck: (0, 5), counts: [0, 1, 1, 0], allowances: [0, 2, 7, 0], imbalance: 0 }),
+    (1_000_000, Known { name: "one machine, the most of everything", weights: &[WEIGHT; TILES], speeds: &[1], separators: &[0, 2048], bottleneck: (2_049_000_000, 1), counts: [0, 2, 1, 0], allowances: [0, 2, 22, 0], imbalance: 1 }),
+    (3, Known { name: "start-up work for tiles of weight 0", weights: &[0, 0], speeds: &[2, 1], separators: &[0, 2, 2], bottleneck: (3, 2), counts: [2, 2, 2, 2], allowances: [2, 3, 5, 2], imbalance: 0 }),
+    (1_000_000, Known { name: "start-up work and no tiles", weights: &[], speeds: &[7, 2], separators: &[0, 0, 0], bottleneck: (0, 7), counts: [0, 1, 1, 0], allowances: [0, 1, 26, 0], imbalance: 0 }),
+    (2, Known { name: "a machine left out", weights: &[6, 1], speeds: &[4, 1], separators: &[0, 2, 2], bottleneck: (9, 4), counts: [2, 3, 3, 1], allowances: [2, 3, 9, 2], imbalance: 608 }),
+    (1, Known { name: "a candidate between, with start-up work", weights: &[3, 2, 3, 1, 2], speeds: &[1, 2, 3], separators: &[0, 0, 2, 5], bottleneck: (6, 2), counts: [4, 3, 3, 5], allowances: [10, 11, 7, 6], imbalance: 637 }),
+    (4, Known { name: "the first candidate, with start-up work", weights: &[2, 2, 2], speeds: &[1, 1, 1], separators: &[0, 1, 2, 3], bottleneck: (6, 1), counts: [4, 2, 1, 4], allowances: [6, 7, 4, 4], imbalance: 2000 }),
+    (2, Known { name: "three machines with start-up work", weights: &[2, 2, 5], speeds: &[1, 1, 2], separators: &[0, 1, 2, 3], bottleneck: (4, 1), counts: [5, 2, 1, 4], allowances: [6, 7, 6, 4], imbalance: 778 }),
+    (1, Known { name: "E with start-up work", weights: &[6], speeds: &[1, 1], separators: &[0, 1, 1], bottleneck: (7, 1), counts: [1, 2, 1, 1], allowances: [1, 2, 4, 1], imbalance: 1334 }),
 ];
 
 /// As many and as heavy tiles as there can be, but the first one unit lighter.
@@ -105,9 +135,21 @@ const MORE_ROWS: [Row; 11] = [
     Row { name: "worse than the quick plan, 0 1 2 3 3 4 6 7 8", weights: &[1, 2, 2, 2, 1, 1, 2, 1], speeds: &[1; 8], separators: &[0, 1, 2, 2, 3, 4, 5, 6, 8], bottleneck: (3, 1), splits: [4, 0], meets: false },
 ];
 
+/// Of the second edition, worked by hand, each with its start-up work: it changes no separator, and each machine with a tile has it.
+#[rustfmt::skip]
+const SECOND_ROWS: [(u32, Row); 7] = [
+    (2, Row { name: "G with start-up work", weights: &[1, 2, 1], speeds: &[1, 1], separators: &[0, 1, 3], bottleneck: (5, 1), splits: [1, 0], meets: true }),
+    (9, Row { name: "F with start-up work", weights: &[4, 3, 2, 6, 1], speeds: &[7], separators: &[0, 5], bottleneck: (25, 7), splits: [0, 0], meets: true }),
+    (4, Row { name: "I with start-up work", weights: &[5, 1, 1, 1, 4, 2, 2, 2], speeds: &[3, 3, 3, 3], separators: &[0, 1, 4, 5, 8], bottleneck: (10, 3), splits: [1, 0], meets: false }),
+    (5, Row { name: "K with start-up work", weights: &[], speeds: &[3, 3], separators: &[0, 0, 0], bottleneck: (0, 3), splits: [0, 0], meets: false }),
+    (3, Row { name: "L with start-up work", weights: &[6], speeds: &[1, 1, 1, 1], separators: &[0, 0, 0, 0, 1], bottleneck: (9, 1), splits: [2, 0], meets: true }),
+    (7, Row { name: "nothing weighs, with start-up work", weights: &[0, 0, 0], speeds: &[2, 2, 2, 2], separators: &[0, 0, 0, 0, 3], bottleneck: (7, 2), splits: [0, 0], meets: true }),
+    (0, Row { name: "J in the second edition", weights: &[1, 3, 1, 2, 3], speeds: &[1, 1, 1, 1], separators: &[0, 1, 3, 4, 5], bottleneck: (4, 1), splits: [1, 0], meets: false }),
+];
+
 /// The solver must give what is known of a row, then the planner; then with lists of every length.
-fn halved(c: &mut Check, row: &Row) {
-    let job = Job::new(row.speeds, row.weights);
+fn halved(c: &mut Check, startup: Option<u32>, row: &Row) {
+    let job = Job::of(startup, row.speeds, row.weights);
     let found = halving::in_turn(&job);
     let separators: Vec<usize> = row.separators.iter().map(|&s| s as usize).collect();
     let mut good = found.separators == separators && halving::by_sums(&job) == separators;
@@ -124,13 +166,14 @@ fn halved(c: &mut Check, row: &Row) {
 
 /// The planner must give these separators and this bottleneck, in lists that are longer.
 fn halved_as(c: &mut Check, job: &Job, separators: &[u32], (load, speed): (u64, u64)) {
-    let lent = c.rng.pattern(4 * separators.len() + 12);
-    on_lists(c, job, Call::Halving, &lent, Ok((separators, &[load, speed])));
+    let (lent, edition) = (c.rng.pattern(4 * separators.len() + 12), c.edition(job));
+    on_lists(c, job, Call::Halving(edition), &lent, Ok((separators, &[load, speed])));
 }
 
 /// A call on lists must leave these separators and say these numbers, or be refused.
 fn on_lists(c: &mut Check, job: &Job, call: Call, lent: &[u8], wanted: Result<(&[u32], &[u64]), u32>) {
     let (e, w, answer) = (bytes_of(&job.speeds), bytes_of(&job.weights), c.rng.pattern(8 * 4));
+    assert_eq!(call.edition().and_then(Edition::counts), job.startup);
     let wanted = wanted.map(|(separators, numbers)| {
         let said = numbers.iter().flat_map(|n| n.to_le_bytes()).collect();
         let list = |front: Vec<u8>| After { front, free: 0 };
@@ -142,7 +185,10 @@ fn on_lists(c: &mut Check, job: &Job, call: Call, lent: &[u8], wanted: Result<(&
 /// The rows as the scope writes them, and what it says of I and J beside them; then 16.10, and the longest row at the limits.
 fn rows(c: &mut Check) {
     for row in ROWS.iter().chain(&MORE_ROWS) {
-        halved(c, row);
+        halved(c, None, row);
+    }
+    for (startup, row) in &SECOND_ROWS {
+        halved(c, Some(*startup), row);
     }
     let quick = methods::quick(&Job::new(ROWS[3].speeds, ROWS[3].weights));
     let best = fast::solve(&Job::new(ROWS[4].speeds, ROWS[4].weights)).1;
@@ -154,15 +200,19 @@ fn rows(c: &mut Check) {
     }
     for (speeds, room) in [(&[1, 2][..], 0), (&[1, 2], 3), (&[5, 5, 5], 0), (&[5, 5, 5], 4)] {
         let (e, lent) = (bytes_of(speeds), c.rng.pattern(4 * room));
-        c.refuse(Call::Halving, &[&e, &[], &lent, &[]], 14);
+        for edition in [Edition::FIRST, Edition { second: true, startup: 1 }] {
+            c.refuse(Call::Halving(edition), &[&e, &[], &lent, &[]], 14);
+        }
     }
     // As many and as heavy tiles as there can be; then as many as leave one more than goes evenly, which the last machine takes.
     let each = TILES / LONGEST_HALVED;
     for (tiles, share) in [(TILES, each), (TILES - LONGEST_HALVED + 1, each - 1)] {
         let mut separators: Vec<u32> = (0..=LONGEST_HALVED).map(|p| (p * share) as u32).collect();
         separators[LONGEST_HALVED] = tiles as u32;
-        let job = Job::new(&[SPEED; LONGEST_HALVED], &vec![WEIGHT; tiles]);
-        halved_as(c, &job, &separators, (each as u64 * WEIGHT as u64, SPEED as u64));
+        for startup in [None, Some(0), Some(STARTUP)] {
+            let job = Job::of(startup, &[SPEED; LONGEST_HALVED], &vec![WEIGHT; tiles]);
+            halved_as(c, &job, &separators, (startup.unwrap_or(0) as u64 + each as u64 * WEIGHT as u64, SPEED as u64));
+        }
     }
 }
 
@@ -188,8 +238,8 @@ fn in_scope(c: &mut Check, words: &str) {
 }
 
 /// The solver must give what is known, then the planner what the solver gives: of a tiny job with lists of all lengths together.
-fn marked(c: &mut Check, k: &Known) {
-    let job = Job::new(k.speeds, k.weights);
+fn marked(c: &mut Check, startup: Option<u32>, k: &Known) {
+    let job = Job::of(startup, k.speeds, k.weights);
     let solved = Solved::of(&job);
     let mut good = solved.best == k.separators && solved.bottleneck == k.bottleneck && solved.counts == k.counts;
     good &= solved.imbalance == k.imbalance;
@@ -206,12 +256,50 @@ fn marked(c: &mut Check, k: &Known) {
     }
 }
 
-/// The quick plan of A, and two measurings.
+/// The quick plan of A, and two measurings: in the first edition with any start-up work beside them, in the second with 0, and with 5.
 fn lines_of_a(c: &mut Check) {
-    let a = Job::new(JOBS[0].speeds, JOBS[0].weights);
-    on_lists(c, &a, Call::Quick, &bytes_of(&[9, 8, 7]), Ok((&[0, 2, 3], &[4, 1])));
-    on_lists(c, &a, Call::Measure, &bytes_of(&[0, 3, 3]), Ok((&[0, 3, 3], &[12, 1])));
-    on_lists(c, &a, Call::Measure, &bytes_of(&[0, 2, 2]), Err(11));
+    let lines = |c: &mut Check, n: Edition, quick: [u64; 2], all_on_first: [u64; 2]| {
+        let a = Job::of(n.counts(), JOBS[0].speeds, JOBS[0].weights);
+        on_lists(c, &a, Call::Quick(n), &bytes_of(&[9, 8, 7]), Ok((&[0, 2, 3], &quick)));
+        on_lists(c, &a, Call::Measure(n), &bytes_of(&[0, 3, 3]), Ok((&[0, 3, 3], &all_on_first)));
+        on_lists(c, &a, Call::Measure(n), &bytes_of(&[0, 2, 2]), Err(11));
+    };
+    for startup in [0, 5, STARTUP, STARTUP + 1, u32::MAX] {
+        lines(c, Edition { second: false, startup }, [4, 1], [12, 1]);
+    }
+    lines(c, Edition { second: true, startup: 0 }, [4, 1], [12, 1]);
+    lines(c, Edition { second: true, startup: 5 }, [9, 1], [17, 1]);
+    // All on machine 2: its load has the start-up work, the first machine's is 0.
+    let a = Job::of(Some(5), JOBS[0].speeds, JOBS[0].weights);
+    on_lists(c, &a, Call::Measure(Edition { second: true, startup: 5 }), &bytes_of(&[0, 0, 3]), Ok((&[0, 0, 3], &[17, 3])));
+}
+
+/// The rows of section 17 and the sentences beside them: the quick plan of M, N without its start-up work, and no tiles.
+fn lines_of_section_17(c: &mut Check) {
+    for (startup, k) in &STARTED {
+        let (weights, speeds) = (text(k.weights), text(k.speeds));
+        let separators = text(&k.separators.iter().map(|&s| s as u32).collect::<Vec<_>>());
+        let list = |four: [u64; 4]| four.map(|n| n.to_string()).join(", ");
+        let ((load, speed), counts, allowances) = (k.bottleneck, list(k.counts), list(k.allowances));
+        let front = format!("| {} | {} | {} | {} | {} | {}/{} |", k.name, weights, speeds, startup, separators, load, speed);
+        in_scope(c, &format!("{} {} | {} | {} |", front, k.imbalance, counts, allowances));
+    }
+    let (startup, m) = &STARTED[0];
+    let n = Edition { second: true, startup: *startup };
+    let m = Job::of(n.counts(), m.speeds, m.weights);
+    on_lists(c, &m, Call::Quick(n), &bytes_of(&[9, 8, 7]), Ok((&[0, 2, 3], &[6, 1])));
+    in_scope(c, "The quick plan of M is 0 2 3 with bottleneck 6/1.");
+    let without = Job::new(STARTED[1].1.speeds, STARTED[1].1.weights);
+    let good = slow::solve(&without).0 == [0, 1, 3] && slow::less((8, 4), slow::bottleneck(&without, &[0, 0, 3]));
+    if !good {
+        c.fail("the solver's plan of N without start-up work is another", String::new());
+    }
+    every::job(c, &Solved::of(&without), true);
+    in_scope(c, "Of N only machine 2 has tiles; without c both have: the plan is 0 1 3 then, and 0 0 3 is not best.");
+    let none = Job::of(Some(9), &[7, 2], &[]);
+    on_lists(c, &none, Call::Measure(Edition { second: true, startup: 9 }), &bytes_of(&[0, 0, 0]), Ok((&[0, 0, 0], &[0, 7])));
+    every::job(c, &Solved::of(&none), true);
+    in_scope(c, "on speeds 7 2 with c = 9 the bottleneck is 0/7.");
 }
 
 /// A trial: where it fails, its next bid.
@@ -254,9 +342,26 @@ const MORE_TRIALS: [Tried; 14] = [
     Tried { name: "the greatest bound", weights: &[WEIGHT; TILES], speeds: &[1, 1], bound: (BOUND_LOAD, 1), next: None, separators: &[0, 2048, 2048] },
 ];
 
+/// Of the second edition, each with its start-up work: that of the scope, the others worked by hand.
+#[rustfmt::skip]
+const SECOND_TRIALS: [(u32, Tried); 12] = [
+    (2, Tried { name: "A trial of M", weights: STARTED[0].1.weights, speeds: STARTED[0].1.speeds, bound: (1, 1), next: Some((3, 1)), separators: &[0, 0, 1] }),
+    (5, Tried { name: "A with start-up work, at the ideal", weights: JOBS[0].weights, speeds: JOBS[0].speeds, bound: (3, 1), next: Some((17, 3)), separators: &[0, 0, 2] }),
+    (5, Tried { name: "A with start-up work, at its bottleneck", weights: JOBS[0].weights, speeds: JOBS[0].speeds, bound: (17, 3), next: None, separators: &[0, 0, 3] }),
+    (5, Tried { name: "A with start-up work, at 6/1", weights: JOBS[0].weights, speeds: JOBS[0].speeds, bound: (6, 1), next: None, separators: &[0, 1, 3] }),
+    (0, Tried { name: "A in the second edition", weights: JOBS[0].weights, speeds: JOBS[0].speeds, bound: (3, 1), next: Some((11, 3)), separators: &[0, 1, 2] }),
+    (3, Tried { name: "just the start-up work", weights: &[0, 4], speeds: &[1, 1], bound: (3, 1), next: Some((7, 1)), separators: &[0, 1, 1] }),
+    (3, Tried { name: "less than the start-up work", weights: &[0, 4], speeds: &[1, 1], bound: (2, 1), next: Some((3, 1)), separators: &[0, 0, 0] }),
+    (9, Tried { name: "start-up work and no tiles, at nought", weights: &[], speeds: &[7, 2], bound: (0, 1), next: None, separators: &[0, 0, 0] }),
+    (4, Tried { name: "one machine with start-up work", weights: &[3], speeds: &[2], bound: (3, 1), next: Some((7, 2)), separators: &[0, 0] }),
+    (4, Tried { name: "the first machine cannot start", weights: &[1, 1, 1, 4], speeds: &[1, 2, 3], bound: (5, 2), next: Some((6, 2)), separators: &[0, 0, 1, 3] }),
+    (1_000_000, Tried { name: "the most of everything, at 100,000/1", weights: &[WEIGHT; TILES], speeds: &[SPEED; 2], bound: (BOUND_LOAD, BOUND_SPEED), next: Some((1_001_000_000, 10_000)), separators: &[0, 999, 1998] }),
+    (1_000_000, Tried { name: "the most of everything, at the greatest bound", weights: &[WEIGHT; TILES], speeds: &[1, 1], bound: (BOUND_LOAD, 1), next: None, separators: &[0, 2048, 2048] }),
+];
+
 /// The solver must give what is known of a trial, then the planner, whatever the list held.
-fn tried(c: &mut Check, k: &Tried) {
-    let job = Job::new(k.speeds, k.weights);
+fn tried(c: &mut Check, startup: Option<u32>, k: &Tried) {
+    let job = Job::of(startup, k.speeds, k.weights);
     let bound = (k.bound.0 as u128, k.bound.1 as u128);
     let separators: Vec<usize> = k.separators.iter().map(|&s| s as usize).collect();
     let found = methods::trial(&job, bound);
@@ -268,7 +373,8 @@ fn tried(c: &mut Check, k: &Tried) {
     let said = k.next.map_or(vec![1], |(load, speed)| vec![0, load, speed]);
     let lent = c.rng.pattern(4 * k.separators.len() + 12);
     for len in [k.separators.len(), k.separators.len() + 3] {
-        on_lists(c, &job, Call::Trial { load: k.bound.0, speed: k.bound.1 }, &lent[..4 * len], Ok((k.separators, &said)));
+        let edition = c.edition(&job);
+        on_lists(c, &job, Call::Trial(edition, k.bound.0, k.bound.1), &lent[..4 * len], Ok((k.separators, &said)));
     }
     trials::refilled(c, &Case::of(&job), bound);
 }
@@ -277,9 +383,12 @@ fn tried(c: &mut Check, k: &Tried) {
 /// and with one.
 fn all_tried(c: &mut Check) {
     for k in TRIALS.iter().chain(&MORE_TRIALS) {
-        tried(c, k);
+        tried(c, None, k);
     }
-    for k in &TRIALS {
+    for (startup, k) in &SECOND_TRIALS {
+        tried(c, Some(*startup), k);
+    }
+    for k in TRIALS.iter().chain([&SECOND_TRIALS[0].1]) {
         if let Some((load, speed)) = k.next {
             let (at, over) = k.bound;
             in_scope(c, &format!("{} at {}/{} fails with next bid {}/{} and writes {}", k.name, at, over, load, speed, text(k.separators)));
@@ -290,15 +399,24 @@ fn all_tried(c: &mut Check) {
     let job = Job::new(&[1; MACHINES], &[WEIGHT; TILES]);
     let (weight, lent) = (WEIGHT as u64, c.rng.pattern(4 * (MACHINES + 1)));
     let ones: Vec<u32> = (0..=MACHINES as u32).collect();
-    on_lists(c, &job, Call::Trial { load: weight - 1, speed: 1 }, &lent, Ok((&[0; MACHINES + 1], &[0, weight, 1])));
-    on_lists(c, &job, Call::Trial { load: weight, speed: 1 }, &lent, Ok((&ones, &[0, 2 * weight, 1])));
+    on_lists(c, &job, Call::Trial(Edition::FIRST, weight - 1, 1), &lent, Ok((&[0; MACHINES + 1], &[0, weight, 1])));
+    on_lists(c, &job, Call::Trial(Edition::FIRST, weight, 1), &lent, Ok((&ones, &[0, 2 * weight, 1])));
+    // The same with start-up work of just so much.
+    let (job, n) = (Job { startup: Some(STARTUP), ..job }, Edition { second: true, startup: STARTUP });
+    let each = weight + STARTUP as u64;
+    on_lists(c, &job, Call::Trial(n, each - 1, 1), &lent, Ok((&[0; MACHINES + 1], &[0, each, 1])));
+    on_lists(c, &job, Call::Trial(n, each, 1), &lent, Ok((&ones, &[0, each + weight, 1])));
 }
 
 pub fn run(c: &mut Check) {
     for k in JOBS.iter().chain(&MORE).chain(&ROUNDED) {
-        marked(c, k);
+        marked(c, None, k);
+    }
+    for (startup, k) in STARTED.iter().chain(&SECOND) {
+        marked(c, Some(*startup), k);
     }
     lines_of_a(c);
+    lines_of_section_17(c);
     all_tried(c);
     rows(c);
     files_of_a_and_d(c);
@@ -322,6 +440,9 @@ fn sentences(c: &mut Check) {
         format!("Each tile has a weight w, 0 to {}.", figure(WEIGHT as u64)),
         format!("A job has P machines, 1 to {},", figure(machines)),
         format!("Each machine has a speed e, 1 to {}.", figure(SPEED as u64)),
+        format!("which has start-up work c, 0 to {}.", figure(STARTUP as u64)),
+        format!("c = {} is taken; {} is refused with 16,", figure(STARTUP as u64), figure(STARTUP as u64 + 1)),
+        format!("The longest job file has {} records.", figure(LONGEST_JOB as u64 / 8)),
         format!("has a load of 0 to {} and a speed of 1 to {}.", figure(BOUND_LOAD), figure(BOUND_SPEED)),
         format!("; {} bytes for a listing;", figure(LISTING as u64)),
         format!("{} machines are taken; none and {} are refused with 7, with {} tiles too.", figure(machines), figure(machines + 1), figure(tiles + 1)),
@@ -331,7 +452,7 @@ fn sentences(c: &mut Check) {
     }
 }
 
-/// A and D byte by byte.
+/// A and D byte by byte, and A in the second edition.
 fn files_of_a_and_d(c: &mut Check) {
     let a: [u8; 32] = [
         0, 0, 0, 0, 1, 0, 0, 0, 1, 0, 0, 0, 1, 0, 0, 0, //
@@ -349,9 +470,30 @@ fn files_of_a_and_d(c: &mut Check) {
         1, 0, 0, 0, 1, 0, 0, 0, 1, 0, 0, 0, 1, 0, 0, 0, //
         2, 0, 0, 0, 0, 0, 0, 0, 2, 0, 0, 0, 0, 0, 0, 0,
     ];
+    // A with start-up work 5: its file begins with a record of kind 3, and machine 2 has all tiles.
+    let second: [u8; 32] = [
+        0, 0, 0, 0, 0, 0, 0, 0, 0, 0, 0, 0, 1, 0, 0, 0, //
+        0, 0, 0, 0, 3, 0, 0, 0, 17, 0, 0, 0, 3, 0, 0, 0,
+    ];
+    let second_file = [&[3, 0, 0, 0, 5, 0, 0, 0], &a_file[..]].concat();
     for method in 1..=4 {
         c.call(&a_file, method, 32, Ok(&job::decode(&a)));
         c.call(&d_file, method, 32, Ok(&job::decode(&d)));
+        c.call(&second_file, method, 32, Ok(&job::decode(&second)));
+    }
+    // What reading gives of both: edition, start-up work, P, N, and the lists; and the bytes that writing gives back.
+    for (file, numbers) in [(&a_file[..], [1u64, 0, 2, 3]), (&second_file, [2, 5, 2, 3])] {
+        let list = |front: Vec<u8>| After { front, free: 0 };
+        let (said, e, w) = (numbers.iter().flat_map(|n| n.to_le_bytes()).collect(), bytes_of(&[1, 3]), bytes_of(&[1, 3, 8]));
+        let (lent_e, lent_w, answer) = (c.rng.pattern(12), c.rng.pattern(16), c.rng.pattern(8 * 5));
+        let wanted = vec![After::default(), list(e.clone()), list(w.clone()), list(said)];
+        c.ask(Call::Read, &[file, &lent_e, &lent_w, &answer], &Ok(wanted));
+        let edition = Edition { second: numbers[0] == 2, startup: numbers[1] as u32 };
+        let (room, answer) = (c.rng.pattern(file.len() + 3), c.rng.pattern(8));
+        let bytes = list((file.len() as u64).to_le_bytes().to_vec());
+        let wanted = vec![After::default(), After::default(), list(file.to_vec()), bytes];
+        c.ask(Call::Write(edition), &[&e, &w, &room, &answer], &Ok(wanted));
+        c.refuse(Call::Write(edition), &[&e, &w, &room[..file.len() - 1], &answer], 9);
     }
 }
 
@@ -370,6 +512,20 @@ fn edges(c: &mut Check) {
         single(c, &[machine(1), tile(weight)], 6);
         single(c, &[machine(1), tile(0), tile(weight), tile(0)], 6);
     }
+    // Start-up work: none and the most pass, one more gives 16; kind 3 beyond the first record gives 15.
+    for startup in [0, 1, STARTUP] {
+        c.accepted(&Job::of(Some(startup), &[1], &[5]), &[0, 1]);
+        c.accepted(&Job::of(Some(startup), &[1, 1], &[]), &[0, 0, 0]);
+        single(c, &[machine(1), head(startup)], 15);
+        single(c, &[head(startup), head(startup), machine(1)], 15);
+        single(c, &[head(startup), machine(1), tile(1), head(startup)], 15);
+        single(c, &[head(startup)], 7);
+    }
+    for startup in [STARTUP + 1, 0x0010_0000, 0x0100_0000, 0x0100_0001, 0x7FFF_FFFF, 0x8000_0000, u32::MAX] {
+        single(c, &[head(startup), machine(1), tile(0)], 16);
+        single(c, &[head(startup), machine(0)], 16);
+        single(c, &[machine(1), head(startup)], 15);
+    }
 
     // Machines: none and more than the most give 7, the most pass; counts that look like a good one when cut to 8 or 16 bits, too.
     // Tiles: more than the most give 8, the most pass. A 7-byte file gives 2.
@@ -378,10 +534,13 @@ fn edges(c: &mut Check) {
     let cut = [1 << 8, (1 << 8) + 1, (1 << 8) + MACHINES, 1 << 9, 1 << 16, (1 << 16) + 1, (1 << 16) + MACHINES];
     for many in TOO_MANY.into_iter().chain(cut) {
         single(c, &vec![machine(1); many], 7);
+        single(c, &[vec![head(1)], vec![machine(1); many]].concat(), 7);
     }
     for many in [TILES + 1, TILES + 2, 2 * TILES, 65_536, 65_537, 65_536 + TILES] {
         let mut records = vec![machine(1)];
         records.extend(vec![tile(0); many]);
+        single(c, &records, 8);
+        records.insert(0, head(STARTUP));
         single(c, &records, 8);
     }
     let full = Job::new(&[1; MACHINES], &[]);
@@ -391,6 +550,9 @@ fn edges(c: &mut Check) {
     let mut first = vec![0; MACHINES + 1];
     first[1..].fill(TILES);
     c.accepted(&Job::new(&[SPEED; MACHINES], &[0; TILES]), &first);
+    c.accepted(&Job::of(Some(STARTUP), &[SPEED; MACHINES], &[0; TILES]), &first);
+    c.accepted(&Job::of(Some(STARTUP), &[1; MACHINES], &[]), &[0; MACHINES + 1]);
+    c.accepted(&Job::of(Some(STARTUP), &[1], &[1; TILES]), &[0, TILES]);
     for method in 1..=4 {
         for plan_len in [0, 16, 33] {
             c.call(&[1, 0, 0, 0, 1, 0, 0], method, plan_len, Err(2));
@@ -405,6 +567,6 @@ fn single(c: &mut Check, records: &[Record], number: u32) {
             c.call(&file, method, plan_len, Err(number));
         }
     }
-    let (e, w, answer) = (c.rng.pattern(4 * records.len()), c.rng.pattern(4 * records.len()), c.rng.pattern(16));
+    let (e, w, answer) = (c.rng.pattern(4 * records.len()), c.rng.pattern(4 * records.len()), c.rng.pattern(8 * 4));
     c.refuse(Call::Read, &[&file, &e, &w, &answer], number);
 }

@@ -3,7 +3,7 @@
 use crate::answers::Solved;
 use crate::check::Check;
 use crate::job::Job;
-use crate::limits::{LONGEST_HALVED, LONGEST_PLAN, MACHINES, SPEED, TILES, WEIGHT};
+use crate::limits::{LONGEST_HALVED, LONGEST_PLAN, MACHINES, SPEED, STARTUP, TILES, WEIGHT};
 use crate::planner::{self, Call};
 use crate::rng::Rng;
 use crate::{every, fast, guard, job, small};
@@ -35,9 +35,8 @@ pub fn any_size(c: &mut Check) {
 }
 
 fn sized(c: &mut Check, machines: usize, tiles: usize) {
-    let speeds = small::speeds(&mut c.rng, machines);
-    let weights = small::weights(&mut c.rng, tiles, &speeds);
-    one(c, &Job { speeds, weights });
+    let job = small::sized(&mut c.rng, machines, tiles);
+    one(c, &job);
 }
 
 pub fn run(c: &mut Check, times: usize) {
@@ -79,7 +78,8 @@ pub fn row(c: &mut Check) {
     };
     let speeds = vec![c.rng.range(1, SPEED); machines];
     let weights = small::weights(&mut c.rng, tiles, &speeds);
-    small::row(c, &Job { speeds, weights });
+    let job = small::job_of(&mut c.rng, speeds, weights);
+    small::row(c, &job);
 }
 
 /// Rows of one speed and each length that can be halved, with weights of a special shape, and with equal weights, one tile more than
@@ -94,17 +94,24 @@ fn row_shapes(c: &mut Check) -> Vec<Job> {
             shapes.push(vec![weight; machines * each + 1]);
         }
         for w in shapes {
-            list.push(Job { speeds: vec![c.rng.pick(&[1, 7, SPEED]); machines], weights: w });
+            let startup = c.rng.pick(&[None, None, Some(0), Some(1), Some(STARTUP)]);
+            list.push(Job { startup, speeds: vec![c.rng.pick(&[1, 7, SPEED]); machines], weights: w });
         }
         machines *= 2;
     }
     list
 }
 
-/// Rows and machines of a special shape, each with each.
+/// Rows and machines of a special shape, each with each, half of them with start-up work: the most, as little as can be, or some.
 fn shapes(c: &mut Check) -> Vec<Job> {
     let (speeds, weights) = (speed_shapes(&mut c.rng), weight_shapes(&mut c.rng));
-    speeds.iter().flat_map(|s| weights.iter().map(move |w| Job::new(s, w))).collect()
+    let mut list = Vec::new();
+    for (s, w) in speeds.iter().flat_map(|s| weights.iter().map(move |w| (s, w))) {
+        let some = c.rng.range(2, STARTUP);
+        let startup = c.rng.pick(&[None, None, None, Some(0), Some(1), Some(some), Some(STARTUP), Some(STARTUP)]);
+        list.push(Job::of(startup, s, w));
+    }
+    list
 }
 
 /// The same everywhere but at one place.
@@ -159,7 +166,7 @@ fn threads(c: &mut Check) {
         .map(|_| {
             let speeds: Vec<u32> = (0..MACHINES).map(|_| c.rng.range(1, SPEED)).collect();
             let weights: Vec<u32> = (0..TILES).map(|_| c.rng.range(0, WEIGHT)).collect();
-            let job = Job { speeds, weights };
+            let job = small::job_of(&mut c.rng, speeds, weights);
             let (separators, _) = fast::solve(&job);
             (job.file(), job::encode(&job::plan_of(&job, &separators)))
         })

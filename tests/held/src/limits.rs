@@ -12,13 +12,17 @@ pub const LONGEST_HALVED: usize = 1 << MACHINES.ilog2();
 pub const SPEED: u32 = 10_000;
 pub const WEIGHT: u32 = 1_000_000;
 
+/// The greatest start-up work of a job of the second edition, request M-106. The least is 0.
+pub const STARTUP: u32 = 1_000_000;
+
 /// The greatest load and the greatest speed of a lent bound: 2.9. The least are 0 and 1.
 pub const BOUND_LOAD: u64 = 100_000_000_000_000;
 pub const BOUND_SPEED: u64 = 1_000_000_000;
 
-/// What is needed of lent lists, 8.7: the bytes of a job file and of a plan file, and the work numbers.
-pub const fn job_bytes(machines: usize, tiles: usize) -> usize {
-    8 * (machines + tiles)
+/// What is needed of lent lists, 8.7: the bytes of a job file, which has one record more in the second edition, and of a plan file, and
+/// the work numbers.
+pub const fn job_bytes(second: bool, machines: usize, tiles: usize) -> usize {
+    8 * (second as usize + machines + tiles)
 }
 
 pub const fn plan_bytes(machines: usize) -> usize {
@@ -29,8 +33,8 @@ pub const fn work_numbers(tiles: usize) -> usize {
     5 * (tiles + 1)
 }
 
-/// The bytes of the longest job and of the longest plan.
-pub const LONGEST_JOB: usize = job_bytes(MACHINES, TILES);
+/// The bytes of the longest job, which is one of the second edition, and of the longest plan.
+pub const LONGEST_JOB: usize = job_bytes(true, MACHINES, TILES);
 pub const LONGEST_PLAN: usize = plan_bytes(MACHINES);
 
 /// What the programs take in of a job file and of a plan file, one record more than the longest has: 9.6, 14.9.

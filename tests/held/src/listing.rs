@@ -7,8 +7,8 @@ use std::time::Duration;
 
 use crate::answers::Solved;
 use crate::check::{self, Check};
-use crate::job::{self, machine, record, tile, Job, Record};
-use crate::limits::{JOB_INTAKE, LISTING, MACHINES, SPEED, TILES, TOO_MANY, WEIGHT};
+use crate::job::{self, head, machine, record, tile, Job, Record};
+use crate::limits::{JOB_INTAKE, LISTING, LONGEST_JOB, MACHINES, SPEED, STARTUP, TILES, TOO_MANY, WEIGHT};
 use crate::planner::Call;
 use crate::{damage, methods, small};
 
@@ -105,15 +105,9 @@ pub fn must_refuse(c: &mut Check, file: &[u8], number: u32) {
     }
 }
 
-fn random_job(c: &mut Check, machines: usize, tiles: usize) -> Job {
-    let speeds = small::speeds(&mut c.rng, machines);
-    let weights = small::weights(&mut c.rng, tiles, &speeds);
-    Job { speeds, weights }
-}
-
-/// Files about as long as the intake.
-fn long_files(c: &mut Check, program: &str) {
-    let full = random_job(c, MACHINES, TILES).file();
+/// Files about as long as the intake, of either edition.
+fn long_files(c: &mut Check, program: &str, startup: Option<u32>) {
+    let full = Job { startup, ..small::sized(&mut c.rng, MACHINES, TILES) }.file();
     one(c, program, &full);
     for more in [1, 4, 7, 8, 9, 15, 16, 100_000, 300_000] {
         let filler: Vec<u8> = tile(3).iter().copied().cycle().take(more).collect();
@@ -122,12 +116,16 @@ fn long_files(c: &mut Check, program: &str) {
     }
     one(c, program, &[&full[..], &machine(1)].concat());
     one(c, program, &[&full[..], &tile(WEIGHT + 1)].concat());
+    one(c, program, &[&full[..], &head(0)].concat());
     one(c, program, &vec![machine(1); 3_000].concat());
     one(c, program, &[machine(1).to_vec(), vec![tile(1); 3_000].concat()].concat());
+    one(c, program, &[head(7).to_vec(), vec![machine(1); 3_000].concat()].concat());
 }
 
 /// A record with what it gives as the last one that is taken in: behind the longest job, and behind as many machines.
-const LAST: [(Record, u32, u32); 7] = [
+const LAST: [(Record, u32, u32); 9] = [
+    ([3, 0, 0, 0, 0, 0, 0, 0], 15, 15),
+    ([3, 0, 0, 0, 0xFF, 0xFF, 0xFF, 0xFF], 15, 15),
     ([0; 8], 3, 3),
     ([1, 0, 0, 1, 1, 0, 0, 0], 3, 3),
     ([1, 0, 0, 0, 1, 0, 0, 0], 4, 7),
@@ -139,15 +137,21 @@ const LAST: [(Record, u32, u32); 7] = [
 
 /// Files around the end of what is taken in, each with its number: what stands in the last record inside counts, what stands in the
 /// next one does not, and a byte behind the end does not spoil the length.
+/// The longest job is one of the second edition; one of the first, and as many tiles as fill its place, are judged likewise.
 pub fn around_intake(job: &Job) -> Vec<(Vec<u8>, u32)> {
-    let (full, row) = (job.file(), vec![machine(1); MACHINES + TILES].concat());
-    let mut list = Vec::new();
+    let full = Job { startup: Some(STARTUP), ..job.clone() }.file();
+    let row = vec![machine(1); LONGEST_JOB / 8].concat();
+    assert_eq!((full.len(), row.len()), (LONGEST_JOB, LONGEST_JOB));
+    let first = [&Job { startup: None, ..job.clone() }.file()[..], &tile(1)].concat();
+    let mut list = vec![(first.clone(), 8)];
     for more in 1..8 {
         list.push(([&full[..], &vec![2; more]].concat(), 2));
         list.push(([&row[..], &vec![2; more]].concat(), 2));
+        list.push(([&first[..], &vec![2; more]].concat(), 2));
     }
     for (r, behind_job, behind_row) in LAST {
-        for (front, inside, good, past) in [(&full, behind_job, tile(1), 8), (&row, behind_row, machine(1), 7)] {
+        let fronts = [(&full, behind_job, tile(1), 8), (&row, behind_row, machine(1), 7), (&first, behind_job, tile(1), 8)];
+        for (front, inside, good, past) in fronts {
             list.push(([&front[..], &r].concat(), inside));
             list.push(([&front[..], &r, &[0]].concat(), inside));
             list.push(([&front[..], &r, &r[..7]].concat(), inside));
@@ -163,22 +167,24 @@ pub fn around_intake(job: &Job) -> Vec<(Vec<u8>, u32)> {
 fn rows(c: &mut Check, program: &str) {
     for machines in [MACHINES - 1, MACHINES] {
         for tiles in [0, 1, TILES] {
-            let file = random_job(c, machines, tiles).file();
+            let file = small::sized(&mut c.rng, machines, tiles).file();
             one(c, program, &file);
             called_with_rooms(c, &file);
         }
     }
     for machines in TOO_MANY {
         for tiles in [0, 1, TILES, TILES + 1] {
-            let file = random_job(c, machines, tiles).file();
+            let file = small::sized(&mut c.rng, machines, tiles).file();
             must_refuse(c, &file, 7);
             one(c, program, &file);
         }
         let last = machines - 1;
-        let bad = [(0, machine(0), 5), (last, machine(SPEED + 1), 5), (machines, tile(WEIGHT + 1), 6), (machines, record(3, 1), 3)];
-        for (place, bad, number) in bad {
-            let mut file = random_job(c, machines, 1).file();
-            file[8 * place..8 * place + 8].copy_from_slice(&bad);
+        let wrong = [(0, machine(0), 5), (last, machine(SPEED + 1), 5), (machines, tile(WEIGHT + 1), 6), (machines, record(4, 1), 3)];
+        for (place, bad, number) in wrong.into_iter().chain([(last, head(1), 15), (machines, head(1), 15)]) {
+            let job = small::sized(&mut c.rng, machines, 1);
+            let at = 8 * (place + job.is_second() as usize);
+            let mut file = job.file();
+            file[at..at + 8].copy_from_slice(&bad);
             must_refuse(c, &file, number);
             one(c, program, &file);
         }
@@ -188,8 +194,10 @@ fn rows(c: &mut Check, program: &str) {
 pub fn run(c: &mut Check, times: usize) {
     let program = std::env::var("HELD_STRIPS").unwrap_or_else(|_| concat!(env!("CARGO_MANIFEST_DIR"), "/../../target/bin/strips").to_string());
     one(c, &program, &[]);
-    long_files(c, &program);
-    let longest = random_job(c, MACHINES, TILES);
+    for startup in [None, Some(STARTUP)] {
+        long_files(c, &program, startup);
+    }
+    let longest = small::sized(&mut c.rng, MACHINES, TILES);
     for (file, number) in around_intake(&longest) {
         must_refuse(c, &file, number);
         one(c, &program, &file);
@@ -197,7 +205,7 @@ pub fn run(c: &mut Check, times: usize) {
     rows(c, &program);
     for _ in 0..1_500 * times {
         let (machines, tiles) = (1 + c.rng.below(5), c.rng.below(12));
-        let mut file = random_job(c, machines, tiles).file();
+        let mut file = small::sized(&mut c.rng, machines, tiles).file();
         if c.rng.once_in(3) {
             damage::spoil(c, &mut file);
         }
@@ -205,7 +213,7 @@ pub fn run(c: &mut Check, times: usize) {
     }
     for _ in 0..60 * times {
         let (machines, tiles) = (1 + c.rng.below(MACHINES), c.rng.below(TILES + 1));
-        let file = random_job(c, machines, tiles).file();
+        let file = small::sized(&mut c.rng, machines, tiles).file();
         one(c, &program, &file);
     }
 }

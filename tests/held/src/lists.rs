@@ -3,14 +3,15 @@
 use crate::answers::bytes_of;
 use crate::check::Check;
 use crate::limits::{job_bytes, plan_bytes, work_numbers, BOUND_LOAD, BOUND_SPEED, LONGEST_HALVED, LONGEST_JOB};
-use crate::limits::{MACHINES, SPEED, TILES, TOO_MANY, WEIGHT};
-use crate::planner::Call;
+use crate::limits::{MACHINES, SPEED, STARTUP, TILES, TOO_MANY, WEIGHT};
+use crate::planner::{Call, Edition};
 use crate::rng::Rng;
 
 /// What a call on lists is given.
 struct Input {
     method: u32,
     bound: (u64, u64),
+    edition: Edition,
     speeds: Vec<u32>,
     weights: Vec<u32>,
     separators: Vec<u32>,
@@ -20,33 +21,33 @@ struct Input {
 
 /// A call by name, so that the calls can be gone through, and its numbers in the order of its tests.
 const CALLS: [(&str, &[u32]); 8] = [
-    ("test", &[5, 6, 7, 8]),
-    ("write", &[5, 6, 7, 8, 9]),
-    ("measure", &[5, 6, 7, 8, 9, 11]),
-    ("trial", &[5, 6, 7, 8, 9, 10]),
-    ("quick", &[5, 6, 7, 8, 9]),
-    ("halving", &[5, 6, 7, 8, 14, 9]),
-    ("plan", &[1, 5, 6, 7, 8, 9]),
-    ("plan file", &[5, 6, 7, 8, 9, 11]),
+    ("test", &[16, 5, 6, 7, 8]),
+    ("write", &[16, 5, 6, 7, 8, 9]),
+    ("measure", &[16, 5, 6, 7, 8, 9, 11]),
+    ("trial", &[16, 5, 6, 7, 8, 9, 10]),
+    ("quick", &[16, 5, 6, 7, 8, 9]),
+    ("halving", &[16, 5, 6, 7, 8, 14, 9]),
+    ("plan", &[1, 16, 5, 6, 7, 8, 9]),
+    ("plan file", &[16, 5, 6, 7, 8, 9, 11]),
 ];
 
 fn call_of(name: &str, i: &Input) -> Call {
     match name {
-        "test" => Call::Test,
-        "write" => Call::Write,
-        "measure" => Call::Measure,
-        "trial" => Call::Trial { load: i.bound.0, speed: i.bound.1 },
-        "quick" => Call::Quick,
-        "halving" => Call::Halving,
-        "plan" => Call::Plan { method: i.method },
-        _ => Call::PlanFile,
+        "test" => Call::Test(i.edition),
+        "write" => Call::Write(i.edition),
+        "measure" => Call::Measure(i.edition),
+        "trial" => Call::Trial(i.edition, i.bound.0, i.bound.1),
+        "quick" => Call::Quick(i.edition),
+        "halving" => Call::Halving(i.edition),
+        "plan" => Call::Plan(i.edition, i.method),
+        _ => Call::PlanFile(i.edition),
     }
 }
 
 /// The entries that the call's other list must have.
-fn room_needed(name: &str, machines: usize, tiles: usize) -> usize {
+fn room_needed(name: &str, second: bool, machines: usize, tiles: usize) -> usize {
     match name {
-        "write" => job_bytes(machines, tiles),
+        "write" => job_bytes(second, machines, tiles),
         "plan" => work_numbers(tiles),
         "plan file" => plan_bytes(machines),
         _ => 0,
@@ -82,11 +83,23 @@ fn some_division(r: &mut Rng, machines: usize, tiles: usize) -> Vec<u32> {
 const BAD_SPEED: [u32; 5] = [0, SPEED + 1, 65_537, WEIGHT, u32::MAX];
 const BAD_WEIGHT: [u32; 5] = [WEIGHT + 1, 1 << 20, 1 << 24, 1 << 31, u32::MAX];
 const BAD_METHOD: [u32; 7] = [0, 5, 255, 257, 260, 65_538, u32::MAX];
+const BAD_STARTUP: [u32; 5] = [STARTUP + 1, 1 << 20, 1 << 24, 1 << 31, u32::MAX];
 
-/// Counts and values: the lists of a job with these faults of 5 to 8, and the numbers of those that could be made.
-pub fn job_with(r: &mut Rng, faults: &[u32]) -> (Vec<u32>, Vec<u32>, Vec<u32>) {
+/// The second edition with start-up work out of its range; or either edition, the first with any start-up work beside it.
+pub fn edition_with(r: &mut Rng, bad: bool) -> Edition {
+    let startup = match r.below(3) {
+        _ if bad => return Edition { second: true, startup: r.pick(&BAD_STARTUP) },
+        0 => r.pick(&BAD_STARTUP),
+        _ => return Edition { second: true, startup: r.pick(&[0, 1, 7, STARTUP - 1, STARTUP]) },
+    };
+    Edition { second: false, startup }
+}
+
+/// Counts and values: edition and lists of a job with these faults of 16 and 5 to 8, and the numbers of those that could be made.
+pub fn job_with(r: &mut Rng, faults: &[u32]) -> (Edition, Vec<u32>, Vec<u32>, Vec<u32>) {
     let has = |n: u32| faults.contains(&n);
-    let mut made: Vec<u32> = faults.iter().copied().filter(|n| (6..=8).contains(n)).collect();
+    let mut made: Vec<u32> = faults.iter().copied().filter(|n| [16, 6, 7, 8].contains(n)).collect();
+    let edition = edition_with(r, has(16));
     let machines = match has(7) {
         true if r.once_in(4) => 0,
         true if r.once_in(3) => 600,
@@ -105,7 +118,7 @@ pub fn job_with(r: &mut Rng, faults: &[u32]) -> (Vec<u32>, Vec<u32>, Vec<u32>) {
         let k = r.pick(&[0, tiles / 2, tiles - 1]);
         weights[k] = r.pick(&BAD_WEIGHT);
     }
-    (speeds, weights, made)
+    (edition, speeds, weights, made)
 }
 
 /// A row to be halved with these faults of 5, 7 and 14, and the numbers of those that could be made. Rows that are too long may be of a
@@ -149,7 +162,7 @@ fn lend_with(r: &mut Rng, name: &str, faults: &[u32], i: &mut Input, made: &mut 
         }
         made.push(11);
     }
-    let needed = room_needed(name, machines, tiles);
+    let needed = room_needed(name, i.edition.second, machines, tiles);
     i.room = needed + r.below(3);
     if faults.contains(&9) {
         let (lends_list, lends_room) = (name != "write" && name != "test", needed > 0);
@@ -170,7 +183,7 @@ fn lend_with(r: &mut Rng, name: &str, faults: &[u32], i: &mut Input, made: &mut 
 
 /// An input with these faults, and the first number among those that could be made.
 fn input_with(r: &mut Rng, name: &str, numbers: &[u32], faults: &[u32]) -> (Input, u32) {
-    let (mut speeds, weights, mut made) = job_with(r, faults);
+    let (edition, mut speeds, weights, mut made) = job_with(r, faults);
     if name == "halving" {
         made.retain(|n| *n != 5);
         let (row, more) = row_with(r, faults);
@@ -178,7 +191,7 @@ fn input_with(r: &mut Rng, name: &str, numbers: &[u32], faults: &[u32]) -> (Inpu
         made.extend(more);
     }
     let separators = some_division(r, speeds.len(), weights.len());
-    let mut i = Input { method: r.range(1, 4), bound: (1_000_000, 1), speeds, weights, separators, room: 0 };
+    let mut i = Input { method: r.range(1, 4), bound: (1_000_000, 1), edition, speeds, weights, separators, room: 0 };
     lend_with(r, name, faults, &mut i, &mut made);
     if faults.contains(&1) {
         i.method = r.pick(&BAD_METHOD);
@@ -210,7 +223,38 @@ fn together(c: &mut Check, rounds: usize) {
 const PLENTY: usize = LONGEST_JOB;
 
 fn smallest_input(speeds: &[u32], weights: &[u32], separators: &[u32], room: usize) -> Input {
-    Input { method: 1, bound: (0, 1), speeds: speeds.to_vec(), weights: weights.to_vec(), separators: separators.to_vec(), room }
+    let (speeds, weights, separators) = (speeds.to_vec(), weights.to_vec(), separators.to_vec());
+    Input { method: 1, bound: (0, 1), edition: Edition::FIRST, speeds, weights, separators, room }
+}
+
+/// The start-up work that causes 16, and what passes beside it: the most, and in the first edition any. It is tested before all speeds,
+/// weights and counts.
+fn smallest_startups(c: &mut Check, name: &str) {
+    let some = |second: bool, startup: u32| Edition { second, startup };
+    let many = [0u32; MACHINES + 1];
+    for startup in BAD_STARTUP {
+        for (speeds, weights) in [(&[1u32][..], &[0u32][..]), (&[], &[]), (&[0], &[]), (&[SPEED + 1], &[WEIGHT + 1]), (&many, &[])] {
+            for (separators, room) in [(&[][..], 0), (&[0, 1], PLENTY)] {
+                refuse(c, name, &Input { edition: some(true, startup), ..smallest_input(speeds, weights, separators, room) }, 16);
+            }
+        }
+    }
+    for startup in BAD_STARTUP.into_iter().chain([0, 1, STARTUP]) {
+        refuse(c, name, &Input { edition: some(false, startup), ..smallest_input(&[1], &[0], &[0, 1], PLENTY) }, 0);
+        for (speeds, number) in [(&[0u32][..], 5), (&[], 7)] {
+            refuse(c, name, &Input { edition: some(false, startup), ..smallest_input(speeds, &[0], &[0, 1], PLENTY) }, number);
+        }
+    }
+    for startup in [0, 1, STARTUP - 1, STARTUP] {
+        refuse(c, name, &Input { edition: some(true, startup), ..smallest_input(&[1], &[0], &[0, 1], PLENTY) }, 0);
+        refuse(c, name, &Input { edition: some(true, startup), ..smallest_input(&[0], &[0], &[0, 1], PLENTY) }, 5);
+    }
+    // No method is refused before it.
+    if name == "plan" {
+        for method in BAD_METHOD {
+            refuse(c, name, &Input { method, edition: some(true, u32::MAX), ..smallest_input(&[0], &[0], &[], 0) }, 1);
+        }
+    }
 }
 
 /// The smallest lists that cause 5 to 8, and those beside them that pass.
@@ -241,9 +285,12 @@ fn smallest_lists(c: &mut Check, name: &str, numbers: &[u32]) {
         refuse(c, name, &smallest_input(&[1], &[], &[], PLENTY), 9);
         refuse(c, name, &smallest_input(&[1], &[], &[0], PLENTY), 9);
     }
-    let needed = room_needed(name, 1, 0);
-    for room in 0..=needed {
-        refuse(c, name, &smallest_input(&[1], &[], &[0, 0], room), if room < needed { 9 } else { 0 });
+    for edition in [Edition::FIRST, Edition { second: false, startup: u32::MAX }, Edition { second: true, startup: 5 }] {
+        let needed = room_needed(name, edition.second, 1, 0);
+        for room in 0..=needed {
+            let input = Input { edition, ..smallest_input(&[1], &[], &[0, 0], room) };
+            refuse(c, name, &input, if room < needed { 9 } else { 0 });
+        }
     }
     let out = [(0, 0), (BOUND_LOAD + 1, 1), (0, BOUND_SPEED + 1)];
     let within = [(0, 1), (BOUND_LOAD, BOUND_SPEED)];
@@ -271,8 +318,9 @@ fn smallest_lists(c: &mut Check, name: &str, numbers: &[u32]) {
 
 pub fn run(c: &mut Check, times: usize) {
     for (name, numbers) in CALLS {
+        smallest_startups(c, name);
         smallest_jobs(c, name);
         smallest_lists(c, name, numbers);
     }
-    together(c, 60 * times);
+    together(c, 40 * times);
 }

@@ -22,15 +22,17 @@ impl Trial {
     }
 }
 
-/// A trial: each machine takes tiles up to the greatest index whose share is within the bound. Each before the last bids its share with
-/// the next tile added; the last bids all that is left, and where that is within the bound the trial fits.
+/// A trial: each machine takes tiles up to the greatest index whose share is within the bound; with its first tile it has the start-up
+/// work. Each before the last bids its share with the next tile added; the last bids all that is left, and where that is within the bound
+/// the trial fits.
 pub fn trial(job: &Job, bound: Bound) -> Trial {
     let tiles = job.weights.len();
     let mut separators = vec![0];
     let mut least: Option<Bound> = None;
     let mut at = 0;
     for (p, &speed) in job.speeds.iter().enumerate() {
-        let (start, mut share) = (at, (0, speed as u128));
+        // The share with the tiles so far, as it counts where there is one.
+        let (start, mut share) = (at, (job.c(), speed as u128));
         // A share only grows, so the first index that is too much ends the search.
         while at < tiles {
             let longer = (share.0 + job.weights[at] as u128, share.1);
@@ -42,7 +44,7 @@ pub fn trial(job: &Job, bound: Bound) -> Trial {
         }
         separators.push(at);
         let bid = if p + 1 == job.speeds.len() {
-            let left = (job.weight(start, tiles), share.1);
+            let left = (job.load(start, tiles), share.1);
             if !less(bound, left) {
                 return Trial { separators, next: None };
             }
@@ -86,6 +88,15 @@ pub fn ideal(job: &Job) -> Bound {
     (job.weight(0, job.weights.len()), job.speeds.iter().map(|&e| e as u128).sum())
 }
 
+/// Whether the quick plan's bottleneck is above the ideal by at most heaviest / slowest, in the second edition (heaviest + c) / slowest.
+pub fn is_close(job: &Job, bottleneck: Bound) -> bool {
+    let (whole, all_speed) = ideal(job);
+    let heaviest = job.weights.iter().copied().max().unwrap_or(0) as u128;
+    let slowest = *job.speeds.iter().min().unwrap() as u128;
+    // Both bounds over both speeds.
+    !less((whole * slowest + (heaviest + job.c()) * all_speed, all_speed * slowest), bottleneck)
+}
+
 /// Bidding's trials.
 pub fn bids(job: &Job) -> u64 {
     let mut bound = ideal(job);
@@ -117,10 +128,10 @@ pub fn halvings(job: &Job) -> u64 {
 /// The table's moves, by the table itself: every value from every j, every crossing by trying each j.
 pub fn moves_by_table(job: &Job) -> u64 {
     let tiles = job.weights.len();
-    let mut row: Vec<Bound> = (0..=tiles).map(|i| (job.weight(0, i), job.speeds[0] as u128)).collect();
+    let mut row: Vec<Bound> = (0..=tiles).map(|i| (job.load(0, i), job.speeds[0] as u128)).collect();
     let mut moves = 0;
     for &e in &job.speeds[1..] {
-        let share = |j: usize, i: usize| (job.weight(j, i), e as u128);
+        let share = |j: usize, i: usize| (job.load(j, i), e as u128);
         let crossing = |i: usize| (0..=i).find(|&j| !less(row[j], share(j, i))).unwrap();
         let mut pointer = 0;
         for i in 0..=tiles {
@@ -137,20 +148,22 @@ pub fn moves_by_table(job: &Job) -> u64 {
 }
 
 /// The same number with no table: the crossing of (p, N) is the first j at which no division of the first j tiles among the
-/// machines before p stays strictly below W(j+1,N)/ep, and whether it does is asked of one walk.
+/// machines before p stays strictly below the load of tiles j + 1 to N over ep, and whether it does is asked of one walk.
 pub fn moves_by_walks(job: &Job) -> u64 {
     let tiles = job.weights.len();
+    let c = job.c() as i128;
     let mut rest = vec![0i128; tiles + 1];
     for i in (0..tiles).rev() {
         rest[i] = rest[i + 1] + job.weights[i] as i128;
     }
+    rest[..tiles].iter_mut().for_each(|load| *load += c);
     let mut moves = 0;
     for p in 1..job.speeds.len() {
         let e = job.speeds[p] as i128;
         let (mut low, mut high) = (0, tiles);
         while low < high {
             let j = (low + high) / 2;
-            if stays_below(&job.weights[..j], &job.speeds[..p], rest[j], e) {
+            if stays_below(c, &job.weights[..j], &job.speeds[..p], rest[j], e) {
                 low = j + 1;
             } else {
                 high = j;
@@ -161,14 +174,14 @@ pub fn moves_by_walks(job: &Job) -> u64 {
     moves
 }
 
-/// Whether a division of these tiles keeps every share strictly below load/speed.
-fn stays_below(weights: &[u32], speeds: &[u32], load: i128, speed: i128) -> bool {
+/// Whether a division of these tiles keeps every share strictly below load/speed, with this start-up work.
+fn stays_below(c: i128, weights: &[u32], speeds: &[u32], load: i128, speed: i128) -> bool {
     if load == 0 {
         return false;
     }
     let mut left = weights.iter().peekable();
     for &e in speeds {
-        let mut sum = 0i128;
+        let mut sum = c;
         while let Some(&&w) = left.peek() {
             if (sum + w as i128) * speed >= load * e as i128 {
                 break;
@@ -211,7 +224,7 @@ pub fn search_in_turn(job: &Job) -> Search {
     let mut found = Search { candidates: Vec::new(), trials: 0, early: false };
     let mut start = 0;
     for &e in others {
-        let share = |j: usize| (job.weight(start, j), e as u128);
+        let share = |j: usize| (job.load(start, j), e as u128);
         let fits = |j: usize| trial(job, share(j)).fits();
         let Some(j) = (start..=tiles).find(|&j| fits(j)) else { panic!("all that remains does not fit for {:?}", job) };
         let (met, trials) = halve(start, tiles, fits);
@@ -224,22 +237,25 @@ pub fn search_in_turn(job: &Job) -> Search {
         }
         start = j - 1;
     }
-    found.candidates.push((job.weight(start, tiles), *last as u128));
+    found.candidates.push((job.load(start, tiles), *last as u128));
     found
 }
 
 /// The same for jobs up to the limits: each j by the halving alone, and a walk over sums that says only whether it fits.
 pub fn search_by_sums(job: &Job) -> Search {
-    let tiles = job.weights.len();
+    let (tiles, c) = (job.weights.len(), job.c() as u64);
     let mut sums = vec![0u64];
     for &w in &job.weights {
         sums.push(sums[sums.len() - 1] + w as u64);
     }
+    let share = |a: usize, b: usize| if a == b { 0 } else { c + sums[b] - sums[a] };
     let (last, others) = job.speeds.split_last().unwrap();
     let fits = |load: u64, speed: u64| {
         let mut at = 0;
         for &e in others {
-            let most = sums[at] + load * e as u64 / speed;
+            // What the machine carries beside the start-up work; where it cannot carry that, it takes no tile.
+            let Some(carries) = (load * e as u64 / speed).checked_sub(c) else { continue };
+            let most = sums[at] + carries;
             // Most trials are far above the best and end here.
             if sums[tiles] <= most {
                 return true;
@@ -248,12 +264,12 @@ pub fn search_by_sums(job: &Job) -> Search {
                 at += 1;
             }
         }
-        (sums[tiles] - sums[at]) * speed <= load * *last as u64
+        share(at, tiles) * speed <= load * *last as u64
     };
     let mut found = Search { candidates: Vec::new(), trials: 0, early: false };
     let mut start = 0;
     for &e in others {
-        let load = |j: usize| sums[j] - sums[start];
+        let load = |j: usize| share(start, j);
         let (j, trials) = halve(start, tiles, |j| fits(load(j), e as u64));
         found.trials += trials;
         found.candidates.push((load(j) as u128, e as u128));
@@ -263,7 +279,7 @@ pub fn search_by_sums(job: &Job) -> Search {
         }
         start = j - 1;
     }
-    found.candidates.push(((sums[tiles] - sums[start]) as u128, *last as u128));
+    found.candidates.push((share(start, tiles) as u128, *last as u128));
     found
 }
 
@@ -277,15 +293,17 @@ pub fn digits(mut number: u128) -> u64 {
     digits
 }
 
-/// The most that a method may count.
+/// The most that a method may count. Request M-106: in the second edition heaviest + c takes the place of heaviest, and bidding has 2 on a
+/// single machine.
 pub fn allowance(job: &Job, method: u32) -> u64 {
     let (others, tiles) = (job.speeds.len() - 1, job.weights.len());
     let steps = (others * tiles) as u64;
     let heaviest = job.weights.iter().copied().max().unwrap_or(0) as u128;
     let fastest = *job.speeds.iter().max().unwrap() as u128;
     let slowest = *job.speeds.iter().min().unwrap() as u128;
-    let d = heaviest * fastest * fastest / slowest;
-    [steps, steps + 1, digits(d) + 1, others as u64 * digits(tiles as u128)][method as usize - 1]
+    let d = (heaviest + job.c()) * fastest * fastest / slowest;
+    let bids = if job.is_second() && others == 0 { 2 } else { steps + 1 };
+    [steps, bids, digits(d) + 1, others as u64 * digits(tiles as u128)][method as usize - 1]
 }
 
 /// 1000 × (bottleneck − ideal) / ideal, rounded up, and 0 if Wtot is 0.
@@ -302,9 +320,12 @@ pub fn imbalance(job: &Job, bottleneck: Bound) -> u64 {
 }
 
 /// The same number with no division: whether the bottleneck is at most the ideal and n thousandths of it, and not with one fewer.
-/// Where Wtot is 0 only 0 is.
+/// Where Wtot is 0 only 0 is, also where start-up work makes a bottleneck.
 pub fn is_imbalance(job: &Job, bottleneck: Bound, n: u64) -> bool {
     let (whole, all_speed) = ideal(job);
+    if whole == 0 {
+        return n == 0;
+    }
     let enough = |n: u64| !less(((1000 + n as u128) * whole, all_speed), (1000 * bottleneck.0, bottleneck.1));
     enough(n) && (n == 0 || !enough(n - 1))
 }

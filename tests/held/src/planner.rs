@@ -1,20 +1,37 @@
 //! The planner under test: the two C calls of its own archive, and every other call of the archive for tests.
 
+/// How a job's edition comes beside its lists: whether it is the second, and the start-up work, which counts only there.
+#[derive(Clone, Copy, Debug, PartialEq)]
+pub struct Edition {
+    pub second: bool,
+    pub startup: u32,
+}
+
+impl Edition {
+    /// The first one, with no start-up work beside it.
+    pub const FIRST: Edition = Edition { second: false, startup: 0 };
+
+    /// The start-up work as a job has it.
+    pub fn counts(self) -> Option<u32> {
+        self.second.then_some(self.startup)
+    }
+}
+
 /// A call with its plain numbers; its lists come beside it, in the order of `slots`.
 #[derive(Clone, Copy, Debug, PartialEq)]
 pub enum Call {
-    Test,
+    Test(Edition),
     Read,
-    Write,
-    Measure,
-    Trial { load: u64, speed: u64 },
-    Quick,
-    Halving,
-    Plan { method: u32 },
-    PlanFile,
+    Write(Edition),
+    Measure(Edition),
+    Trial(Edition, u64, u64),
+    Quick(Edition),
+    Halving(Edition),
+    Plan(Edition, u32),
+    PlanFile(Edition),
     List,
     Host { method: u32 },
-    Grade,
+    Grade(Edition),
     HostGrade,
 }
 
@@ -48,16 +65,42 @@ impl Call {
     pub fn slots(self) -> &'static [Slot] {
         use Slot::*;
         match self {
-            Call::Test => &[Speeds, Weights],
+            Call::Test(_) => &[Speeds, Weights],
             Call::Read => &[File, Speeds, Weights, Answer],
-            Call::Write => &[Speeds, Weights, File, Answer],
-            Call::Measure | Call::Trial { .. } | Call::Quick | Call::Halving => &[Speeds, Weights, Separators, Answer],
-            Call::Plan { .. } => &[Speeds, Weights, Separators, Work, Answer],
-            Call::PlanFile => &[Speeds, Weights, Separators, Plan, Answer],
+            Call::Write(_) => &[Speeds, Weights, File, Answer],
+            Call::Measure(_) | Call::Trial(..) | Call::Quick(_) | Call::Halving(_) => &[Speeds, Weights, Separators, Answer],
+            Call::Plan(..) => &[Speeds, Weights, Separators, Work, Answer],
+            Call::PlanFile(_) => &[Speeds, Weights, Separators, Plan, Answer],
             Call::List => &[File, Text, Answer],
             Call::Host { .. } => &[File, Plan],
-            Call::Grade => &[Speeds, Weights, Plan, Answer],
+            Call::Grade(_) => &[Speeds, Weights, Plan, Answer],
             Call::HostGrade => &[File, Plan, Grade],
+        }
+    }
+
+    /// The edition that comes beside its lists; none where the job comes as a file.
+    pub fn edition(self) -> Option<Edition> {
+        match self {
+            Call::Test(n) | Call::Write(n) | Call::Measure(n) | Call::Trial(n, ..) | Call::Quick(n) | Call::Halving(n) => Some(n),
+            Call::Plan(n, _) | Call::PlanFile(n) | Call::Grade(n) => Some(n),
+            Call::Read | Call::List | Call::Host { .. } | Call::HostGrade => None,
+        }
+    }
+
+    /// The same call with this edition beside its lists.
+    #[cfg(feature = "faults")]
+    pub fn beside(self, n: Edition) -> Call {
+        match self {
+            Call::Test(_) => Call::Test(n),
+            Call::Write(_) => Call::Write(n),
+            Call::Measure(_) => Call::Measure(n),
+            Call::Trial(_, load, speed) => Call::Trial(n, load, speed),
+            Call::Quick(_) => Call::Quick(n),
+            Call::Halving(_) => Call::Halving(n),
+            Call::Plan(_, method) => Call::Plan(n, method),
+            Call::PlanFile(_) => Call::PlanFile(n),
+            Call::Grade(_) => Call::Grade(n),
+            Call::Read | Call::List | Call::Host { .. } | Call::HostGrade => self,
         }
     }
 }
@@ -72,20 +115,25 @@ type Longs = *mut u64;
 extern "C" {
     fn plan_job(job: Bytes, job_len: usize, method: u32, plan: Bytes, plan_len: usize) -> u32;
     fn grade_plan(job: Bytes, job_len: usize, plan: Bytes, plan_len: usize, grade: Bytes, grade_len: usize) -> u32;
-    fn exported_test_job(e: Words, e_len: usize, w: Words, w_len: usize) -> u32;
+    fn exported_test_job(second: bool, c: u32, e: Words, e_len: usize, w: Words, w_len: usize) -> u32;
     fn exported_read_job(f: Bytes, f_len: usize, e: Words, e_len: usize, w: Words, w_len: usize, a: Longs, a_len: usize) -> u32;
-    fn exported_write_job(e: Words, e_len: usize, w: Words, w_len: usize, f: Bytes, f_len: usize, a: Longs, a_len: usize) -> u32;
     fn exported_list(f: Bytes, f_len: usize, t: Bytes, t_len: usize, a: Longs, a_len: usize) -> u32;
-    fn exported_grade(e: Words, e_len: usize, w: Words, w_len: usize, f: Bytes, f_len: usize, a: Longs, a_len: usize) -> u32;
-    fn exported_measure(e: Words, e_len: usize, w: Words, w_len: usize, s: Words, s_len: usize, a: Longs, a_len: usize) -> u32;
-    fn exported_heuristic(e: Words, e_len: usize, w: Words, w_len: usize, s: Words, s_len: usize, a: Longs, a_len: usize) -> u32;
-    fn exported_halving(e: Words, e_len: usize, w: Words, w_len: usize, s: Words, s_len: usize, a: Longs, a_len: usize) -> u32;
     #[rustfmt::skip]
-    fn exported_probe(e: Words, e_len: usize, w: Words, w_len: usize, load: u64, speed: u64, s: Words, s_len: usize, a: Longs, a_len: usize) -> u32;
+    fn exported_write_job(second: bool, c: u32, e: Words, e_len: usize, w: Words, w_len: usize, f: Bytes, f_len: usize, a: Longs, a_len: usize) -> u32;
     #[rustfmt::skip]
-    fn exported_plan(m: u32, e: Words, e_len: usize, w: Words, w_len: usize, s: Words, s_len: usize, k: Words, k_len: usize, a: Longs, a_len: usize) -> u32;
+    fn exported_grade(second: bool, c: u32, e: Words, e_len: usize, w: Words, w_len: usize, f: Bytes, f_len: usize, a: Longs, a_len: usize) -> u32;
     #[rustfmt::skip]
-    fn exported_write_plan(e: Words, e_len: usize, w: Words, w_len: usize, s: Words, s_len: usize, f: Bytes, f_len: usize, a: Longs, a_len: usize) -> u32;
+    fn exported_measure(second: bool, c: u32, e: Words, e_len: usize, w: Words, w_len: usize, s: Words, s_len: usize, a: Longs, a_len: usize) -> u32;
+    #[rustfmt::skip]
+    fn exported_heuristic(second: bool, c: u32, e: Words, e_len: usize, w: Words, w_len: usize, s: Words, s_len: usize, a: Longs, a_len: usize) -> u32;
+    #[rustfmt::skip]
+    fn exported_halving(second: bool, c: u32, e: Words, e_len: usize, w: Words, w_len: usize, s: Words, s_len: usize, a: Longs, a_len: usize) -> u32;
+    #[rustfmt::skip]
+    fn exported_probe(second: bool, c: u32, e: Words, e_len: usize, w: Words, w_len: usize, load: u64, speed: u64, s: Words, s_len: usize, a: Longs, a_len: usize) -> u32;
+    #[rustfmt::skip]
+    fn exported_plan(m: u32, second: bool, c: u32, e: Words, e_len: usize, w: Words, w_len: usize, s: Words, s_len: usize, k: Words, k_len: usize, a: Longs, a_len: usize) -> u32;
+    #[rustfmt::skip]
+    fn exported_write_plan(second: bool, c: u32, e: Words, e_len: usize, w: Words, w_len: usize, s: Words, s_len: usize, f: Bytes, f_len: usize, a: Longs, a_len: usize) -> u32;
 }
 
 /// # Safety
@@ -95,19 +143,20 @@ pub unsafe fn real(call: Call, at: &[At]) -> u32 {
     let w = |k: usize| at[k].0 as Words;
     let a = |k: usize| at[k].0 as Longs;
     let n = |k: usize| at[k].1;
+    let Edition { second, startup: c } = call.edition().unwrap_or(Edition::FIRST);
     match call {
-        Call::Test => exported_test_job(w(0), n(0), w(1), n(1)),
+        Call::Test(_) => exported_test_job(second, c, w(0), n(0), w(1), n(1)),
         Call::Read => exported_read_job(b(0), n(0), w(1), n(1), w(2), n(2), a(3), n(3)),
-        Call::Write => exported_write_job(w(0), n(0), w(1), n(1), b(2), n(2), a(3), n(3)),
-        Call::Measure => exported_measure(w(0), n(0), w(1), n(1), w(2), n(2), a(3), n(3)),
-        Call::Trial { load, speed } => exported_probe(w(0), n(0), w(1), n(1), load, speed, w(2), n(2), a(3), n(3)),
-        Call::Quick => exported_heuristic(w(0), n(0), w(1), n(1), w(2), n(2), a(3), n(3)),
-        Call::Halving => exported_halving(w(0), n(0), w(1), n(1), w(2), n(2), a(3), n(3)),
-        Call::Plan { method } => exported_plan(method, w(0), n(0), w(1), n(1), w(2), n(2), w(3), n(3), a(4), n(4)),
-        Call::PlanFile => exported_write_plan(w(0), n(0), w(1), n(1), w(2), n(2), b(3), n(3), a(4), n(4)),
+        Call::Write(_) => exported_write_job(second, c, w(0), n(0), w(1), n(1), b(2), n(2), a(3), n(3)),
+        Call::Measure(_) => exported_measure(second, c, w(0), n(0), w(1), n(1), w(2), n(2), a(3), n(3)),
+        Call::Trial(_, load, speed) => exported_probe(second, c, w(0), n(0), w(1), n(1), load, speed, w(2), n(2), a(3), n(3)),
+        Call::Quick(_) => exported_heuristic(second, c, w(0), n(0), w(1), n(1), w(2), n(2), a(3), n(3)),
+        Call::Halving(_) => exported_halving(second, c, w(0), n(0), w(1), n(1), w(2), n(2), a(3), n(3)),
+        Call::Plan(_, method) => exported_plan(method, second, c, w(0), n(0), w(1), n(1), w(2), n(2), w(3), n(3), a(4), n(4)),
+        Call::PlanFile(_) => exported_write_plan(second, c, w(0), n(0), w(1), n(1), w(2), n(2), b(3), n(3), a(4), n(4)),
         Call::List => exported_list(b(0), n(0), b(1), n(1), a(2), n(2)),
         Call::Host { method } => plan_job(b(0), n(0), method, b(1), n(1)),
-        Call::Grade => exported_grade(w(0), n(0), w(1), n(1), b(2), n(2), a(3), n(3)),
+        Call::Grade(_) => exported_grade(second, c, w(0), n(0), w(1), n(1), b(2), n(2), a(3), n(3)),
         Call::HostGrade => grade_plan(b(0), n(0), b(1), n(1), b(2), n(2)),
     }
 }

@@ -2,8 +2,8 @@
 
 use crate::check::{self, Check};
 use crate::guard;
-use crate::job::{machine, record, tile, Record};
-use crate::limits::{plan_bytes, JOB_INTAKE, LONGEST_JOB, MACHINES, SPEED, TILES, TOO_MANY, WEIGHT};
+use crate::job::{head, machine, record, tile, Record};
+use crate::limits::{plan_bytes, JOB_INTAKE, LONGEST_JOB, MACHINES, SPEED, STARTUP, TILES, TOO_MANY, WEIGHT};
 use crate::planner::{self, At, Call};
 
 /// Methods that are none, some of which look like one when cut short.
@@ -14,9 +14,9 @@ const NO_METHOD: [u32; 13] = [0, 5, 6, 255, 256, 257, 258, 260, 65_537, 0x0100_0
 fn refuse(c: &mut Check, file: &[u8], method: u32, plan_len: usize, number: u32) {
     let plan = c.rng.pattern(plan_len);
     c.refuse(Call::Host { method }, &[file, &plan], number);
-    if (2..=8).contains(&number) {
+    if ![1, 9].contains(&number) {
         let (e, w) = (c.rng.pattern(4 * records(file)), c.rng.pattern(4 * records(file)));
-        let answer = c.rng.pattern(8 * 2);
+        let answer = c.rng.pattern(8 * 4);
         c.refuse(Call::Read, &[file, &e, &w, &answer], number);
         c.refuse(Call::Read, &[file, &[], &[], &[]], number);
     }
@@ -37,6 +37,16 @@ fn refuse_all(c: &mut Check, file: &[u8], plan_len: usize, number: u32) {
     }
 }
 
+/// The same by one of the four methods, and now and then by another.
+fn some_methods(c: &mut Check, file: &[u8], plan_len: usize, number: u32) {
+    let method = c.rng.range(1, 4);
+    refuse(c, file, method, plan_len, number);
+    if c.rng.once_in(4) {
+        let method = c.rng.pick(&[0, 5, u32::MAX]);
+        refuse(c, file, method, plan_len, 1);
+    }
+}
+
 /// No method at all, whatever else is wrong.
 fn no_method(c: &mut Check) {
     for method in NO_METHOD {
@@ -49,7 +59,7 @@ fn no_method(c: &mut Check) {
     }
 }
 
-/// The smallest file that causes each number from 2 to 7.
+/// The smallest file that causes each number from 2 to 7, 15 and 16.
 fn smallest(c: &mut Check, plan_len: usize) {
     for len in (1..8).chain(9..16).chain([17, LONGEST_JOB + 1, JOB_INTAKE + 4]) {
         refuse_all(c, &vec![0; len], plan_len, 2);
@@ -58,10 +68,10 @@ fn smallest(c: &mut Check, plan_len: usize) {
         good.truncate(len);
         refuse_all(c, &good, plan_len, 2);
     }
-    for kind in (0..=255).filter(|k| *k != 1 && *k != 2) {
+    for kind in (0..=255).filter(|k| ![1, 2, 3].contains(k)) {
         refuse_all(c, &record(kind, 1), plan_len, 3);
     }
-    for (kind, place, bit) in (0..2 * 3 * 8).map(|k| (1 + k % 2, 1 + k / 2 % 3, k / 6)) {
+    for (kind, place, bit) in (0..3 * 3 * 8).map(|k| (1 + k % 3, 1 + k / 3 % 3, k / 9)) {
         let mut r = record(kind as u8, 1);
         r[place] = 1 << bit;
         refuse_all(c, &r, plan_len, 3);
@@ -72,6 +82,22 @@ fn smallest(c: &mut Check, plan_len: usize) {
     refuse_all(c, &tile(WEIGHT + 1), plan_len, 6);
     refuse_all(c, &[], plan_len, 7);
     refuse_all(c, &tile(0), plan_len, 7);
+    for front in [machine(1), tile(0), head(0), head(STARTUP)] {
+        for startup in [0, 1, STARTUP, STARTUP + 1, u32::MAX] {
+            refuse_all(c, &[front, head(startup)].concat(), plan_len, 15);
+        }
+    }
+    for startup in [STARTUP + 1, 1 << 20, 1 << 24, 1 << 31, u32::MAX] {
+        refuse_all(c, &head(startup), plan_len, 16);
+        refuse_all(c, &[head(startup), machine(0)].concat(), plan_len, 16);
+    }
+    for startup in [0, 1, STARTUP] {
+        refuse_all(c, &head(startup), plan_len, 7);
+        refuse_all(c, &[head(startup), tile(0)].concat(), plan_len, 7);
+        refuse_all(c, &[head(startup), tile(0), machine(1)].concat(), plan_len, 4);
+        refuse_all(c, &[head(startup), machine(0)].concat(), plan_len, 5);
+        refuse_all(c, &[head(startup), tile(WEIGHT + 1)].concat(), plan_len, 6);
+    }
 }
 
 /// The smallest files that cause 7 by too many machines, 8 and 9.
@@ -79,54 +105,95 @@ fn smallest_counts(c: &mut Check) {
     for machines in TOO_MANY {
         for plan_len in [0, plan_bytes(MACHINES), plan_bytes(machines) - 1, plan_bytes(machines)] {
             refuse_all(c, &vec![machine(1); machines].concat(), plan_len, 7);
+            refuse_all(c, &[&head(3)[..], &vec![machine(1); machines].concat()].concat(), plan_len, 7);
         }
     }
     for plan_len in [0, 15, 16] {
         let mut records = vec![machine(1)];
         records.extend(vec![tile(0); TILES + 1]);
         refuse_all(c, &records.concat(), plan_len, 8);
+        records.insert(0, head(STARTUP));
+        refuse_all(c, &records.concat(), plan_len, 8);
     }
-    for machines in [1, 2, 3, MACHINES - 1, MACHINES] {
-        let file = vec![machine(1); machines].concat();
+    for (startup, machines) in [1, 2, 3, MACHINES - 1, MACHINES].into_iter().flat_map(|m| [(None, m), (Some(4), m)]) {
+        let file = Good::of(startup, &vec![machine(1); machines], &[]).records.concat();
         for plan_len in (0..16).chain(plan_bytes(machines - 1)..plan_bytes(machines)) {
             refuse_all(c, &file, plan_len, 9);
         }
     }
 }
 
+/// Where a record stands: the first one of the second edition, a machine's that is the first of all or a later one, the first tile's or a
+/// later one.
+#[derive(Clone, Copy, PartialEq)]
+enum Place {
+    Head,
+    First,
+    Machine,
+    Tile,
+    Later,
+}
+
+use Place::{First, Head, Later, Machine, Tile};
+
 /// A fault of one record: its number, where it can stand, and how it is made.
 struct Fault {
     number: u32,
-    on_machine: bool,
-    on_tile: bool,
-    after_tile: bool,
+    on: &'static [Place],
     make: fn(&mut Record),
 }
 
-const FAULTS: [Fault; 13] = [
-    Fault { number: 3, on_machine: true, on_tile: true, after_tile: false, make: |r| r[0] = 0 },
-    Fault { number: 3, on_machine: true, on_tile: true, after_tile: false, make: |r| r[0] = 3 },
-    Fault { number: 3, on_machine: true, on_tile: true, after_tile: false, make: |r| r[0] |= 0x80 },
-    Fault { number: 3, on_machine: true, on_tile: true, after_tile: false, make: |r| r[1] = 1 },
-    Fault { number: 3, on_machine: true, on_tile: true, after_tile: false, make: |r| r[2] = 0x80 },
-    Fault { number: 3, on_machine: true, on_tile: true, after_tile: false, make: |r| r[3] = 0xFF },
-    Fault { number: 4, on_machine: false, on_tile: false, after_tile: true, make: |r| *r = machine(3) },
-    Fault { number: 4, on_machine: false, on_tile: false, after_tile: true, make: |r| *r = machine(0) },
-    Fault { number: 4, on_machine: false, on_tile: false, after_tile: true, make: |r| *r = machine(WEIGHT + 1) },
-    Fault { number: 5, on_machine: true, on_tile: false, after_tile: false, make: |r| *r = machine(0) },
-    Fault { number: 5, on_machine: true, on_tile: false, after_tile: false, make: |r| *r = machine(SPEED + 1) },
-    Fault { number: 6, on_machine: false, on_tile: true, after_tile: false, make: |r| *r = tile(WEIGHT + 1) },
-    Fault { number: 6, on_machine: false, on_tile: true, after_tile: false, make: |r| *r = tile(u32::MAX) },
+const ANY: &[Place] = &[Head, First, Machine, Tile, Later];
+const NOT_FIRST: &[Place] = &[Machine, Tile, Later];
+
+const FAULTS: [Fault; 19] = [
+    Fault { number: 3, on: ANY, make: |r| r[0] = 0 },
+    Fault { number: 3, on: ANY, make: |r| r[0] = 4 },
+    Fault { number: 3, on: ANY, make: |r| r[0] |= 0x80 },
+    Fault { number: 3, on: ANY, make: |r| r[1] = 1 },
+    Fault { number: 3, on: ANY, make: |r| r[2] = 0x80 },
+    Fault { number: 3, on: ANY, make: |r| r[3] = 0xFF },
+    Fault { number: 4, on: &[Later], make: |r| *r = machine(3) },
+    Fault { number: 4, on: &[Later], make: |r| *r = machine(0) },
+    Fault { number: 4, on: &[Later], make: |r| *r = machine(WEIGHT + 1) },
+    Fault { number: 15, on: NOT_FIRST, make: |r| r[0] = 3 },
+    Fault { number: 15, on: NOT_FIRST, make: |r| *r = head(0) },
+    Fault { number: 15, on: NOT_FIRST, make: |r| *r = head(STARTUP + 1) },
+    Fault { number: 5, on: &[First, Machine], make: |r| *r = machine(0) },
+    Fault { number: 5, on: &[First, Machine], make: |r| *r = machine(SPEED + 1) },
+    Fault { number: 6, on: &[Tile, Later], make: |r| *r = tile(WEIGHT + 1) },
+    Fault { number: 6, on: &[Tile, Later], make: |r| *r = tile(u32::MAX) },
+    Fault { number: 16, on: &[Head], make: |r| *r = head(STARTUP + 1) },
+    Fault { number: 16, on: &[Head], make: |r| *r = head(1 << 24) },
+    Fault { number: 16, on: &[Head], make: |r| *r = head(u32::MAX) },
 ];
 
-impl Fault {
-    /// Whether it can stand at a place of a file with so many machines first.
-    fn stands(&self, place: usize, machines: usize) -> bool {
-        if place < machines {
-            self.on_machine
-        } else {
-            self.on_tile || (self.after_tile && place > machines)
+/// A file whose records are good, with so many machines behind what stands in front of them.
+struct Good {
+    heads: usize,
+    machines: usize,
+    records: Vec<Record>,
+}
+
+impl Good {
+    fn of(startup: Option<u32>, machines: &[Record], tiles: &[Record]) -> Good {
+        let front: Vec<Record> = startup.iter().map(|&c| head(c)).collect();
+        Good { heads: front.len(), machines: machines.len(), records: [&front[..], machines, tiles].concat() }
+    }
+
+    fn place(&self, k: usize) -> Place {
+        match k {
+            _ if k < self.heads => Head,
+            0 if self.machines > 0 => First,
+            _ if k < self.heads + self.machines => Machine,
+            _ if k == self.heads + self.machines => Tile,
+            _ => Later,
         }
+    }
+
+    /// The places at which a fault can stand. Kind 3 can be no fault in the first of all records.
+    fn places<'a>(&'a self, f: &'a Fault) -> impl Iterator<Item = usize> + 'a {
+        (0..self.records.len()).filter(move |&k| f.on.contains(&self.place(k)) && (k > 0 || f.number != 15))
     }
 }
 
@@ -134,15 +201,17 @@ impl Fault {
 const FEW: usize = 3;
 const EXACT: usize = plan_bytes(FEW);
 
-fn good_records() -> Vec<Record> {
-    vec![machine(2), machine(1), machine(SPEED), tile(4), tile(0), tile(WEIGHT), tile(3)]
+/// The same job in both editions.
+fn good_files() -> [Good; 2] {
+    let (machines, tiles) = ([machine(2), machine(1), machine(SPEED)], [tile(4), tile(0), tile(WEIGHT), tile(3)]);
+    [None, Some(STARTUP)].map(|startup| Good::of(startup, &machines, &tiles))
 }
 
 /// One fault, alone and with a length or a plan buffer that is wrong.
 fn one_fault(c: &mut Check, one: &[Record], number: u32) {
     for plan_len in [0, EXACT - 1, EXACT, EXACT + 5] {
         refuse_all(c, &one.concat(), plan_len, number);
-        for extra in 1..8 {
+        for extra in [1, 4, 7] {
             let mut cut = one.concat();
             cut.extend(vec![2; extra]);
             refuse_all(c, &cut, plan_len, 2);
@@ -152,19 +221,22 @@ fn one_fault(c: &mut Check, one: &[Record], number: u32) {
     }
 }
 
-/// A fault with a wrong count: no machine, too many, too many tiles, both.
-fn with_counts(c: &mut Check, f: &Fault, on_machines: bool) {
+/// A fault with a wrong count: no machine, too many, too many tiles, both; in either edition, at the first place that it can have, at the
+/// last, and about the middle.
+fn with_counts(c: &mut Check, f: &Fault) {
     for (m, t) in [(0, 4), (MACHINES + 1, 4), (3, TILES + 1), (0, TILES + 1), (MACHINES + 1, TILES + 1)] {
-        if on_machines && m == 0 {
-            continue;
-        }
-        let mut records = vec![machine(7); m];
-        records.extend(vec![tile(9); t]);
-        let places: Vec<usize> = if on_machines { vec![0, m / 2, m - 1] } else { vec![m, m + 1, m + t / 2, m + t - 1] };
-        for place in places.into_iter().filter(|&place| f.stands(place, m)) {
-            let mut broken = records.clone();
-            (f.make)(&mut broken[place]);
-            for plan_len in [0, plan_bytes(m)] {
+        for startup in [None, Some(0)] {
+            let good = Good::of(startup, &vec![machine(7); m], &vec![tile(9); t]);
+            let places: Vec<usize> = good.places(f).collect();
+            let Some(&last) = places.last() else { continue };
+            let mut some = vec![places[0], places[places.len() / 2], last];
+            some.extend([good.heads + m / 2, good.heads + m, good.heads + m + 1].iter().filter(|k| places.contains(k)));
+            some.sort();
+            some.dedup();
+            for place in some {
+                let mut broken = good.records.clone();
+                (f.make)(&mut broken[place]);
+                let plan_len = c.rng.pick(&[0, plan_bytes(m)]);
                 refuse_all(c, &broken.concat(), plan_len, f.number);
             }
         }
@@ -173,52 +245,65 @@ fn with_counts(c: &mut Check, f: &Fault, on_machines: bool) {
 
 /// Every two faults in different records: the earlier one counts.
 fn pairs(c: &mut Check) {
-    let good = good_records();
     for f in &FAULTS {
-        for i in (0..good.len()).filter(|&i| f.stands(i, FEW)) {
-            let mut one = good.clone();
-            (f.make)(&mut one[i]);
-            one_fault(c, &one, f.number);
-            with_counts(c, f, i < FEW);
-            for g in &FAULTS {
-                for j in (i + 1..good.len()).filter(|&j| g.stands(j, FEW)) {
-                    let mut two = one.clone();
-                    (g.make)(&mut two[j]);
-                    refuse_all(c, &two.concat(), EXACT, f.number);
-                    refuse_all(c, &two.concat(), EXACT - 1, f.number);
-                    refuse_all(c, &two.concat()[..two.len() * 8 - 3], EXACT, 2);
+        with_counts(c, f);
+    }
+    for good in good_files() {
+        for f in &FAULTS {
+            for i in good.places(f) {
+                let mut one = good.records.clone();
+                (f.make)(&mut one[i]);
+                one_fault(c, &one, f.number);
+                for g in &FAULTS {
+                    for j in good.places(g).filter(|&j| j > i) {
+                        let mut two = one.clone();
+                        (g.make)(&mut two[j]);
+                        some_methods(c, &two.concat(), EXACT, f.number);
+                        some_methods(c, &two.concat(), EXACT - 1, f.number);
+                        some_methods(c, &two.concat()[..two.len() * 8 - 3], EXACT, 2);
+                    }
                 }
             }
         }
     }
 }
 
-/// Two faults in one record: the lesser number counts.
+/// Two faults in one record: 3 counts before all others, 15 and 4 before 16 and 5.
 fn pairs_in_one(c: &mut Check) {
-    let good = good_records();
-    for f in FAULTS.iter().filter(|f| f.number > 3) {
-        for g in FAULTS.iter().filter(|g| g.number == 3) {
-            for i in (0..good.len()).filter(|&i| f.stands(i, FEW)) {
-                let mut two = good.clone();
-                (f.make)(&mut two[i]);
-                (g.make)(&mut two[i]);
-                refuse_all(c, &two.concat(), EXACT, f.number.min(g.number));
+    for good in good_files() {
+        for f in FAULTS.iter().filter(|f| f.number > 3) {
+            for g in FAULTS.iter().filter(|g| g.number == 3) {
+                for i in good.places(f) {
+                    let mut two = good.records.clone();
+                    (f.make)(&mut two[i]);
+                    (g.make)(&mut two[i]);
+                    refuse_all(c, &two.concat(), EXACT, 3);
+                }
             }
         }
-    }
-    // A machine after a tile with a speed out of range.
-    for speed in [0, SPEED + 1, WEIGHT, WEIGHT + 1, u32::MAX] {
-        for i in FEW + 1..good.len() {
-            let mut two = good.clone();
-            two[i] = machine(speed);
-            refuse_all(c, &two.concat(), EXACT, 4);
+        let (from, tiles) = (good.heads, good.heads + FEW);
+        // A machine after a tile with a speed out of range.
+        for speed in [0, SPEED + 1, WEIGHT, WEIGHT + 1, u32::MAX] {
+            for i in tiles + 1..good.records.len() {
+                let mut two = good.records.clone();
+                two[i] = machine(speed);
+                refuse_all(c, &two.concat(), EXACT, 4);
+            }
         }
-    }
-    // A value good for the other kind only.
-    for speed in [0, SPEED + 1, WEIGHT] {
-        let mut one = good.clone();
-        one[1] = machine(speed);
-        refuse_all(c, &one.concat(), EXACT, 5);
+        // Kind 3 past the first record, with start-up work out of range.
+        for startup in [STARTUP + 1, 1 << 24, u32::MAX] {
+            for i in 1..good.records.len() {
+                let mut two = good.records.clone();
+                two[i] = head(startup);
+                refuse_all(c, &two.concat(), EXACT, 15);
+            }
+        }
+        // A value good for the other kind only.
+        for speed in [0, SPEED + 1, WEIGHT] {
+            let mut one = good.records.clone();
+            one[from + 1] = machine(speed);
+            refuse_all(c, &one.concat(), EXACT, 5);
+        }
     }
 }
 

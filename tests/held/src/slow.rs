@@ -12,9 +12,9 @@ pub fn less(x: Bound, y: Bound) -> bool {
 
 /// The greatest share's bound; of equal ones that of the lowest machine.
 pub fn bottleneck(job: &Job, separators: &[usize]) -> Bound {
-    let mut greatest = (job.weight(0, separators[1]), job.speeds[0] as u128);
+    let mut greatest = (job.load(0, separators[1]), job.speeds[0] as u128);
     for p in 1..job.speeds.len() {
-        let share = (job.weight(separators[p], separators[p + 1]), job.speeds[p] as u128);
+        let share = (job.load(separators[p], separators[p + 1]), job.speeds[p] as u128);
         if less(greatest, share) {
             greatest = share;
         }
@@ -45,7 +45,7 @@ pub fn furthest(job: &Job, bound: Bound) -> Vec<usize> {
     let mut stops: Vec<bool> = (0..=tiles).map(|i| i == 0).collect();
     let mut list = vec![0];
     for &e in &job.speeds {
-        let within = |j: usize, i: usize| !less(bound, (job.weight(j, i), e as u128));
+        let within = |j: usize, i: usize| !less(bound, (job.load(j, i), e as u128));
         stops = (0..=tiles).map(|i| (0..=i).any(|j| stops[j] && within(j, i))).collect();
         list.push(stops.iter().rposition(|&is| is).unwrap());
     }

@@ -2,7 +2,7 @@
 
 use crate::check::Check;
 use crate::job::Job;
-use crate::limits::{SPEED, WEIGHT};
+use crate::limits::{SPEED, STARTUP, WEIGHT};
 use crate::rng::Rng;
 use crate::slow::{self, Bound};
 use crate::{every, fast, methods};
@@ -59,6 +59,34 @@ pub fn weights(r: &mut Rng, tiles: usize, speeds: &[u32]) -> Vec<u32> {
         .collect()
 }
 
+/// The start-up work of a job with these weights, none in the first edition: none at all, little, about a weight or as much as all weights,
+/// the most, or any.
+pub fn startup(r: &mut Rng, weights: &[u32]) -> Option<u32> {
+    let c = match r.below(20) {
+        0..=8 => return None,
+        9 | 10 => 0,
+        11..=13 => r.range(1, 4),
+        14 | 15 if !weights.is_empty() => (r.pick(weights) + r.range(0, 2)).saturating_sub(1),
+        16 => weights.iter().map(|&w| w as u64).sum::<u64>().min(STARTUP as u64) as u32,
+        17 => STARTUP,
+        _ => r.range(0, STARTUP),
+    };
+    Some(c.min(STARTUP))
+}
+
+/// A job of these lists, of either edition.
+pub fn job_of(r: &mut Rng, speeds: Vec<u32>, weights: Vec<u32>) -> Job {
+    let startup = startup(r, &weights);
+    Job { startup, speeds, weights }
+}
+
+/// A job of this size, of either edition.
+pub fn sized(r: &mut Rng, machines: usize, tiles: usize) -> Job {
+    let speeds = speeds(r, machines);
+    let weights = weights(r, tiles, &speeds);
+    job_of(r, speeds, weights)
+}
+
 /// Every job with up to 5 tiles and up to 3 machines of small numbers.
 pub fn every_job(visit: &mut dyn FnMut(&Job)) {
     for (tiles, machines, heaviest, fastest) in
@@ -72,13 +100,19 @@ pub fn every_job(visit: &mut dyn FnMut(&Job)) {
     }
 }
 
+/// The same job in the second edition, with little start-up work.
+pub fn in_second(r: &mut Rng, job: &Job) -> Job {
+    Job { startup: Some(r.pick(&[0, 1, 1, 2, 3, 5])), ..job.clone() }
+}
+
 /// Every list of up to 9 small weights on 1, 2, 4 and 8 machines of one speed, to be halved.
 fn every_row(c: &mut Check) {
     for machines in [1, 2, 4, 8] {
         for (tiles, heaviest) in [(0, 0), (1, 9), (2, 9), (3, 7), (4, 5), (5, 3), (6, 2), (7, 2), (8, 1), (9, 1)] {
             every_list(tiles, 0, heaviest, &mut |w| {
                 let speed = c.rng.pick(&[1, 2, 3, SPEED]);
-                row(c, &Job::new(&vec![speed; machines], w));
+                let startup = c.rng.pick(&[None, None, Some(0), Some(1), Some(2)]);
+                row(c, &Job::of(startup, &vec![speed; machines], w));
             });
         }
     }
@@ -112,7 +146,8 @@ pub fn random_row(c: &mut Check) {
     let (machines, tiles) = (1 << c.rng.below(4), c.rng.below(9));
     let speeds = vec![c.rng.range(1, SPEED); machines];
     let weights = weights(&mut c.rng, tiles, &speeds);
-    row(c, &Job { speeds, weights });
+    let job = job_of(&mut c.rng, speeds, weights);
+    row(c, &job);
 }
 
 /// Every list of so many numbers, each from the least to the greatest.
@@ -132,7 +167,7 @@ pub fn every_list(len: usize, least: u32, greatest: u32, visit: &mut dyn FnMut(&
     }
 }
 
-/// A job whose two best cuts give bounds W1/e1 and W2/e2 that are equal or as near as two can be.
+/// A job whose two best cuts give bounds L1/e1 and L2/e2 that are equal or as near as two can be, with start-up work or without.
 /// With `tiles` tiles on each side of the tile between the cuts.
 pub fn neighbours(r: &mut Rng, tiles: usize) -> Job {
     loop {
@@ -145,12 +180,14 @@ pub fn neighbours(r: &mut Rng, tiles: usize) -> Job {
         if w1 < 1 || w2 < 1 || w1 > most || w2 > most {
             continue;
         }
-        // W1 is the left side with the middle tile, W2 the middle tile with the right side.
+        let startup = if r.once_in(2) { None } else { Some(r.range(0, (w1.min(w2) - 1).min(STARTUP as i64) as u32)) };
+        // Without start-up work W1 is the left side with the middle tile, W2 the middle tile with the right side.
+        let (w1, w2) = (w1 - startup.unwrap_or(0) as i64, w2 - startup.unwrap_or(0) as i64);
         let middle = r.range(1, w1.min(w2).min(WEIGHT as i64) as u32);
         let mut weights = pieces(r, (w1 - middle as i64) as u32, tiles);
         weights.push(middle);
         weights.extend(pieces(r, (w2 - middle as i64) as u32, tiles));
-        return Job { speeds: vec![e1 as u32, e2 as u32], weights };
+        return Job { startup, speeds: vec![e1 as u32, e2 as u32], weights };
     }
 }
 
@@ -188,9 +225,7 @@ pub fn near(c: &mut Check) {
 /// Any small job.
 pub fn random_job(r: &mut Rng) -> Job {
     let (machines, tiles) = (1 + r.below(4), r.below(9));
-    let speeds = speeds(r, machines);
-    let weights = weights(r, tiles, &speeds);
-    Job { speeds, weights }
+    sized(r, machines, tiles)
 }
 
 pub fn random(c: &mut Check) {
@@ -200,6 +235,12 @@ pub fn random(c: &mut Check) {
 
 pub fn run(c: &mut Check, times: usize) {
     every_job(&mut |job| both(c, job));
+    every_job(&mut |job| {
+        if c.rng.once_in(2) {
+            let job = in_second(&mut c.rng, job);
+            both(c, &job);
+        }
+    });
     every_row(c);
     for _ in 0..10_000 * times {
         random_row(c);
@@ -207,7 +248,7 @@ pub fn run(c: &mut Check, times: usize) {
     for _ in 0..4_000 * times {
         near(c);
     }
-    for _ in 0..120_000 * times {
+    for _ in 0..110_000 * times {
         random(c);
     }
 }

@@ -5,7 +5,7 @@ use crate::answers::{self, bytes_of, Solved};
 use crate::check::Check;
 use crate::damage::is_tiny;
 use crate::job::Job;
-use crate::limits::{BOUND_LOAD, BOUND_SPEED, MACHINES, SPEED, TILES, WEIGHT};
+use crate::limits::{BOUND_LOAD, BOUND_SPEED, MACHINES, SPEED, STARTUP, TILES, WEIGHT};
 use crate::methods::{self, Trial};
 use crate::planner::Call;
 use crate::rng::Rng;
@@ -65,8 +65,8 @@ pub fn one(c: &mut Check, t: &Case, bound: Bound, lent: &[u8], entries: usize) {
         sound(c, t, bound, &found);
         count(c, &t.job, bound, &found);
     }
-    let answer = c.rng.pattern(8 * entries);
-    let call = Call::Trial { load: bound.0 as u64, speed: bound.1 as u64 };
+    let (answer, edition) = (c.rng.pattern(8 * entries), c.edition(&t.job));
+    let call = Call::Trial(edition, bound.0 as u64, bound.1 as u64);
     c.judge(call, &[&t.speeds, &t.weights, lent, &answer], None);
 }
 
@@ -91,7 +91,7 @@ fn is_greatest(job: &Job, bound: Bound, separators: &[usize]) -> bool {
     let tiles = job.weights.len();
     let each = |p: usize| {
         let (a, b) = (separators[p], separators[p + 1]);
-        let within = |to: usize| !less(bound, (job.weight(a, to), job.speeds[p] as u128));
+        let within = |to: usize| !less(bound, (job.load(a, to), job.speeds[p] as u128));
         a <= b && b <= tiles && within(b) && (b == tiles || !within(b + 1))
     };
     separators.len() == job.speeds.len() + 1 && separators[0] == 0 && (0..job.speeds.len()).all(each)
@@ -104,7 +104,7 @@ fn count(c: &mut Check, job: &Job, bound: Bound, found: &Trial) {
         return;
     }
     let (tiles, machines, (start, end)) = (job.weights.len(), job.speeds.len(), found.last());
-    let share = (job.weight(start, end), job.speeds[machines - 1] as u128);
+    let share = (job.load(start, end), job.speeds[machines - 1] as u128);
     let ends = [
         machines > 1 && end == start,
         machines > 1 && end > start,
@@ -127,7 +127,7 @@ fn second_bound(job: &Job) -> Bound {
 /// The bound of any share on any machine.
 fn some_share(r: &mut Rng, job: &Job) -> Bound {
     let (a, b) = (r.below(job.weights.len() + 1), r.below(job.weights.len() + 1));
-    (job.weight(a.min(b), a.max(b)), job.speeds[r.below(job.speeds.len())] as u128)
+    (job.load(a.min(b), a.max(b)), job.speeds[r.below(job.speeds.len())] as u128)
 }
 
 /// A bound to try: nought, the ideal, its next bid, the quick plan's, the best, part of it, of a share, next to one of them, or
@@ -215,7 +215,7 @@ fn at_every_bid(c: &mut Check, t: &Case) {
     let tiles = t.job.weights.len();
     let mut bounds: Vec<Bound> = Vec::new();
     for &e in &t.job.speeds {
-        bounds.extend((0..=tiles).flat_map(|a| (a..=tiles).map(move |b| (a, b))).map(|(a, b)| (t.job.weight(a, b), e as u128)));
+        bounds.extend((0..=tiles).flat_map(|a| (a..=tiles).map(move |b| (a, b))).map(|(a, b)| (t.job.load(a, b), e as u128)));
     }
     bounds.sort_by(|x, y| (x.0 * y.1).cmp(&(y.0 * x.1)));
     bounds.dedup_by(|x, y| !less(*x, *y) && !less(*y, *x));
@@ -258,14 +258,16 @@ fn in_turn(c: &mut Check, t: &Case, from: Bound, most: usize) {
 }
 
 /// The same job with tiles of weight 0 put in, most of them where shares end: each machine takes along those behind its last tile, and
-/// nothing else changes.
+/// nothing else changes. Where there is start-up work and the first machine takes no tile, none is put in front of all others, since
+/// that tile could be taken.
 fn padded(c: &mut Check, t: &Case, bound: Bound) {
     let found = methods::trial(&t.job, bound);
     let tiles = t.job.weights.len();
     let mut room = TILES - tiles;
     // How many are put in behind so many tiles.
     let mut more = vec![0; tiles + 1];
-    for &s in found.separators.iter().chain([&c.rng.below(tiles + 1), &tiles]) {
+    let in_front = t.job.c() == 0 || found.separators[1] > 0;
+    for &s in found.separators.iter().chain([&c.rng.below(tiles + 1), &tiles]).filter(|&&s| s > 0 || in_front) {
         let some = c.rng.below(4).min(room);
         more[s] += some;
         room -= some;
@@ -275,7 +277,7 @@ fn padded(c: &mut Check, t: &Case, bound: Bound) {
         weights.push(w);
         weights.resize(weights.len() + more[i + 1], 0);
     }
-    let other = Case::of(&Job { speeds: t.job.speeds.clone(), weights });
+    let other = Case::of(&Job { startup: t.job.startup, speeds: t.job.speeds.clone(), weights });
     let mut separators: Vec<usize> = found.separators.iter().map(|&s| s + more[..=s].iter().sum::<usize>()).collect();
     separators[0] = 0;
     let wanted = Trial { separators, next: found.next };
@@ -288,16 +290,17 @@ fn padded(c: &mut Check, t: &Case, bound: Bound) {
 }
 
 /// One machine, and two of which the first takes some tiles of weight 0: of the equal tiles that are left the last one reaches each of these
-/// numbers in turn, and in the end all.
+/// numbers in turn, and in the end all. Likewise with start-up work, which the first machine cannot carry.
 fn every_reach(c: &mut Check, tiles: usize, reached: &[usize]) {
-    for machines in 1..=2 {
+    for (machines, second) in [(1, false), (2, false), (1, true), (2, true)] {
         c.jobs_seen += 1;
-        let taken = if machines == 1 { 0 } else { c.rng.below(tiles + 1) };
+        let taken = if machines == 1 || second { 0 } else { c.rng.below(tiles + 1) };
+        let startup = second.then(|| c.rng.pick(&[1, 2, 7, 1_000, STARTUP]));
         let weight = c.rng.range(1, 9);
         let weights = [vec![0; taken], vec![weight; tiles - taken]].concat();
-        let t = Case::of(&Job { speeds: [vec![1; machines - 1], vec![SPEED]].concat(), weights });
+        let t = Case::of(&Job { startup, speeds: [vec![1; machines - 1], vec![SPEED]].concat(), weights });
         for &many in reached.iter().filter(|&&many| many <= tiles - taken) {
-            let bound = (many as u128 * weight as u128, SPEED as u128);
+            let bound = (t.job.c() + many as u128 * weight as u128, SPEED as u128);
             let lent = list_with_room(&mut c.rng, &t, bound);
             one(c, &t, bound, &lent, 3);
         }
@@ -310,7 +313,8 @@ fn left_over(r: &mut Rng, job: &Job, bound: Bound) -> Job {
     let (start, _) = methods::trial(job, bound).last();
     let mut weights = job.weights[..start].to_vec();
     let Some(&first) = job.weights.get(start) else { return job.clone() };
-    let carries = (bound.0 * job.speeds[job.speeds.len() - 1] as u128 / bound.1).min(u32::MAX as u128) as u32;
+    let most = bound.0 * job.speeds[job.speeds.len() - 1] as u128 / bound.1;
+    let carries = most.saturating_sub(job.c()).min(u32::MAX as u128) as u32;
     let others = job.weights.len() - start - 1;
     let many = r.below(others + 1);
     weights.push(if r.once_in(3) { first.max(carries.saturating_add(1).min(WEIGHT)) } else { first });
@@ -322,7 +326,7 @@ fn left_over(r: &mut Rng, job: &Job, bound: Bound) -> Job {
         let at = rest + r.below(weights.len() - rest);
         weights[at] = r.pick(&[1, 2, WEIGHT]);
     }
-    Job { speeds: job.speeds.clone(), weights }
+    Job { startup: job.startup, speeds: job.speeds.clone(), weights }
 }
 
 /// A job of this size at bounds about its ideal: as it comes, and with what is left for the last machine made anew. The last machine is
@@ -331,8 +335,12 @@ fn sized(c: &mut Check, machines: usize, tiles: usize) {
     let mut speeds = small::speeds(&mut c.rng, machines);
     speeds[machines - 1] = c.rng.pick(&[1, SPEED, speeds[machines - 1]]);
     let weights = small::weights(&mut c.rng, tiles, &speeds);
-    let job = Job { speeds, weights };
-    let (load, speed) = methods::ideal(&job);
+    let job = small::job_of(&mut c.rng, speeds, weights);
+    let (mut load, speed) = methods::ideal(&job);
+    // About the ideal, or about that of all loads where each machine has a tile.
+    if c.rng.once_in(2) {
+        load += job.c() * machines.min(tiles) as u128;
+    }
     let bound = match c.rng.below(3) {
         0 => (load, speed),
         1 => second_bound(&job),
@@ -373,6 +381,13 @@ pub fn run(c: &mut Check, times: usize) {
     small::every_job(&mut |job| {
         c.jobs_seen += 1;
         at_every_bid(c, &Case::of(job));
+    });
+    small::every_job(&mut |job| {
+        if c.rng.once_in(3) {
+            c.jobs_seen += 1;
+            let t = Case::of(&small::in_second(&mut c.rng, job));
+            at_every_bid(c, &t);
+        }
     });
     for _ in 0..2_000 * times {
         c.jobs_seen += 1;
