@@ -16,7 +16,7 @@ taskKind = 2
 abbrev pub startupKind : ℕ
 startupKind = 3
 
--- Scope 7.3: "Byte 0 of a record is its kind". Scope 7.4: "Bytes 1 to 3 are zero." Scope 7.5: "Bytes 4 to 7 are the speed or the weight."
+-- Scope 7.3: "Byte 0 of a record is its kind". Scope 7.4: "Bytes 1 to 3 are zero." Scope 7.5: "Bytes 4 to 7 are the speed or the weight, or the start-up work."
 unfoldable pub recordBytes : ℕ → ℕ → List ℕ
 recordBytes kind v = kind ∷ 0 ∷ 0 ∷ 0 ∷ fieldBytes v
 

@@ -72,12 +72,12 @@ weightTest file i = test 6 (not (isKind taskKind file i) || between 0 maxWeight 
 unfoldable pub workTest : List ℕ → ℕ → Test
 workTest file i = test 16 (not (isKind startupKind file i) || between 0 maxStartup (valueAt file i))
 
--- Scope 8.3: "within a record in the order of the numbers". Scope 17.11: "15 is tested beside 4, 16 beside 6."
+-- Scope 8.3: "the tests 3, 4, 15, 5, 6 and 16 go .. within a record in this order". Scope 17.11: "15 is tested beside 4, 16 beside 6."
 unfoldable pub recordTests : List ℕ → ℕ → List Test
 recordTests file i =
     formTest file i ∷ orderTest file i ∷ placeTest file i ∷ speedTest file i ∷ weightTest file i ∷ workTest file i ∷ []
 
--- Scope 8.3: "the tests 3 to 6 go record by record from the front", 15 and 16 among them: the first n records.
+-- Scope 8.3: "the tests .. go record by record from the front": the first n records.
 unfoldable pub recordsTests : List ℕ → ℕ → List Test
 recordsTests file zero = []
 recordsTests file (suc n) = recordsTests file n ++ recordTests file n

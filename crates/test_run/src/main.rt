@@ -35,11 +35,27 @@ fn say_bound(bound: Bound) {
     say(bound.speed);
 }
 
+fn say_edition(second: bool) {
+    if second {
+        say(2);
+    } else {
+        say(1);
+    }
+}
+
+// A job that is read: 0, the edition, the start-up work that counts, the machines and the tiles.
 fn say_read(answer: JobRead) {
     match answer {
         JobRead::Refused(number) => say_entry(number),
-        JobRead::Read { processors, tasks } => {
+        JobRead::Read {
+            second,
+            startup,
+            processors,
+            tasks,
+        } => {
             say(0);
+            say_edition(second);
+            say_entry(startup);
             say(processors as u64);
             say(tasks as u64);
         }
@@ -82,19 +98,31 @@ fn read(case: u64, file: &[u8]) {
     end_line();
 }
 
-// Measures a division of a job by lists.
+// Measures a division of a job by lists, of the first edition.
 fn measure(case: u64, speeds: &[u32], weights: &[u32], separators: &[u32]) {
     io::print_decimal(1, case);
-    say_measured(calls::measure(speeds, weights, separators));
+    say_measured(calls::measure(false, 0, speeds, weights, separators));
     end_line();
 }
 
-// The probe of job A at a bound.
-fn probe(case: u64, load: u64, speed: u64) {
+// The probe of job A at a bound, with this start-up work in this edition.
+fn probe_started(case: u64, second: bool, startup: u32, load: u64, speed: u64) {
     let mut separators = [7u32; 4];
     io::print_decimal(1, case);
-    say_probed(calls::probe(&[1, 3], &[1, 3, 8], Bound { load, speed }, &mut separators));
+    let bound = Bound { load, speed };
+    say_probed(calls::probe(second, startup, &[1, 3], &[1, 3, 8], bound, &mut separators));
     say_list(&separators);
+    end_line();
+}
+
+fn probe(case: u64, load: u64, speed: u64) {
+    probe_started(case, false, 0, load, speed);
+}
+
+// Measures 0 3 3 of the job of these speeds and A's weights, with this start-up work in this edition.
+fn measure_started(case: u64, second: bool, startup: u32, speeds: &[u32]) {
+    io::print_decimal(1, case);
+    say_measured(calls::measure(second, startup, speeds, &[1, 3, 8], &[0, 3, 3]));
     end_line();
 }
 
@@ -102,7 +130,7 @@ fn probe(case: u64, load: u64, speed: u64) {
 fn heuristic(case: u64) {
     let mut separators = [7u32; 4];
     io::print_decimal(1, case);
-    say_measured(calls::heuristic(&[1, 3], &[1, 3, 8], &mut separators));
+    say_measured(calls::heuristic(false, 0, &[1, 3], &[1, 3, 8], &mut separators));
     say_list(&separators);
     end_line();
 }
@@ -142,9 +170,52 @@ fn calls_on_a() {
     measure(22, &[1, 3], &[1, 3, 8], &[0, 3]); // a separator too few: 9
 }
 
+fn second_edition() {
+    // c = 5, a machine of speed 2, a tile of weight 7
+    read(
+        23,
+        &[
+            3,
+            0,
+            0,
+            0,
+            5,
+            0,
+            0,
+            0,
+            1,
+            0,
+            0,
+            0,
+            2,
+            0,
+            0,
+            0,
+            2,
+            0,
+            0,
+            0,
+            7,
+            0,
+            0,
+            0,
+        ],
+    );
+    read(24, &[1, 0, 0, 0, 1, 0, 0, 0, 3, 0, 0, 0, 5, 0, 0, 0]); // kind 3 in the second record: 15
+    read(25, &[3, 0, 0, 0, 64, 66, 15, 0]); // c = 1,000,000 and no machine: 7
+    read(26, &[3, 0, 0, 0, 65, 66, 15, 0]); // c = 1,000,001: 16
+    read(27, &[3, 0, 0, 1, 65, 66, 15, 0]); // byte 3 not zero, before c: 3
+    measure_started(28, true, 2, &[1, 3]); // 14/1
+    measure_started(29, false, 2, &[1, 3]); // in the first edition c is not looked at: 12/1
+    measure_started(30, false, 1_000_001, &[1, 3]); // nor tested
+    measure_started(31, true, 1_000_001, &[0, 3]); // before a speed of 0: 16
+    probe_started(32, true, 2, 1, 1); // fails, next 3/1, with 0 0 1
+}
+
 fn main() {
     one_record();
     two_records();
     counts();
     calls_on_a();
+    second_edition();
 }
