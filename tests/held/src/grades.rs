@@ -336,9 +336,10 @@ fn moved(c: &mut Check, s: &Solved, division: &[usize], p: usize) {
         let mut broken = plan.clone();
         (broken[p][1], broken[p + 1][0]) = (to as u32, to as u32);
         let inside = to >= from && to <= end;
+        let same = || s.job.load(from, to) == s.job.load(from, at) && s.job.load(to, end) == s.job.load(at, end);
         let rule = match inside {
             false => Err(11),
-            true if s.job.load(from, to) == s.job.load(from, at) && s.job.load(to, end) == s.job.load(at, end) => grading::grade(&s.job, &job::encode(&plan), Some(s)),
+            true if same() => grading::grade(&s.job, &job::encode(&plan), Some(s)),
             true => Err(13),
         };
         both(c, s, &job::encode(&broken), rule);
