@@ -255,7 +255,7 @@ jobO = jobOf 5 (1 ∷ 1 ∷ []) (0 ∷ 0 ∷ [])
 abbrev pub jobQ : Job
 jobQ = jobOf 4 (3 ∷ []) (5 ∷ 2 ∷ [])
 
--- The jobs M to Q of the scope's section 17, of the second edition. M is A with c = 2: its plan, its quick plan, a division measured, trials,
+-- The jobs M, N, O and Q of the scope's section 17, of the second edition. M is A with c = 2: its plan, its quick plan, a division measured, trials,
 -- one of them at a bound that leaves no machine but the last room for a tile, and its plan files, one with the weights for the loads. Of N,
 -- c = 3, only the second machine has tiles; without c both have; c is not in the load of the empty share. O has weights 0 and c = 5.
 -- No tiles, on two machines and on one. Q is a single machine, with c = 4 and with c = 0. D with c = 0: as in the first edition. Halved

@@ -10,6 +10,7 @@ ghost use Rattle.dynamic.specs.Rows.{entryAt, stored, RowReady, Places, 
 use bound::Bound;
 use parts::Found;
 use parts::part_bound;
+use parts::started_bound;
 use parts::wide;
 
 // The pointer of a row, and the moves that pointers have made so far.
@@ -43,7 +44,7 @@ fn put(scratch: &mut [u32], row: usize, i: usize, value: Bound)
 
 // Inner. The pointer moves on to the crossing of i in the row after row p, which begins at `before`. At i at the latest it
 // stops: the part is empty there.
-fn advance(
+fn move_on(
     startup: u32,
     speeds: &[u32],
     weights: &[u32],
@@ -73,6 +74,41 @@ fn advance(
     }
 }
 
+// Inner. The same. Without start-up work the loop is compiled for 0, and a load is a difference of two sums.
+fn advance(
+    startup: u32,
+    speeds: &[u32],
+    weights: &[u32],
+    scratch: &[u32],
+    before: usize,
+    p: usize,
+    speed: u32,
+    i: usize,
+    start: Pointer,
+) -> Pointer
+    ghost { Job }
+    requires { λ job. ⌜ jobOf startup (now speeds) (now weights) ≡ job ⌝ }
+    requires { λ job. ⌜ RowReady job (now scratch) before p ⌝ }
+    requires { λ job. ⌜ speed ≡ speedOf job (suc p) ⌝ }
+    requires { λ job. ⌜ (i ≤ tasks job) × (start .at ≤ crossing job p i) × (start .moves + i < 2 ^ 32 + start .at) ⌝ }
+    ensures { λ job r. ⌜ Advanced job p i (start .at) (start .moves) (r .at) (r .moves) ⌝ }
+{
+    if startup == 0 {
+        return move_on(0, speeds, weights, scratch, before, p, speed, i, start);
+    }
+    move_on(
+        startup,
+        speeds,
+        weights,
+        scratch,
+        before,
+        p,
+        speed,
+        i,
+        start,
+    )
+}
+
 // Inner. The value at i in the row after row p. At the crossing the row before is the greater of the two, before the crossing
 // the part is.
 fn value_at(
@@ -97,7 +133,7 @@ fn value_at(
     if at == 0 {
         return here;
     }
-    let part = part_bound(startup, speed, scratch, at - 1, i);
+    let part = started_bound(startup, speed, scratch, at - 1, i);
     Bound::lesser(here, part)
 }
 

@@ -51,7 +51,7 @@ fn bound_to(
 }
 
 // Inner. A trial of the whole job at the bound of the part from a to j on processor p.
-fn fits_at(
+fn trial_at(
     startup: u32,
     speeds: &[u32],
     weights: &[u32],
@@ -75,6 +75,31 @@ fn fits_at(
         Outcome::Fits => true,
         Outcome::Fails(next) => false,
     }
+}
+
+// Inner. The same. Without start-up work the trial is compiled for 0.
+fn fits_at(
+    startup: u32,
+    speeds: &[u32],
+    weights: &[u32],
+    sums: &[u32],
+    p: usize,
+    a: usize,
+    j: usize,
+    separators: &mut [u32],
+) -> bool
+    ghost { Job }
+    requires { λ job. ⌜ jobOf startup (now speeds) (now weights) ≡ job ⌝ }
+    requires { λ job. ⌜ Ready job (now sums) ⌝ }
+    requires { λ job. ⌜ processors job < length (now separators) ⌝ }
+    requires { λ job. ⌜ (p < processors job) × (a ≤ j) × (j ≤ tasks job) ⌝ }
+    ensures { λ job r. ⌜ r ≡ fitsAt job p a j ⌝ }
+    ensures { λ job r. ⌜ KeptFrom (suc (processors job)) (now (separators .entry)) (now (separators .exit)) ⌝ }
+{
+    if startup == 0 {
+        return trial_at(0, speeds, weights, sums, p, a, j, separators);
+    }
+    trial_at(startup, speeds, weights, sums, p, a, j, separators)
 }
 
 // Inner. The smallest index from a to N that fits, by halving, for a processor to which the search comes and whose part starts at a.

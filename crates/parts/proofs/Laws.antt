@@ -7,6 +7,7 @@ use mathlib.Core.List.{List, [], _∷_, _++_}
 use native.Mathlib.Omega.{arith}
 use native.Mathlib.Numerals.{add-one}
 use native.Mathlib.Nat.{lt-of-le-of-lt}
+use native.Mathlib.Decide.{decLe}
 use lib.Dec.{ltb, lit<}
 use borrow.Author.Tests.{lt-ltb, le-ltb, ltb-true, ltb-false}
 use lib.ListN.{length, getD, set, length-append, length-set, take, drop}
@@ -29,9 +30,30 @@ pub between-some : (c : ℕ) (xs : List ℕ) (a b : ℕ) → a < b → {w : ℕ}
 unfolding loadBetween
 between-some c xs a b h e = ap (λ (n : ℕ). c + n) e ∙ sym (ap (λ (t : Bool). cond t (c + weightBetween xs a b) 0) (lt-ltb a b h))
 
-pub between-none : (c : ℕ) (xs : List ℕ) (a b : ℕ) → b ≤ a → 0 ≡ loadBetween c xs a b
-unfolding loadBetween
-between-none c xs a b h = sym (ap (λ (t : Bool). cond t (c + weightBetween xs a b) 0) (le-ltb a b h))
+pub between-none : (c : ℕ) (xs : List ℕ) (a b : ℕ) → a ≤ b → b ≤ a → {w : ℕ} → w ≡ weightBetween xs a b → w ≡ loadBetween c xs a b
+unfolding loadBetween weightBetween
+between-none c xs a b k h {w} e = none ∙ sym (ap (λ (t : Bool). cond t (c + weightBetween xs a b) 0) (le-ltb a b h))
+  where
+    same : a ≡ b
+    same = omega arith
+
+    none : w ≡ 0
+    none = omega (arith, e, ap (λ (i : ℕ). getD xs i 0) same)
+
+-- A part that weighs has tasks.
+pub between-before : (xs : List ℕ) (a b : ℕ) → a ≤ b → 1 ≤ weightBetween xs a b → a < b
+unfolding weightBetween
+between-before xs a b h k =
+    elim (decLe b a) [
+      | yes l ↦
+          let e : a ≡ b = omega arith in
+          omega (arith, ap (λ (i : ℕ). getD xs i 0) e)
+      | no l ↦ omega arith
+    ]
+
+-- The bound with the start-up work is that of a part which has tasks.
+pub started-some : (c : ℕ) (xs : List ℕ) (e a b : ℕ) {B : Bound} → a < b → B ≡ over (c + weightBetween xs a b) e → B ≡ over (loadBetween c xs a b) e
+started-some c xs e a b h f = f ∙ ap (λ (w : ℕ). over w e) (between-some c xs a b h refl)
 
 -- The speed of a processor is read off the list of speeds.
 pub speed-read : (job : Job) (p : ℕ) → p < processors job → getD (job .speeds) p 0 ≡ speedOf job p

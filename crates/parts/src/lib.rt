@@ -6,6 +6,7 @@ ghost use mathlib.Core.List.{_++_};
 ghost use lib.ListN.{length, getD, take, drop};
 ghost use Rattle.bound.specs.Order.{over};
 ghost use Rattle.chain.specs.Lists.{sum};
+ghost use Rattle.chain.specs.Ranges.{Narrow};
 ghost use Rattle.chain.specs.Job.{Job, jobOf, processors, ideal, Partition, boundAt, bottleneck};
 ghost use Rattle.parts.specs.Prefix.{prefixes, weightBetween, loadBetween, Loadable, Ready};
 ghost use Rattle.parts.specs.Rising.{Rising, near, Spanned, LastAtMost};
@@ -94,10 +95,8 @@ pub fn part_load(startup: u32, sums: &[u32], a: usize, b: usize) -> u32
     requires { ⌜ a ≤ b ⌝ }
     ensures { λ r. ⌜ r ≡ loadBetween startup (now (sums .entry)) a b ⌝ }
 {
-    if a < b {
-        return startup + part_weight(sums, a, b);
-    }
-    0
+    let weight = part_weight(sums, a, b);
+    if a < b { startup + weight } else { weight }
 }
 
 // Inner. The bound of the part from a to b on a processor of this speed.
@@ -108,6 +107,19 @@ pub fn part_bound(startup: u32, speed: u32, sums: &[u32], a: usize, b: usize) ->
 {
     Bound {
         load: wide(part_load(startup, sums, a, b)),
+        speed: wide(speed),
+    }
+}
+
+// Inner. The same with the start-up work whether the part has tasks or not.
+pub fn started_bound(startup: u32, speed: u32, sums: &[u32], a: usize, b: usize) -> Bound
+    requires { ⌜ Loadable startup (now sums) b ⌝ }
+    requires { ⌜ a ≤ b ⌝ }
+    ensures { λ r. ⌜ r ≡ over (startup + weightBetween (now (sums .entry)) a b) speed ⌝ }
+    ensures { λ r. ⌜ Narrow r ⌝ }
+{
+    Bound {
+        load: wide(startup + part_weight(sums, a, b)),
         speed: wide(speed),
     }
 }
@@ -147,7 +159,7 @@ fn bound_at(
 }
 
 // Inner. The bottleneck of the partition in front of the list.
-pub fn measure_in(
+pub fn measure_parts(
     startup: u32,
     speeds: &[u32],
     weights: &[u32],
@@ -170,6 +182,27 @@ pub fn measure_in(
         p += 1;
     }
     greatest
+}
+
+// Inner. The same. Without start-up work the loop is compiled for 0.
+pub fn measure_in(
+    startup: u32,
+    speeds: &[u32],
+    weights: &[u32],
+    sums: &[u32],
+    separators: &[u32],
+) -> Bound
+    ghost { Job }
+    requires { λ job. ⌜ jobOf startup (now speeds) (now weights) ≡ job ⌝ }
+    requires { λ job. ⌜ Ready job (now sums) ⌝ }
+    requires { λ job. ⌜ Partition job (take (suc (processors job)) (now separators)) ⌝ }
+    ensures { λ job r. ⌜ r ≡ bottleneck job (now (separators .entry)) ⌝ }
+    ensures { λ job r. ⌜ r ≡ bottleneck job (take (suc (processors job)) (now (separators .entry))) ⌝ }
+{
+    if startup == 0 {
+        return measure_parts(0, speeds, weights, sums, separators);
+    }
+    measure_parts(startup, speeds, weights, sums, separators)
 }
 
 // The search takes steps of this many entries, twice as many, and so on; it ends by counting the last fewer than so many.
@@ -258,17 +291,26 @@ pub fn last_far(xs: &[u32], a: usize, n: usize, cap: u32) -> usize
     last_near(xs, low, n, cap)
 }
 
-// Inner. The last entry at most the cap from a to n. Often it is a itself: one look tells. It takes time in the logarithm of its
-// distance from a.
+// Inner. The last entry at most the cap from a to n, where a is before n. Often it is a itself: one look tells.
+pub fn last_ahead(xs: &[u32], a: usize, n: usize, cap: u32) -> usize
+    requires { ⌜ Rising (now xs) n ⌝ }
+    requires { ⌜ (a < n) × (getD (now xs) a 0 ≤ cap) ⌝ }
+    ensures { λ r. ⌜ LastAtMost (now (xs .entry)) a n cap r ⌝ }
+{
+    if xs[a + 1] <= cap {
+        return last_far(xs, a + 1, n, cap);
+    }
+    a
+}
+
+// Inner. The last entry at most the cap from a to n. It takes time in the logarithm of its distance from a.
 pub fn last_at_most(xs: &[u32], a: usize, n: usize, cap: u32) -> usize
     requires { ⌜ Rising (now xs) n ⌝ }
     requires { ⌜ (a ≤ n) × (getD (now xs) a 0 ≤ cap) ⌝ }
     ensures { λ r. ⌜ LastAtMost (now (xs .entry)) a n cap r ⌝ }
 {
     if a < n {
-        if xs[a + 1] <= cap {
-            return last_far(xs, a + 1, n, cap);
-        }
+        return last_ahead(xs, a, n, cap);
     }
     a
 }

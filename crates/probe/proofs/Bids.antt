@@ -1,9 +1,9 @@
 -- The bids: a part gains nothing past the last task, and the least bid so far.
 -- Assumes nothing.
-use Prim.Native.Nat.{ℕ, suc, _-_, _≤_, _<_}
+use Prim.Native.Nat.{ℕ, suc, _+_, _≤_, _<_}
 use mathlib.Core.Path.{_≡_, sym, ap, subst, _∙_}
 use native.Mathlib.Omega.{arith}
-use native.Mathlib.Decide.{decLe}
+use native.Mathlib.Numerals.{add-one}
 use Rattle.bound.specs.declared.Bound.{Bound}
 use Rattle.bound.specs.Order.{lesser, leastBelow}
 use Rattle.bound.proofs.Order.{least-next}
@@ -14,20 +14,17 @@ use Rattle.chain.proofs.Within.{offer-part}
 use Rattle.chain.proofs.NextBid.{bid-before, bid-last}
 use Rattle.chain.specs.Ranges.{Narrow}
 use Rattle.chain.proofs.Ranges.{part-small, offer-small, small-narrow}
-use Rattle.probe.specs.Walk.{OneMore, leastBefore}
+use Rattle.probe.specs.Walk.{leastBefore}
 
 module _ (job : Job) where
-  -- A part gains nothing past the last task, so a bid stops there.
-  pub bid-stops : (p a : ℕ) {i r : ℕ} {C : Bound} → i ≤ tasks job → OneMore i (tasks job) r → C ≡ partBound job p a r → C ≡ offer job p a (suc i)
-  bid-stops p a {i} {r} k w e =
-      e
-      ∙ elim (decLe (suc i) (tasks job)) [
-        | yes x ↦ ap (partBound job p a) (w .next x)
-        | no x ↦
-            ap (partBound job p a) (let f : r ≡ tasks job = omega (arith, w .from, w .to) in f)
-            ∙ sym (part-past job p a (suc i) (let f : tasks job ≤ suc i = omega arith in f))
-      ]
-      ∙ sym (offer-part job p a (suc i))
+  -- A bid is for one task more,
+  pub bid-next : (p a i : ℕ) {C : Bound} → C ≡ partBound job p a (i + 1) → C ≡ offer job p a (suc i)
+  bid-next p a i e = e ∙ ap (partBound job p a) (add-one i) ∙ sym (offer-part job p a (suc i))
+
+  -- but a part gains nothing past the last task, and stops there.
+  pub bid-stops : (p a i : ℕ) {C : Bound} → tasks job ≤ i → C ≡ partBound job p a (tasks job) → C ≡ offer job p a (suc i)
+  bid-stops p a i h e =
+      e ∙ sym (part-past job p a (suc i) (let k : tasks job ≤ suc i = omega arith in k)) ∙ sym (offer-part job p a (suc i))
 
 -- The bound of a part is narrow.
 pub part-narrow : {job : Job} {C : Bound} (p a b : ℕ) → Valid job → C ≡ partBound job p a b → Narrow C

@@ -1,5 +1,5 @@
 -- A walk on its way: where it stands, and what it has seen; and what a failed one leaves.
-use Prim.Native.Nat.{ℕ, suc, _≤_, _<_}
+use Prim.Native.Nat.{ℕ, _≤_, _<_}
 use mathlib.Core.Path.{_≡_}
 use mathlib.Core.Bool.{not}
 use mathlib.Core.List.{List}
@@ -11,12 +11,6 @@ use Rattle.chain.specs.Ranges.{Narrow}
 use Rattle.chain.specs.Job.{Job, last}
 use Rattle.chain.specs.Probe.{separator, fits, bid, nextBid}
 use Rattle.probe.specs.declared.Point.{Point}
-
--- r is the index after i, and n after n.
-pub record OneMore (i n r : ℕ) : Type 0 where
-  pub from : i ≤ r
-  pub to : r ≤ n
-  pub next : i < n → r ≡ suc i
 
 -- The least bid of the processors below p, infinite of none.
 abbrev pub leastBefore : Job → Bound → ℕ → Bound

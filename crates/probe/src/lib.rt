@@ -9,32 +9,43 @@ ghost use Rattle.chain.specs.Job.{Job, jobOf, tasks, processors, offer};
 ghost use Rattle.chain.specs.Probe.{reach, walk, walked, probe};
 ghost use Rattle.parts.specs.Prefix.{Ready};
 ghost use Rattle.parts.specs.Rising.{Rising, LastAtMost};
-ghost use Rattle.probe.specs.Walk.{OneMore, Reached};
+ghost use Rattle.probe.specs.Walk.{Reached};
 use bound::Bound;
 use chain::Outcome;
 use parts::index;
-use parts::last_at_most;
+use parts::last_ahead;
 use parts::narrow;
 use parts::narrow_load;
 use parts::part_bound;
 use parts::part_weight;
+use parts::started_bound;
 use parts::wide;
+
+// Inner. Where to look from: the hint, where it is not before a and its entry is at most the cap, else a.
+pub fn from_hint(xs: &[u32], a: usize, n: usize, cap: u32, hint: usize) -> usize
+    requires { ⌜ Rising (now xs) n ⌝ }
+    requires { ⌜ (a < n) × (getD (now xs) a 0 ≤ cap) ⌝ }
+    ensures { λ r. ⌜ (a ≤ r) × (r < n) × (getD (now (xs .entry)) r 0 ≤ cap) ⌝ }
+{
+    if a <= hint {
+        if hint < n {
+            if xs[hint] <= cap {
+                return hint;
+            }
+        }
+    }
+    a
+}
 
 // Inner. The last entry at most the cap from a to n, whatever the hint. It takes time in the logarithm of its distance from a, and
 // from a hint that is before it in that of its distance from there.
 pub fn last_from(xs: &[u32], a: usize, n: usize, cap: u32, hint: usize) -> usize
     requires { ⌜ Rising (now xs) n ⌝ }
-    requires { ⌜ (a ≤ n) × (getD (now xs) a 0 ≤ cap) ⌝ }
+    requires { ⌜ (a < n) × (getD (now xs) a 0 ≤ cap) ⌝ }
     ensures { λ r. ⌜ LastAtMost (now (xs .entry)) a n cap r ⌝ }
 {
-    if a <= hint {
-        if hint < n {
-            if xs[hint] <= cap {
-                return last_at_most(xs, hint, n, cap);
-            }
-        }
-    }
-    last_at_most(xs, a, n, cap)
+    let start = from_hint(xs, a, n, cap, hint);
+    last_ahead(xs, start, n, cap)
 }
 
 // Inner. The greatest load within the bound on a processor of this speed.
@@ -85,14 +96,6 @@ pub fn part_end(
     last_from(sums, a, n, raised(sums[a], room), hint)
 }
 
-// Inner. The index after i, and n after n.
-pub fn one_more(i: usize, n: usize) -> usize
-    requires { ⌜ i ≤ n ⌝ }
-    ensures { λ r. ⌜ OneMore i n r ⌝ }
-{
-    if i < n { i + 1 } else { n }
-}
-
 // Inner. The bid of processor p: the bound of its part from a to end with one more task.
 pub fn bid_of(
     startup: u32,
@@ -110,8 +113,11 @@ pub fn bid_of(
     ensures { λ job r. ⌜ r ≡ offer job p a (suc end) ⌝ }
     ensures { λ job r. ⌜ Narrow r ⌝ }
 {
-    let next = one_more(end, weights.len());
-    part_bound(startup, speeds[p], sums, a, next)
+    let n = weights.len();
+    if end < n {
+        return started_bound(startup, speeds[p], sums, a, end + 1);
+    }
+    part_bound(startup, speeds[p], sums, a, n)
 }
 
 // Inner. The bound of all that remains from a on, on processor p.

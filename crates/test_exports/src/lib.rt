@@ -287,10 +287,12 @@ pub extern "C" fn exported_probe(
     answer: &mut [u64],
 ) -> u32
     ensures number { λ r.
-        let call = Probe (byLists second startup (now (speeds .entry)) (now (weights .entry))) (record { load = load; speed = speed }) (now (separators .entry)) in
+        let g = byLists second startup (now (speeds .entry)) (now (weights .entry)) in
+        let call = Probe g (record { load = load; speed = speed }) (now (separators .entry)) in
         ⌜ r ≡ number call ⌝ }
     ensures left { λ _.
-        let call = Probe (byLists second startup (now (speeds .entry)) (now (weights .entry))) (record { load = load; speed = speed }) (now (separators .entry)) in
+        let g = byLists second startup (now (speeds .entry)) (now (weights .entry)) in
+        let call = Probe g (record { load = load; speed = speed }) (now (separators .entry)) in
         ⌜ Leaves call (now (separators .exit) ∷ []) ⌝ }
     ensures answer { λ _.
         let job = jobBy (byLists second startup (now (speeds .entry)) (now (weights .entry))) in

@@ -1,4 +1,4 @@
-//! The jobs A to E, the edge lines of the scope, section 11, the rows F to L of section 16 and the jobs M to Q of section 17, with the values
+//! The jobs A to E, the edge lines of the scope, section 11, the rows F to L of section 16 and the jobs M, N, O and Q of section 17, with the values
 //! written there, and more jobs, of both editions, worked by hand.
 
 use crate::answers::{bytes_of, After, Solved};

@@ -10,7 +10,7 @@ use Rattle.chain.proofs.Ranges.{offer-small, small-products}
 use Rattle.chain.proofs.Parts.{valid-proper}
 use Rattle.chain.proofs.Table.{start-first, crossing-le, value-first, value-later}
 use Rattle.chain.proofs.Within.{offer-part}
-use Rattle.parts.proofs.Laws.{loads-to, speed-bound}
+use Rattle.parts.proofs.Laws.{loads-to, speed-bound, started-some}
 use Rattle.dynamic.proofs.Crossing.{table-small, small-same}
 use borrow.Author.Needs.{needs}
 use Rattle.dynamic.proofs.value_at.Statement.{statement}
@@ -43,26 +43,28 @@ returns c =
     here-is (c .before) ∙ ap (tableValue job (s .args .p)) (s .pre .1 .1 .1)
     ∙ sym (value-first job (s .args .p) (s .args .i) (omega (arith, s .pre .1 .1 .1, c .if1 .taken)))
 
-sub-part-bound : tie.Need-sub-part-bound
-sub-part-bound c = search needs
+sub-started-bound : tie.Need-sub-started-bound
+sub-started-bound c = search needs
 
-part-bound-requires : tie.Need-part-bound-requires
-part-bound-requires c κs =
+started-bound-requires : tie.Need-started-bound-requires
+started-bound-requires c κs =
     let s = c .before .before .before .before .before in
     (loads-to (s .pre .0 .ready) (s .pre .1 .1 .0), omega (arith, at-le s))
 
 -- The part before the crossing.
-module _ (c : tie.After-part-bound) where
+module _ (c : tie.After-started-bound) where
   abbrev start : tie.Start
   start = c .before .before .before .before .before .before
 
   abbrev job : Job
   job = jobOf (start .args .startup) (start .args .speeds .now) (start .args .weights .now)
 
-  part-is : c .part-bound .result ≡ offer job (suc (start .args .p)) (start .args .at - 1) (start .args .i)
+  part-is : c .started-bound .result ≡ offer job (suc (start .args .p)) (start .args .at - 1) (start .args .i)
   part-is =
       speed-bound (start .pre .0 .ready .prefix) (suc (start .args .p)) (start .args .at - 1) (start .args .i) (omega (arith, at-le start)) (start .pre .1 .1 .0)
-      (start .pre .1 .0) (c .part-bound .ensures)
+      (start .pre .1 .0)
+      (started-some (job .startup) (start .args .scratch .now) (start .args .speed) (start .args .at - 1) (start .args .i) (omega (arith, at-le start, c .before .if1 .left))
+      (c .started-bound .ensures .0))
       ∙ sym (offer-part job (suc (start .args .p)) (start .args .at - 1) (start .args .i))
 
 lesser-requires : tie.Need-lesser-requires
@@ -83,4 +85,4 @@ returns-2 c =
 pub value-at-spec : {M : Type 1} → statement M
 value-at-spec =
     tie.close
-    (tie.spec entry-requires returns sub-part-bound part-bound-requires lesser-requires returns-2)
+    (tie.spec entry-requires returns sub-started-bound started-bound-requires lesser-requires returns-2)

@@ -1,73 +1,45 @@
--- `fits_at` meets its contract, by what the trial answers.
+-- `fits_at` meets its contract: without start-up work the job is the one with 0.
 -- Assumes nothing.
-use Prim.Native.Nat.{suc}
-use mathlib.Core.Path.{sym, _∙_}
-use lib.ListN.{length}
-use Rattle.chain.specs.Job.{Job, jobOf}
-use Rattle.chain.specs.Probe.{walk}
-use Rattle.chain.proofs.Ranges.{small-lendable}
-use Rattle.parts.proofs.Front.{kept-start, kept-written}
-use Rattle.probe.proofs.Answer.{walk-count}
-use Rattle.nicol.proofs.Laws.{told-fits, told-fails}
+use Prim.Native.Nat.{ℕ}
+use mathlib.Core.Path.{_≡_, sym, ap, subst, _∙_}
 use borrow.Author.Needs.{needs}
+use Rattle.chain.specs.Job.{Job, jobOf}
+use Rattle.chain.specs.Nicol.{fitsAt}
+use Rattle.parts.specs.Prefix.{Ready}
 use Rattle.nicol.proofs.fits_at.Statement.{statement}
 use Rattle.nicol.proofs.fits_at.Tie as tie
 
--- The job that the lists make.
-abbrev job-at : tie.Start → Job
-job-at s = jobOf (s .args .startup) (s .args .speeds .now) (s .args .weights .now)
+-- The job that the lists make with 0 is the job.
+none : (c : tie.Then1)
+    → let a = c .before .before .before .before .before .args in
+    jobOf (a .startup) (a .speeds .now) (a .weights .now) ≡ jobOf 0 (a .speeds .now) (a .weights .now)
+none c =
+    let a = c .before .before .before .before .before .args in
+    ap (λ (n : ℕ). jobOf n (a .speeds .now) (a .weights .now)) (c .if1 .taken)
 
-bound-to-requires : tie.Need-bound-to-requires
-bound-to-requires c κs = search needs
-
-probe-in-requires : tie.Need-probe-in-requires
-probe-in-requires c κs =
+trial-at-requires : tie.Need-trial-at-requires
+trial-at-requires c κs =
     let s = c .before .before .before .before .before .before in
-    (s .pre .0, (small-lendable (c .before .bound-to .ensures .1), s .pre .1 .0))
-
-enum-told : tie.Need-enum-told
-enum-told c = search needs
-
-enum-known-answer : tie.Need-enum-known-answer
-enum-known-answer c = search needs
+    (subst (λ (job : Job). Ready job (s .args .sums .now)) (none (c .before)) (s .pre .0), s .pre .1)
 
 same-length : tie.Need-same-length
 same-length c = search needs
 
 returns : tie.Need-returns
 returns c =
-    let s = c .before .before .before .before .before .before .before .before .before .before .before in
-    let job : Job = job-at s in
-    let b = c .before .before .before .before .before .before .bound-to in
-    let y = c .before .before .before .before .probe-in .ensures in (
-      told-fits job (s .args .p) (s .args .a) (s .args .j) (b .ensures .0) (sym (y .0) ∙ c .enum-told .given .1),
-      kept-written (walk job (b .result)) _ (kept-start (suc (length (s .args .speeds .now))) (s .args .separators .now)) (s .pre .1 .0)
-          (walk-count (s .pre .0 .valid) (b .result)) (y .1),
-    )
+    let a = c .before .before .before .before .before .before .before .before .before .args in
+    (c .before .before .trial-at .ensures .0 ∙ sym (ap (λ (job : Job). fitsAt job (a .p) (a .a) (a .j)) (none (c .before .before .before .before))), c .before .before .trial-at .ensures .1)
+
+trial-at-requires-2 : tie.Need-trial-at-requires-2
+trial-at-requires-2 c κs = search needs
 
 same-length-2 : tie.Need-same-length-2
 same-length-2 c = search needs
 
 returns-2 : tie.Need-returns-2
-returns-2 c =
-    let s = c .before .before .before .before .before .before .before .before .before .before .before .before in
-    let job : Job = job-at s in
-    let b = c .before .before .before .before .before .before .before .bound-to in
-    let y = c .before .before .before .before .before .probe-in .ensures in (
-      told-fails job (s .args .p) (s .args .a) (s .args .j) (b .ensures .0) (sym (y .0) ∙ c .before .answer .given .1),
-      kept-written (walk job (b .result)) _ (kept-start (suc (length (s .args .speeds .now))) (s .args .separators .now)) (s .pre .1 .0)
-          (walk-count (s .pre .0 .valid) (b .result)) (y .1),
-    )
+returns-2 c = search needs
 
 pub fits-at-spec : {M : Type 1} → statement M
 fits-at-spec =
     tie.close
-    (tie.spec
-    bound-to-requires
-    probe-in-requires
-    enum-told
-    enum-known-answer
-    same-length
-    returns
-    same-length-2
-    returns-2)
+    (tie.spec trial-at-requires same-length returns trial-at-requires-2 same-length-2 returns-2)

@@ -1,74 +1,41 @@
--- `measure_in` meets its contract: the loop keeps `Measured`.
+-- `measure_in` meets its contract: without start-up work the job is the one with 0.
 -- Assumes nothing.
-use Prim.Native.Nat.{_-_}
-use mathlib.Core.Path.{_∙_}
-use native.Mathlib.Omega.{arith}
-use lib.ListN.{length}
+use Prim.Native.Nat.{ℕ, suc}
+use mathlib.Core.Path.{_≡_, sym, ap, subst}
+use lib.ListN.{take}
 use borrow.Author.Needs.{needs}
-use Rattle.chain.specs.Job.{jobOf}
-use Rattle.parts.proofs.Measure.{Measured, bottleneck-take, measured-start, measured-products, measured-turn, measured-end}
+use Rattle.chain.specs.Job.{Job, jobOf, processors, Partition, bottleneck}
+use Rattle.parts.specs.Prefix.{Ready}
 use Rattle.parts.proofs.measure_in.Statement.{statement}
 use Rattle.parts.proofs.measure_in.Tie as tie
 
-abbrev Inv-loop : tie.InvT-loop
-Inv-loop startup speeds weights sums separators last greatest₀ p₀ greatest p = Measured (jobOf startup speeds weights) separators p greatest
+-- The job that the lists make with 0 is the job.
+none : (c : tie.Then1)
+    → let a = c .before .before .before .before .before .args in
+    jobOf (a .startup) (a .speeds .now) (a .weights .now) ≡ jobOf 0 (a .speeds .now) (a .weights .now)
+none c =
+    let a = c .before .before .before .before .before .args in
+    ap (λ (n : ℕ). jobOf n (a .speeds .now) (a .weights .now)) (c .if1 .taken)
 
-abbrev μ-loop : tie.MeasureT-loop
-μ-loop startup speeds weights sums separators last greatest₀ p₀ greatest p = length speeds - p
-
-sub-last : tie.Need-sub-last Inv-loop μ-loop
-sub-last c = omega arith
-
-bound-at-requires : tie.Need-bound-at-requires Inv-loop μ-loop
-bound-at-requires c κs =
-    let s = c .before .before .before .before in
-    (s .pre .0, (s .pre .1, s .pre .0 .valid .some-processor))
-
-loop-holds : tie.Need-loop-holds Inv-loop μ-loop
-loop-holds c =
+measure-parts-requires : tie.Need-measure-parts-requires
+measure-parts-requires c κs =
     let s = c .before .before .before .before .before in
-    measured-start (s .pre .0 .valid) (s .args .separators .now) (c .bound-at .ensures)
+    let a = s .args in
+    subst (λ (job : Job). Ready job (a .sums .now) × Partition job (take (suc (processors job)) (a .separators .now))) (none c) (s .pre)
 
-bound-at-requires-2 : tie.Need-bound-at-requires-2 Inv-loop μ-loop
-bound-at-requires-2 c κs =
-    let s = c .before .before .before .before .before .before .before in
-    (s .pre .0, (s .pre .1, omega arith))
-
-greater-requires : tie.Need-greater-requires Inv-loop μ-loop
-greater-requires c κs =
-    let s = c .before .before .before .before .before .before .before .before in
-    let h = measured-products (s .pre .0 .valid) (s .args .separators .now) (c .before .before .loop .inv) (c .bound-at2 .ensures) in
-    search needs
-
-add-p : tie.Need-add-p Inv-loop μ-loop
-add-p c = omega arith
-
-loop-less : tie.Need-loop-less Inv-loop μ-loop
-loop-less c = omega arith
-
-loop-again : tie.Need-loop-again Inv-loop μ-loop
-loop-again c =
-    let s = c .before .before .before .before .before .before .before .before .before in
-    measured-turn (s .pre .0 .valid) (s .args .separators .now) (c .before .before .before .loop .inv) (omega arith) (c .before .bound-at2 .ensures) (c .greater .ensures)
-
-returns : tie.Need-returns Inv-loop μ-loop
+returns : tie.Need-returns
 returns c =
-    let s = c .before .before .before .before .before .before .before in
-    let e = measured-end (c .before .loop .inv) (omega arith) in
-    (e, e ∙ bottleneck-take (jobOf (s .args .startup) (s .args .speeds .now) (s .args .weights .now)) (s .args .separators .now) (s .pre .0 .valid .some-processor))
+    let a = c .before .before .before .before .before .before .args in
+    subst
+    (λ (job : Job). (c .measure-parts .result ≡ bottleneck job (a .separators .now)) × (c .measure-parts .result ≡ bottleneck job (take (suc (processors job)) (a .separators .now))))
+    (sym (none (c .before))) (c .measure-parts .ensures)
+
+measure-parts-requires-2 : tie.Need-measure-parts-requires-2
+measure-parts-requires-2 c κs = search needs
+
+returns-2 : tie.Need-returns-2
+returns-2 c = search needs
 
 pub measure-in-spec : {M : Type 1} → statement M
 measure-in-spec =
-    tie.close
-    (tie.spec
-    Inv-loop
-    μ-loop
-    sub-last
-    bound-at-requires
-    loop-holds
-    bound-at-requires-2
-    greater-requires
-    add-p
-    loop-less
-    loop-again
-    returns)
+    tie.close (tie.spec measure-parts-requires returns measure-parts-requires-2 returns-2)

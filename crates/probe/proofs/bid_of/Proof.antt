@@ -1,16 +1,39 @@
 -- `bid_of` meets its contract: the bid's part goes one task further, or to the last task where it ends there.
 -- Assumes nothing.
+use Prim.Native.Nat.{_+_}
 use mathlib.Core.Path.{_≡_, refl}
 use native.Mathlib.Omega.{arith}
-use Rattle.chain.specs.Job.{Job, jobOf, partBound}
-use Rattle.parts.proofs.Laws.{loads-to, prefix-bound}
-use Rattle.probe.proofs.Bids.{part-narrow, bid-stops}
+use lib.ListN.{getD}
+use Rattle.chain.specs.Job.{Job, jobOf, tasks, partBound}
+use Rattle.parts.proofs.Laws.{loads-to, prefix-bound, started-some}
+use Rattle.probe.proofs.Bids.{part-narrow, bid-next, bid-stops}
 use borrow.Author.Needs.{needs}
 use Rattle.probe.proofs.bid_of.Statement.{statement}
 use Rattle.probe.proofs.bid_of.Tie as tie
 
-one-more-requires : tie.Need-one-more-requires
-one-more-requires c κs = search needs
+mul-started-bound : tie.Need-mul-started-bound
+mul-started-bound c = search needs
+
+shared-slice-read-started-bound : tie.Need-shared-slice-read-started-bound
+shared-slice-read-started-bound c = search needs
+
+add-started-bound : tie.Need-add-started-bound
+add-started-bound c = search needs
+
+started-bound-requires : tie.Need-started-bound-requires
+started-bound-requires c κs =
+    let s = c .before .before .before .before .before in
+    (loads-to (s .pre .0) (omega arith), omega (arith, s .pre .1 .1))
+
+returns : tie.Need-returns
+returns c =
+    let s = c .before .before .before .before .before .before in
+    let job : Job = jobOf (s .args .startup) (s .args .speeds .now) (s .args .weights .now) in
+    let e : c .started-bound .result ≡ partBound job (s .args .p) (s .args .a) (s .args .end + 1) =
+    prefix-bound (s .pre .0 .prefix) (s .args .p) (s .args .a) (s .args .end + 1) (s .pre .1 .0) (omega (arith, s .pre .1 .1)) (omega arith) refl
+    (started-some (job .startup) (s .args .sums .now) (getD (job .speeds) (s .args .p) 0) (s .args .a) (s .args .end + 1) (omega (arith, s .pre .1 .1))
+    (c .started-bound .ensures .0)) in
+    (bid-next job (s .args .p) (s .args .a) (s .args .end) e, c .started-bound .ensures .1)
 
 mul-part-bound : tie.Need-mul-part-bound
 mul-part-bound c = search needs
@@ -21,25 +44,26 @@ shared-slice-read-part-bound c = search needs
 part-bound-requires : tie.Need-part-bound-requires
 part-bound-requires c κs =
     let s = c .before .before .before .before .before in
-    let m = c .before .one-more .ensures in
-    (loads-to (s .pre .0) (omega (arith, m .to)), omega (arith, m .from, s .pre .1 .1))
+    (loads-to (s .pre .0) (omega arith), omega (arith, s .pre .1))
 
-returns : tie.Need-returns
-returns c =
+returns-2 : tie.Need-returns-2
+returns-2 c =
     let s = c .before .before .before .before .before .before in
     let job : Job = jobOf (s .args .startup) (s .args .speeds .now) (s .args .weights .now) in
-    let m = c .before .before .one-more in
-    let e : c .part-bound .result ≡ partBound job (s .args .p) (s .args .a) (m .result) =
-    prefix-bound (s .pre .0 .prefix) (s .args .p) (s .args .a) (m .result) (s .pre .1 .0) (omega (arith, m .ensures .from, s .pre .1 .1)) (m .ensures .to)
-    refl (c .part-bound .ensures) in
-    (bid-stops job (s .args .p) (s .args .a) (s .pre .1 .2) (m .ensures) e, part-narrow _ _ _ (s .pre .0 .valid) e)
+    let e : c .part-bound .result ≡ partBound job (s .args .p) (s .args .a) (tasks job) =
+    prefix-bound (s .pre .0 .prefix) (s .args .p) (s .args .a) (tasks job) (s .pre .1 .0) (omega (arith, s .pre .1)) (omega arith) refl (c .part-bound .ensures) in
+    (bid-stops job (s .args .p) (s .args .a) (s .args .end) (omega arith) e, part-narrow _ _ _ (s .pre .0 .valid) e)
 
 pub bid-of-spec : {M : Type 1} → statement M
 bid-of-spec =
     tie.close
     (tie.spec
-    one-more-requires
+    mul-started-bound
+    shared-slice-read-started-bound
+    add-started-bound
+    started-bound-requires
+    returns
     mul-part-bound
     shared-slice-read-part-bound
     part-bound-requires
-    returns)
+    returns-2)

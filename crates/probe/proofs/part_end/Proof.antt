@@ -3,7 +3,8 @@
 use Prim.Native.Nat.{ℕ, _-_}
 use mathlib.Core.Path.{ap}
 use native.Mathlib.Omega.{arith}
-use Rattle.parts.proofs.Laws.{prefix-rising, prefix-to}
+use lib.ListN.{length}
+use Rattle.parts.proofs.Laws.{prefix-rising, prefix-to, between-before}
 use Rattle.probe.proofs.Reach.{limit-fits, end-none, end-all, cap-fits, end-last}
 use borrow.Author.Needs.{needs}
 use Rattle.probe.proofs.part_end.Statement.{statement}
@@ -62,7 +63,9 @@ raised-requires c κs =
 last-from-requires : tie.Need-last-from-requires
 last-from-requires c κs =
     let s = c .before .before .before .before .before .before .before .before .before .before .before .before in
-    (prefix-rising (s .pre .0 .prefix), (s .pre .1 .1 .1, omega (arith, c .raised .ensures)))
+    let w = c .before .before .before .before .part-weight .ensures in
+    let l = between-before (s .args .sums .now) (s .args .a) (length (s .args .weights .now)) (s .pre .1 .1 .1) (omega (arith, c .before .before .before .wide2 .ensures, w)) in
+    (prefix-rising (s .pre .0 .prefix), (l, omega (arith, c .raised .ensures)))
 
 returns-3 : tie.Need-returns-3
 returns-3 c =
