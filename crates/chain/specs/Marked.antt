@@ -74,8 +74,8 @@ fieldsOf a b c d = a ∷ b ∷ c ∷ d ∷ []
 pub data Row : Type 0 where
   -- the plan of a job of this edition: separators, bottleneck, imbalance, counts, allowances
   planned : Edition → Job → List ℕ → Bound → ℕ → Four → Four → Row
-  -- a trial that fits, with its separators; one that fails, with its next bid and how far each machine got
-  fitsWith : Job → Bound → List ℕ → Row
+  -- a trial that fits, with how many machines it came to and its separators; one that fails, with its next bid and how far each machine got
+  fitsWith : Job → Bound → ℕ → List ℕ → Row
   failsWith : Job → Bound → Bound → List ℕ → Row
   -- the quick plan: separators and bottleneck
   quick : Job → List ℕ → Bound → Row
@@ -93,19 +93,19 @@ pub data Row : Type 0 where
   filed : Job → List (List ℕ) → ℕ → Row
 
 unfoldable pub isFailing : Outcome → Bound → Bool
-isFailing Fits C = false
+isFailing (Fits n) C = false
 isFailing (Fails B) C = samePair B C
 
-unfoldable pub isFitting : Outcome → Bool
-isFitting Fits = true
-isFitting (Fails B) = false
+unfoldable pub isFitting : Outcome → ℕ → Bool
+isFitting (Fits n) m = eqb n m
+isFitting (Fails B) m = false
 
 -- The row says what the definitions give.
 unfoldable pub holds : Row → Bool
 holds (planned edition job s B i n a) =
     eqb (job .startup) (startupOf edition) && sameList (planOf job) s && samePair (bottleneck job s) B && eqb (imbalance job B) i && figuresAre (λ m. countBy m job) n
     && figuresAre (λ m. allowance edition m job) a && walksAre job s
-holds (fitsWith job B s) = isFitting (probe job B) && sameList (walk job B) s && sameList (walked job B) s
+holds (fitsWith job B n s) = isFitting (probe job B) n && sameList (walk job B) s && sameList (walked job B) s
 holds (failsWith job B C s) = isFailing (probe job B) C && sameList (walked job B) s
 holds (quick job s B) = sameList (heuristic job) s && samePair (bottleneck job s) B
 holds (measures job s B) = eqb (refusal job (measureInputs job s)) 0 && samePair (bottleneck job s) B
@@ -144,8 +144,8 @@ unfoldable pub marked : List Row
 marked =
     planned First jobA (0 ∷ 1 ∷ 3 ∷ []) (over 11 3) 223 (four 2 2 2 2) (four 3 4 8 2)
     ∷ failsWith jobA (over 3 1) (over 11 3) (0 ∷ 1 ∷ 2 ∷ [])
-    ∷ fitsWith jobA (over 11 3) (0 ∷ 1 ∷ 3 ∷ [])
-    ∷ fitsWith jobA (over 23 6) (0 ∷ 1 ∷ 3 ∷ [])
+    ∷ fitsWith jobA (over 11 3) 2 (0 ∷ 1 ∷ 3 ∷ [])
+    ∷ fitsWith jobA (over 23 6) 2 (0 ∷ 1 ∷ 3 ∷ [])
     ∷ quick jobA (0 ∷ 2 ∷ 3 ∷ []) (over 4 1)
     ∷ measures jobA (0 ∷ 3 ∷ 3 ∷ []) (over 12 1)
     ∷ refused jobA (0 ∷ 2 ∷ 2 ∷ []) 11
@@ -268,7 +268,7 @@ startedJobs =
     ∷ failsWith jobM (over 3 1) (over 13 3) (0 ∷ 1 ∷ 2 ∷ [])
     ∷ failsWith jobM (over 1 1) (over 3 1) (0 ∷ 0 ∷ 1 ∷ [])
     ∷ failsWith jobM (over 0 1) (over 3 1) (0 ∷ 0 ∷ 0 ∷ [])
-    ∷ fitsWith jobM (over 13 3) (0 ∷ 1 ∷ 3 ∷ [])
+    ∷ fitsWith jobM (over 13 3) 2 (0 ∷ 1 ∷ 3 ∷ [])
     ∷ filed jobM (fieldsOf 0 1 3 1 ∷ fieldsOf 1 3 13 3 ∷ []) 0
     ∷ filed jobM (fieldsOf 0 1 1 1 ∷ fieldsOf 1 3 11 3 ∷ []) 13
     ∷ planned (Second 3) jobN (0 ∷ 0 ∷ 3 ∷ []) (over 12 4) 667 (four 1 2 2 2) (four 3 4 8 2)
@@ -289,4 +289,26 @@ startedJobs =
     ∷ refused (jobOf 1000001 (1 ∷ []) (0 ∷ [])) (0 ∷ 1 ∷ []) 16
     ∷ refused (jobOf 1000001 (0 ∷ []) (0 ∷ [])) (0 ∷ 1 ∷ []) 16
     ∷ refused (jobOf 1000001 [] []) (0 ∷ []) 16
+    ∷ []
+
+-- Trials that fit, with the number of machines that their walks came to. Scope 11.20: "A trial of A at 12/1 fits, comes to 1 machine and writes
+-- 0 3 3." Scope 11.22: "A trial of D at 0/1 fits, comes to 1 machine and writes 0 2 2." Scope 11.23: "A trial of C at 0/1 fits, comes to 0
+-- machines and writes 0 0 0: there is no tile to place." Scope 11.24: "Of weights 2 3 0 0 on speeds 1 1 1 a trial at 3/1 fits, comes to 2
+-- machines and writes 0 1 4 4: tiles of weight 0 at the end go to the machine that reaches them." Scope 11.25: "Of weights 6 on speeds 1 2 1 a
+-- trial at 3/1 fits, comes to 2 machines and writes 0 0 1 1: machine 1 counts, though it takes no tile, and machine 3 does not." Scope 17.22: "A
+-- trial of M at 14/1 fits, comes to 1 machine and writes 0 3 3." That of 11.21 is among the marked ones. Beside them: three tiles on the longest row, one, two and
+-- three to a machine; the last machine of two takes the last tile; no tiles on one machine.
+unfoldable pub fittedTrials : List Row
+fittedTrials =
+    fitsWith jobA (over 12 1) 1 (0 ∷ 3 ∷ 3 ∷ [])
+    ∷ fitsWith jobD (over 0 1) 1 (0 ∷ 2 ∷ 2 ∷ [])
+    ∷ fitsWith jobC (over 0 1) 0 (0 ∷ 0 ∷ 0 ∷ [])
+    ∷ fitsWith (jobOf 0 (1 ∷ 1 ∷ 1 ∷ []) (2 ∷ 3 ∷ 0 ∷ 0 ∷ [])) (over 3 1) 2 (0 ∷ 1 ∷ 4 ∷ 4 ∷ [])
+    ∷ fitsWith (jobOf 0 (1 ∷ 2 ∷ 1 ∷ []) (6 ∷ [])) (over 3 1) 2 (0 ∷ 0 ∷ 1 ∷ 1 ∷ [])
+    ∷ fitsWith jobM (over 14 1) 1 (0 ∷ 3 ∷ 3 ∷ [])
+    ∷ fitsWith (jobOf 0 (replicate 96 1) (5 ∷ 5 ∷ 5 ∷ [])) (over 5 1) 3 (0 ∷ 1 ∷ 2 ∷ replicate 94 3)
+    ∷ fitsWith (jobOf 0 (replicate 96 1) (5 ∷ 5 ∷ 5 ∷ [])) (over 10 1) 2 (0 ∷ 2 ∷ replicate 95 3)
+    ∷ fitsWith (jobOf 0 (replicate 96 1) (5 ∷ 5 ∷ 5 ∷ [])) (over 15 1) 1 (0 ∷ replicate 96 3)
+    ∷ fitsWith (jobOf 0 (1 ∷ 1 ∷ []) (4 ∷ 4 ∷ [])) (over 4 1) 2 (0 ∷ 1 ∷ 2 ∷ [])
+    ∷ fitsWith (jobOf 0 (3 ∷ []) []) (over 0 1) 0 (0 ∷ 0 ∷ [])
     ∷ []

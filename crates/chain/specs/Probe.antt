@@ -3,12 +3,12 @@ use Prim.Native.Nat.{ℕ, zero, suc, _+_, _-_, _≤_, _<_}
 use mathlib.Core.Path.{_≡_}
 use mathlib.Core.Bool.{Bool, true, false}
 use mathlib.Core.List.{List, [], _∷_, _++_}
-use lib.Dec.{T, ltb}
+use lib.Dec.{T, eqb, ltb}
 use Rattle.bound.specs.declared.Bound.{Bound}
 use Rattle.bound.specs.Order.{pick, leastTo}
 use Rattle.chain.specs.declared.Outcome.{Outcome}
 use Rattle.chain.specs.declared.Outcome.the-variants.{Fits, Fails}
-use Rattle.chain.specs.Lists.{tabulate, greatestFrom}
+use Rattle.chain.specs.Lists.{tabulate, greatestFrom, smallestFrom}
 use Rattle.chain.specs.Job.{Job, tasks, processors, last, within, offer, at}
 
 -- Scope 3.1: "sp is the greatest index from s(p−1) to N whose share is within the bound"
@@ -54,6 +54,11 @@ leastBidTo job B p = leastTo (bid job B) p
 unfoldable pub nextBid : Job → Bound → Bound
 nextBid job B = leastBidTo job B (last job)
 
--- The answer of a probe: it fits, or (Scope 3.4: "it answers with the least next bid") it fails.
+-- Scope 3.13: "the number of machines that its walk came to: the smallest p with sp = N, 0 without tiles". The walk ends with N, so there is one.
+unfoldable pub visited : Job → Bound → ℕ
+visited job B = smallestFrom (λ p. eqb (at (walk job B) p) (tasks job)) 0 (processors job)
+
+-- The answer of a probe: it fits (Scope 3.13: "A trial that fits also answers with the number of machines that its walk came to"), or it
+-- fails (Scope 3.4: "it answers with the least next bid").
 unfoldable pub probe : Job → Bound → Outcome
-probe job B = elim (fits job B) [ true ↦ Fits | false ↦ Fails (nextBid job B) ]
+probe job B = elim (fits job B) [ true ↦ Fits (visited job B) | false ↦ Fails (nextBid job B) ]

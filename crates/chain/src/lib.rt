@@ -9,9 +9,9 @@ pub enum Method {
     Nicol,
 }
 
-// The answer of a probe ("trial"): it fits, or it fails with the least next bid.
+// The answer of a probe ("trial"): it fits, with the number of processors that its walk came to, or it fails with the least next bid.
 pub enum Outcome {
-    Fits,
+    Fits(usize),
     Fails(Bound),
 }
 

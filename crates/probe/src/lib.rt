@@ -9,7 +9,7 @@ ghost use Rattle.chain.specs.Job.{Job, jobOf, tasks, processors, offer};
 ghost use Rattle.chain.specs.Probe.{reach, walk, walked, probe};
 ghost use Rattle.parts.specs.Prefix.{Ready};
 ghost use Rattle.parts.specs.Rising.{Rising, LastAtMost};
-ghost use Rattle.probe.specs.Walk.{Reached};
+ghost use Rattle.probe.specs.Walk.{filled, Reached};
 use bound::Bound;
 use chain::Outcome;
 use parts::index;
@@ -96,7 +96,7 @@ pub fn part_end(
     last_from(sums, a, n, raised(sums[a], room), hint)
 }
 
-// Inner. The bid of processor p: the bound of its part from a to end with one more task.
+// Inner. The bid of processor p: the bound of its part from a to end with one more task, which is there.
 pub fn bid_of(
     startup: u32,
     speeds: &[u32],
@@ -109,15 +109,11 @@ pub fn bid_of(
     ghost { Job }
     requires { λ job. ⌜ jobOf startup (now speeds) (now weights) ≡ job ⌝ }
     requires { λ job. ⌜ Ready job (now sums) ⌝ }
-    requires { λ job. ⌜ (p < processors job) × (a ≤ end) × (end ≤ tasks job) ⌝ }
+    requires { λ job. ⌜ (p < processors job) × (a ≤ end) × (end < tasks job) ⌝ }
     ensures { λ job r. ⌜ r ≡ offer job p a (suc end) ⌝ }
     ensures { λ job r. ⌜ Narrow r ⌝ }
 {
-    let n = weights.len();
-    if end < n {
-        return started_bound(startup, speeds[p], sums, a, end + 1);
-    }
-    part_bound(startup, speeds[p], sums, a, n)
+    started_bound(startup, speeds[p], sums, a, end + 1)
 }
 
 // Inner. The bound of all that remains from a on, on processor p.
@@ -146,8 +142,21 @@ pub struct Point {
     pub least: Bound,
 }
 
+// Inner. Writes a value to the entries from one index to before another.
+fn fill(xs: &mut [u32], from: usize, to: usize, value: u32)
+    requires { ⌜ (from ≤ to) × (to ≤ length (now xs)) ⌝ }
+    ensures { λ _. ⌜ now (xs .exit) ≡ filled (now (xs .entry)) from to value ⌝ }
+{
+    let mut k = from;
+    while k < to {
+        xs[k] = value;
+        k += 1;
+    }
+}
+
 // Inner. The probe at the bound from a point on that its walk has reached: writes the separators from there on, whether it fits
-// or not, and answers. What the list holds from there on is a hint, most often the walk before.
+// or not, and answers. Once every task is placed the walk ends, and the separators that are left become N. What the list holds from the
+// point on is a hint, most often the walk before.
 pub fn walk_from(
     startup: u32,
     speeds: &[u32],
@@ -166,15 +175,24 @@ pub fn walk_from(
     ensures { λ job r. ⌜ r ≡ probe job bound ⌝ }
     ensures { λ job r. ⌜ now (separators .exit) ≡ walk job bound ++ drop (suc (processors job)) (now (separators .entry)) ⌝ }
 {
-    let last = speeds.len() - 1;
+    let count = speeds.len();
+    let last = count - 1;
     let n = weights.len();
     let mut best = point.least;
     let mut a = point.start;
     let mut p = point.processor;
+    if n <= a {
+        fill(separators, p, count + 1, narrow(n));
+        return Outcome::Fits(p);
+    }
     while p < last {
         let hint = index(separators[p + 1]);
         separators[p] = narrow(a);
         let end = part_end(startup, speeds, weights, sums, p, a, bound, hint);
+        if n <= end {
+            fill(separators, p + 1, count + 1, narrow(n));
+            return Outcome::Fits(p + 1);
+        }
         best = Bound::lesser(best, bid_of(startup, speeds, weights, sums, p, a, end));
         a = end;
         p += 1;
@@ -183,7 +201,7 @@ pub fn walk_from(
     separators[p + 1] = narrow(n);
     let rest = rest_of(startup, speeds, weights, sums, p, a);
     if Bound::at_most(rest, bound) {
-        return Outcome::Fits;
+        return Outcome::Fits(p + 1);
     }
     Outcome::Fails(Bound::lesser(best, rest))
 }
@@ -233,7 +251,7 @@ pub fn walked_in(
 {
     let answer = probe_in(startup, speeds, weights, sums, bound, separators);
     match answer {
-        Outcome::Fits => Outcome::Fits,
+        Outcome::Fits(visited) => Outcome::Fits(visited),
         Outcome::Fails(next) => {
             let last = speeds.len() - 1;
             let a = index(separators[last]);
