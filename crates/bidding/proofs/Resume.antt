@@ -16,8 +16,8 @@ use Rattle.chain.specs.Job.{Job, Valid, tasks, processors, last, offer}
 use Rattle.chain.specs.Probe.{separator, walk, fits, bid, nextBid}
 use Rattle.chain.proofs.Parts.{valid-proper, valid-plannable}
 use Rattle.chain.proofs.Bottleneck.{processors-last}
-use Rattle.chain.proofs.Walk.{separator-to, separator-grows, walk-at}
-use Rattle.chain.proofs.NextBid.{bid-before, next-above, separator-stays, least-stays}
+use Rattle.chain.proofs.Walk.{separator-grows, walk-at}
+use Rattle.chain.proofs.NextBid.{bid-before, fails-before-end, next-above, separator-stays, least-stays}
 use Rattle.chain.specs.Ranges.{Lendable, Narrow}
 use Rattle.chain.proofs.Ranges.{next-bid-small, narrow-products, small-narrow, lesser-narrow, infinite-narrow}
 use Rattle.probe.specs.Walk.{leastBefore, Reached}
@@ -29,7 +29,6 @@ use Rattle.bidding.specs.Failed.{FailedWalk}
 pub record Parted (job : Job) (B C : Bound) (p a : ℕ) (least : Bound) : Type 0 where
   pub to : p ≤ last job
   pub start-is : a ≡ separator job B p
-  pub inside : a ≤ tasks job
   pub least-is : least ≡ leastBefore job B p
   pub small : Narrow least
   pub above : (q : ℕ) → q < p → C ≺ bid job B q
@@ -40,7 +39,6 @@ parted-start job B C =
     record {
       to = omega arith;
       start-is = refl;
-      inside = omega arith;
       least-is = refl;
       small = infinite-narrow;
       above = λ q h. absurd (let z : ⊥ = omega arith in z);
@@ -77,8 +75,9 @@ module _ {job : Job} (v : Valid job) {C : Bound} {xs : List ℕ} (f : FailedWalk
     pub end-after : {b : ℕ} → p < last job → b ≡ getD xs (p + 1) 0 → a ≤ b
     end-after h e = omega (arith, w .start-is, end-is h e, separator-grows job (f .bound) p)
 
-    pub end-inside : {b : ℕ} → p < last job → b ≡ getD xs (p + 1) 0 → b ≤ tasks job
-    end-inside h e = omega (arith, end-is h e, separator-to job (f .bound) (suc p))
+    -- before the last task, since the trial failed,
+    pub end-before : {b : ℕ} → p < last job → b ≡ getD xs (p + 1) 0 → b < tasks job
+    end-before h e = omega (arith, end-is h e, fails-before-end job (f .bound) (f .rejected .failed) (suc p) h)
 
     -- and one processor more whose bid is above.
     pub parted-turn : {b : ℕ} {D E : Bound} → p < last job → b ≡ getD xs (p + 1) 0 → D ≡ offer job p a (suc b) → Narrow D → le D C ≡ false → E ≡ lesser least D
@@ -88,7 +87,6 @@ module _ {job : Job} (v : Valid job) {C : Bound} {xs : List ℕ} (f : FailedWalk
         (record {
           to = h;
           start-is = end-is h e;
-          inside = end-inside h e;
           least-is = g ∙ ap₂ lesser (w .least-is) is-part ∙ least-turn v (f .bound) p h;
           small = subst Narrow (sym g) (lesser-narrow (w .small) n);
           above = λ q l. elim (decLe (suc q) p) [ yes m ↦ w .above q m | no m ↦ last-above q (omega arith) ];
@@ -124,5 +122,6 @@ module _ {job : Job} (v : Valid job) {C : Bound} {xs : List ℕ} (f : FailedWalk
           start-is = w .start-is ∙ sym (stays p (omega arith));
           least-is = w .least-is ∙ sym (least-before p (omega arith));
           small = w .small;
+          left = λ k h. omega (arith, stays k (omega arith), fails-before-end job (f .bound) (f .rejected .failed) k (omega (arith, w .to)));
           before = λ k h. f .each k (omega (arith, w .to)) ∙ sym (stays k (omega arith));
         }

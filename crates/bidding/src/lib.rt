@@ -85,7 +85,7 @@ pub fn bidding_in(
     loop {
         let answer = walk_from(startup, speeds, weights, sums, bound, point, separators);
         match answer {
-            Outcome::Fits => {
+            Outcome::Fits(visited) => {
                 return Found {
                     bound,
                     count: failures + 1,

@@ -72,7 +72,7 @@ fn trial_at(
     let bound = bound_to(startup, speeds, weights, sums, p, a, j);
     let answer = probe_in(startup, speeds, weights, sums, bound, separators);
     match answer {
-        Outcome::Fits => true,
+        Outcome::Fits(visited) => true,
         Outcome::Fails(next) => false,
     }
 }

@@ -69,12 +69,12 @@ fn say_measured(answer: Measured) {
     }
 }
 
-// A fit is 0 1; a failure is 0, the next bid's load and its speed.
+// A fit is 0 and the number of machines that its walk came to; a failure is 0, the next bid's load and its speed.
 fn say_outcome(outcome: Outcome) {
     match outcome {
-        Outcome::Fits => {
+        Outcome::Fits(visited) => {
             say(0);
-            say(1);
+            say(visited as u64);
         }
         Outcome::Fails(next) => say_bound(next),
     }

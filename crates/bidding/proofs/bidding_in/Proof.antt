@@ -64,7 +64,7 @@ returns c =
     let s = c .before .before .before .before .before .before .before .before .before .before .before .before in
     let job : Job = job-at s in
     let y = c .before .before .before .before .walk-from .ensures in (
-      bidden-end (l .loop .inv .0) (fits-outcome job (l .loop .bound) (sym (y .0) ∙ c .enum-told .given .1)) (omega arith),
+      bidden-end (l .loop .inv .0) (fits-outcome job (l .loop .bound) (sym (y .0) ∙ c .answer .given .1) .0) (omega arith),
       kept-is (walk job (l .loop .bound)) (l .loop .inv .1 .0) (y .1),
     )
 

@@ -66,7 +66,7 @@ returns c =
     let b = kept-start (suc (length (s .args .speeds .now))) (s .args .separators .now) in
     let I : Bound = c .before .before .before .before .before .before .ideal-of .result in
     let y = c .before .before .before .before .probe-in .ensures in (
-      ended-at-once (c .before .before .before .before .before .before .ideal-of .ensures) (fits-outcome job I (sym (y .0) ∙ c .enum-told .given .1)),
+      ended-at-once (c .before .before .before .before .before .before .ideal-of .ensures) (fits-outcome job I (sym (y .0) ∙ c .answer .given .1) .0),
       (subst Lendable (sym (c .before .before .before .before .before .before .ideal-of .ensures)) (ideal-lendable v), kept-written (walk job I) _ b (s .pre .1) (walk-count v I) (y .1)),
     )
 

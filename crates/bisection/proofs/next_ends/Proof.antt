@@ -39,7 +39,7 @@ measure-in-requires c κs =
     let job : Job = job-at s in
     let M : Bound = c .before .before .before .before .before .before .before .midpoint .result in
     let y = c .before .before .before .before .before .probe-in .ensures in
-    let f = fits-outcome job M (sym (y .0) ∙ c .before .enum-told .given .1) in (
+    let f = fits-outcome job M (sym (y .0) ∙ c .before .answer .given .1) .0 in (
       s .pre .0,
       front-partition (walk job M) (drop (suc (length (s .args .speeds .now))) (s .args .separators .now)) (walk-partition (valid-proper (s .pre .0 .valid)) M f)
           (y .1),
@@ -58,7 +58,7 @@ returns c =
     let M : Bound = c .before .before .before .before .before .before .before .before .midpoint .result in
     let l : List ℕ = drop (suc (length (s .args .speeds .now))) (s .args .separators .now) in
     let y = c .before .before .before .before .before .before .probe-in .ensures in
-    let f = fits-outcome job M (sym (y .0) ∙ c .before .before .enum-told .given .1) in (
+    let f = fits-outcome job M (sym (y .0) ∙ c .before .before .answer .given .1) .0 in (
       round-fits job (s .args .low) (s .args .high) (c .before .before .before .before .before .before .before .before .midpoint .ensures) f
           (front-bottleneck (walk job M) l (walk-partition (valid-proper (s .pre .0 .valid)) M f) (y .1) (c .measure-in .ensures .1)),
       kept-written (walk job M) _ (kept-start (suc (length (s .args .speeds .now))) (s .args .separators .now)) (s .pre .1 .0)

@@ -40,7 +40,7 @@ returns c =
     let job : Job = job-at s in
     let b = c .before .before .before .before .before .before .bound-to in
     let y = c .before .before .before .before .probe-in .ensures in (
-      told-fits job (s .args .p) (s .args .a) (s .args .j) (b .ensures .0) (sym (y .0) ∙ c .enum-told .given .1),
+      told-fits job (s .args .p) (s .args .a) (s .args .j) (b .ensures .0) (sym (y .0) ∙ c .answer .given .1),
       kept-written (walk job (b .result)) _ (kept-start (suc (length (s .args .speeds .now))) (s .args .separators .now)) (s .pre .1 .0)
           (walk-count (s .pre .0 .valid) (b .result)) (y .1),
     )

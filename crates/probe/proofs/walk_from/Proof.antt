@@ -7,22 +7,41 @@ use borrow.Author.Needs.{needs}
 use lib.ListN.{length, length-set}
 use Rattle.chain.specs.Job.{jobOf}
 use Rattle.chain.proofs.Ranges.{index-fits, narrow-products}
-use Rattle.probe.proofs.Walked.{Walked, walked-start, walked-turn, walked-end, answer-fits, answer-fails, rest-products, end-after, end-inside}
+use Rattle.probe.proofs.Walked.{Walked, walked-start, walked-turn, walked-end, placed-first, placed-length, placed, answer-fits, answer-fails, rest-products, end-after}
 use Rattle.probe.proofs.walk_from.Statement.{statement}
 use Rattle.probe.proofs.walk_from.Tie as tie
 
 abbrev Inv-loop : tie.InvT-loop
-Inv-loop startup speeds weights sums bound separators₀ last n best₀ a₀ p₀ separators best a p =
+Inv-loop startup speeds weights sums bound separators₀ count last n best₀ a₀ p₀ separators best a p =
     Walked (jobOf startup speeds weights) bound separators₀ separators p a best
 
 abbrev μ-loop : tie.MeasureT-loop
-μ-loop startup speeds weights sums bound separators₀ last n best₀ a₀ p₀ separators best a p = length speeds - p
+μ-loop startup speeds weights sums bound separators₀ count last n best₀ a₀ p₀ separators best a p = length speeds - p
 
 sub-last : tie.Need-sub-last Inv-loop μ-loop
 sub-last c = omega arith
 
+add-fill : tie.Need-add-fill Inv-loop μ-loop
+add-fill c = omega arith
+
+narrow-requires : tie.Need-narrow-requires Inv-loop μ-loop
+narrow-requires c κs = index-fits (c .before .before .before .before .before .before .before .pre .0 .valid) (omega arith)
+
+fill-requires : tie.Need-fill-requires Inv-loop μ-loop
+fill-requires c κs =
+    let s = c .before .before .before .before .before .before .before .before in
+    (omega (arith, s .pre .1 .1 .1 .to), omega (arith, s .pre .1 .1 .0))
+
+same-length : tie.Need-same-length Inv-loop μ-loop
+same-length c = search needs
+
+returns : tie.Need-returns Inv-loop μ-loop
+returns c =
+    let s = c .before .before .before .before .before .before .before .before .before .before .before in
+    placed-first (s .pre .0 .valid) (s .pre .1 .1 .0) (s .pre .1 .1 .1) (omega arith) (c .before .before .before .narrow .ensures) (c .before .before .fill .ensures)
+
 loop-holds : tie.Need-loop-holds Inv-loop μ-loop
-loop-holds c = walked-start (c .before .before .before .before .before .pre .1 .1 .1)
+loop-holds c = walked-start (c .before .before .before .before .before .before .pre .1 .1 .1) (omega arith)
 
 add-index : tie.Need-add-index Inv-loop μ-loop
 add-index c = omega arith
@@ -36,8 +55,8 @@ slice-read-index c = omega (arith, c .before .before .loop .inv .front .same)
 index-requires : tie.Need-index-requires Inv-loop μ-loop
 index-requires c κs = search needs
 
-narrow-requires : tie.Need-narrow-requires Inv-loop μ-loop
-narrow-requires c κs = index-fits (c .before .before .before .before .before .before .before .before .before .pre .0 .valid) (c .before .before .before .loop .inv .inside)
+narrow-requires-2 : tie.Need-narrow-requires-2 Inv-loop μ-loop
+narrow-requires-2 c κs = index-fits (c .before .before .before .before .before .before .before .before .before .before .pre .0 .valid) (omega (arith, c .before .before .before .loop .inv .left))
 
 mul-separators : tie.Need-mul-separators Inv-loop μ-loop
 mul-separators c = omega arith
@@ -47,19 +66,45 @@ slice-write-separators c = omega (arith, c .before .before .before .before .loop
 
 part-end-requires : tie.Need-part-end-requires Inv-loop μ-loop
 part-end-requires c κs =
-    let s = c .before .before .before .before .before .before .before .before .before .before in
-    let h = c .before .before .before .before .loop .inv .inside in
+    let s = c .before .before .before .before .before .before .before .before .before .before .before in
+    let h = c .before .before .before .before .loop .inv .left in
     (s .pre .0, (s .pre .1 .0, (omega arith, omega arith)))
+
+add-fill-2 : tie.Need-add-fill-2 Inv-loop μ-loop
+add-fill-2 c = omega arith
+
+add-fill-3 : tie.Need-add-fill-3 Inv-loop μ-loop
+add-fill-3 c = omega arith
+
+narrow-requires-3 : tie.Need-narrow-requires-3 Inv-loop μ-loop
+narrow-requires-3 c κs = index-fits (c .before .before .before .before .before .before .before .before .before .before .before .before .before .before .pre .0 .valid) (omega arith)
+
+fill-requires-2 : tie.Need-fill-requires-2 Inv-loop μ-loop
+fill-requires-2 c κs = (omega arith, simp length-set (omega (arith, c .before .before .before .before .before .before .before .before .loop .inv .front .same)))
+
+add-t32 : tie.Need-add-t32 Inv-loop μ-loop
+add-t32 c = omega arith
+
+same-length-2 : tie.Need-same-length-2 Inv-loop μ-loop
+same-length-2 c =
+    let s = c .before .before .before .before .before .before .before .before .before .before .before .before .before .before .before .before .before .before in
+    placed-length (s .pre .0 .valid) (s .pre .1 .1 .0) (c .before .before .before .before .before .before .before .before .before .before .before .loop .inv) _ _ (c .before .before .fill2 .ensures)
+
+returns-2 : tie.Need-returns-2 Inv-loop μ-loop
+returns-2 c =
+    let s = c .before .before .before .before .before .before .before .before .before .before .before .before .before .before .before .before .before .before in
+    placed (s .pre .0 .valid) (s .pre .1 .1 .0) (c .before .before .before .before .before .before .before .before .before .before .before .loop .inv) _ _ (c .before .before .fill2 .ensures) (omega arith)
+    (c .before .before .before .before .before .before .before .narrow2 .ensures) (c .before .before .before .before .before .before .part-end .ensures) (omega arith) (c .before .before .before .narrow3 .ensures)
 
 bid-of-requires : tie.Need-bid-of-requires Inv-loop μ-loop
 bid-of-requires c κs =
-    let s = c .before .before .before .before .before .before .before .before .before .before .before in
-    let w = c .before .before .before .before .before .loop .inv in
-    (s .pre .0, (omega arith, end-after (s .pre .0 .valid) (s .pre .1 .1 .0) w (c .part-end .ensures), end-inside (s .pre .0 .valid) (s .pre .1 .1 .0) w (c .part-end .ensures)))
+    let s = c .before .before .before .before .before .before .before .before .before .before .before .before .before in
+    let w = c .before .before .before .before .before .before .loop .inv in
+    (s .pre .0, (omega arith, end-after (s .pre .0 .valid) (s .pre .1 .1 .0) w (c .before .part-end .ensures), omega arith))
 
 lesser-requires : tie.Need-lesser-requires Inv-loop μ-loop
 lesser-requires c κs =
-    let h = narrow-products (c .before .before .before .before .before .before .loop .inv .small) (c .bid-of .ensures .1) in
+    let h = narrow-products (c .before .before .before .before .before .before .before .loop .inv .small) (c .bid-of .ensures .1) in
     (omega arith, omega arith)
 
 add-p : tie.Need-add-p Inv-loop μ-loop
@@ -70,12 +115,12 @@ loop-less c = omega arith
 
 loop-again : tie.Need-loop-again Inv-loop μ-loop
 loop-again c =
-    let s = c .before .before .before .before .before .before .before .before .before .before .before .before .before in
-    walked-turn (s .pre .0 .valid) (s .pre .1 .1 .0) (c .before .before .before .before .before .before .before .loop .inv) (omega arith) (c .before .before .before .narrow .ensures)
-    (c .before .before .part-end .ensures) (c .before .bid-of .ensures .0) (c .lesser .ensures)
+    let s = c .before .before .before .before .before .before .before .before .before .before .before .before .before .before .before in
+    walked-turn (s .pre .0 .valid) (s .pre .1 .1 .0) (c .before .before .before .before .before .before .before .before .loop .inv) (omega arith) (c .before .before .before .before .narrow2 .ensures) (c .before .before .before .part-end .ensures) (omega arith) (c .before .bid-of .ensures .0)
+    (c .lesser .ensures)
 
-narrow-requires-2 : tie.Need-narrow-requires-2 Inv-loop μ-loop
-narrow-requires-2 c κs = index-fits (c .before .before .before .before .before .before .before .pre .0 .valid) (c .before .loop .inv .inside)
+narrow-requires-4 : tie.Need-narrow-requires-4 Inv-loop μ-loop
+narrow-requires-4 c κs = index-fits (c .before .before .before .before .before .before .before .before .pre .0 .valid) (omega (arith, c .before .loop .inv .left))
 
 mul-separators-2 : tie.Need-mul-separators-2 Inv-loop μ-loop
 mul-separators-2 c = omega arith
@@ -83,8 +128,8 @@ mul-separators-2 c = omega arith
 slice-write-separators-2 : tie.Need-slice-write-separators-2 Inv-loop μ-loop
 slice-write-separators-2 c = omega (arith, c .before .before .loop .inv .front .same)
 
-narrow-requires-3 : tie.Need-narrow-requires-3 Inv-loop μ-loop
-narrow-requires-3 c κs = index-fits (c .before .before .before .before .before .before .before .before .pre .0 .valid) (omega arith)
+narrow-requires-5 : tie.Need-narrow-requires-5 Inv-loop μ-loop
+narrow-requires-5 c κs = index-fits (c .before .before .before .before .before .before .before .before .before .pre .0 .valid) (omega arith)
 
 add-separators : tie.Need-add-separators Inv-loop μ-loop
 add-separators c = omega arith
@@ -97,25 +142,28 @@ slice-write-separators-3 c = simp length-set (omega (arith, c .before .before .b
 
 rest-of-requires : tie.Need-rest-of-requires Inv-loop μ-loop
 rest-of-requires c κs =
-    let s = c .before .before .before .before .before .before .before .before .before in
-    let h = c .before .before .before .loop .inv .inside in
+    let s = c .before .before .before .before .before .before .before .before .before .before in
+    let h = c .before .before .before .loop .inv .left in
     (s .pre .0, (omega arith, omega arith))
 
 at-most-requires : tie.Need-at-most-requires Inv-loop μ-loop
 at-most-requires c κs =
-    let s = c .before .before .before .before .before .before .before .before .before .before in
+    let s = c .before .before .before .before .before .before .before .before .before .before .before in
     let h = rest-products _ _ _ (s .pre .0 .valid) (s .pre .1 .0) (c .rest-of .ensures .0) in
     (omega arith, omega arith)
 
-same-length : tie.Need-same-length Inv-loop μ-loop
-same-length c = simp length-set (c .before .before .before .before .before .before .loop .inv .front .same)
+add-t42 : tie.Need-add-t42 Inv-loop μ-loop
+add-t42 c = omega (arith, c .before .before .before .before .before .before .loop .inv .to)
 
-returns : tie.Need-returns Inv-loop μ-loop
-returns c =
-    let s = c .before .before .before .before .before .before .before .before .before .before .before .before in
+same-length-3 : tie.Need-same-length-3 Inv-loop μ-loop
+same-length-3 c = simp length-set (c .before .before .before .before .before .before .loop .inv .front .same)
+
+returns-3 : tie.Need-returns-3 Inv-loop μ-loop
+returns-3 c =
+    let s = c .before .before .before .before .before .before .before .before .before .before .before .before .before in
     let w = c .before .before .before .before .before .before .loop .inv in (
-      answer-fits (s .pre .0 .valid) (s .pre .1 .1 .0) w (omega arith) (omega arith) (c .before .before .rest-of .ensures .0) (sym (c .before .at-most .ensures) ∙ c .if1 .taken),
-      walked-end (s .pre .0 .valid) (s .pre .1 .1 .0) w (omega arith) (c .before .before .before .before .narrow2 .ensures) (c .before .before .before .narrow3 .ensures),
+      answer-fits (s .pre .0 .valid) (s .pre .1 .1 .0) w (omega arith) (omega arith) (c .before .before .rest-of .ensures .0) (sym (c .before .at-most .ensures) ∙ c .if3 .taken),
+      walked-end (s .pre .0 .valid) (s .pre .1 .1 .0) w (omega arith) (c .before .before .before .before .narrow4 .ensures) (c .before .before .before .narrow5 .ensures),
     )
 
 lesser-requires-2 : tie.Need-lesser-requires-2 Inv-loop μ-loop
@@ -123,15 +171,15 @@ lesser-requires-2 c κs =
     let h = narrow-products (c .before .before .before .before .before .before .loop .inv .small) (c .before .before .rest-of .ensures .1) in
     (omega arith, omega arith)
 
-same-length-2 : tie.Need-same-length-2 Inv-loop μ-loop
-same-length-2 c = simp length-set (c .before .before .before .before .before .before .before .loop .inv .front .same)
+same-length-4 : tie.Need-same-length-4 Inv-loop μ-loop
+same-length-4 c = simp length-set (c .before .before .before .before .before .before .before .loop .inv .front .same)
 
-returns-2 : tie.Need-returns-2 Inv-loop μ-loop
-returns-2 c =
-    let s = c .before .before .before .before .before .before .before .before .before .before .before .before .before in
+returns-4 : tie.Need-returns-4 Inv-loop μ-loop
+returns-4 c =
+    let s = c .before .before .before .before .before .before .before .before .before .before .before .before .before .before in
     let w = c .before .before .before .before .before .before .before .loop .inv in (
-      answer-fails (s .pre .0 .valid) (s .pre .1 .1 .0) w (omega arith) (omega arith) (c .before .before .before .rest-of .ensures .0) (sym (c .before .before .at-most .ensures) ∙ c .before .if1 .left) (c .lesser2 .ensures),
-      walked-end (s .pre .0 .valid) (s .pre .1 .1 .0) w (omega arith) (c .before .before .before .before .before .narrow2 .ensures) (c .before .before .before .before .narrow3 .ensures),
+      answer-fails (s .pre .0 .valid) (s .pre .1 .1 .0) w (omega arith) (omega arith) (c .before .before .before .rest-of .ensures .0) (sym (c .before .before .at-most .ensures) ∙ c .before .if3 .left) (c .lesser2 .ensures),
+      walked-end (s .pre .0 .valid) (s .pre .1 .1 .0) w (omega arith) (c .before .before .before .before .before .narrow4 .ensures) (c .before .before .before .before .narrow5 .ensures),
     )
 
 pub walk-from-spec : {M : Type 1} → statement M
@@ -141,31 +189,44 @@ walk-from-spec =
     Inv-loop
     μ-loop
     sub-last
+    add-fill
+    narrow-requires
+    fill-requires
+    same-length
+    returns
     loop-holds
     add-index
     mul-index
     slice-read-index
     index-requires
-    narrow-requires
+    narrow-requires-2
     mul-separators
     slice-write-separators
     part-end-requires
+    add-fill-2
+    add-fill-3
+    narrow-requires-3
+    fill-requires-2
+    add-t32
+    same-length-2
+    returns-2
     bid-of-requires
     lesser-requires
     add-p
     loop-less
     loop-again
-    narrow-requires-2
+    narrow-requires-4
     mul-separators-2
     slice-write-separators-2
-    narrow-requires-3
+    narrow-requires-5
     add-separators
     mul-separators-3
     slice-write-separators-3
     rest-of-requires
     at-most-requires
-    same-length
-    returns
+    add-t42
+    same-length-3
+    returns-3
     lesser-requires-2
-    same-length-2
-    returns-2)
+    same-length-4
+    returns-4)
