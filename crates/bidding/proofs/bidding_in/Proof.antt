@@ -49,27 +49,27 @@ walk-from-requires c κs =
     let s = c .before .before .before .before .before .before .before in
     (s .pre .0, (l .loop .inv .0 .lendable, (omega (arith, l .loop .inv .1 .0 .same, s .pre .1), l .loop .inv .1 .1)))
 
-enum-told : tie.Need-enum-told Inv-loop μ-loop
-enum-told c = search needs
+enum-known-answer : tie.Need-enum-known-answer Inv-loop μ-loop
+enum-known-answer c = search needs
 
-add-t14 : tie.Need-add-t14 Inv-loop μ-loop
-add-t14 c = omega (arith, bidden-fits (c .before .before .before .before .before .before .loop .failures) (c .before .before .before .before .before .before .before .before .before .before .before .before .pre .0 .valid) (c .before .before .before .before .before .before .loop .inv .0))
+add-t15 : tie.Need-add-t15 Inv-loop μ-loop
+add-t15 c = omega (arith, bidden-fits (c .before .before .before .before .before .before .before .loop .failures) (c .before .before .before .before .before .before .before .before .before .before .before .before .before .pre .0 .valid) (c .before .before .before .before .before .before .before .loop .inv .0))
 
 same-length : tie.Need-same-length Inv-loop μ-loop
 same-length c = search needs
 
 returns : tie.Need-returns Inv-loop μ-loop
 returns c =
-    let l = c .before .before .before .before .before .before in
-    let s = c .before .before .before .before .before .before .before .before .before .before .before .before in
+    let l = c .before .before .before .before .before .before .before in
+    let s = c .before .before .before .before .before .before .before .before .before .before .before .before .before in
     let job : Job = job-at s in
-    let y = c .before .before .before .before .walk-from .ensures in (
-      bidden-end (l .loop .inv .0) (fits-outcome job (l .loop .bound) (sym (y .0) ∙ c .answer .given .1) .0) (omega arith),
+    let y = c .before .before .before .before .before .walk-from .ensures in (
+      bidden-end (l .loop .inv .0) (fits-outcome job (l .loop .bound) (sym (y .0) ∙ c .before .answer .given .1) .0) (omega arith),
       kept-is (walk job (l .loop .bound)) (l .loop .inv .1 .0) (y .1),
     )
 
-enum-known-answer : tie.Need-enum-known-answer Inv-loop μ-loop
-enum-known-answer c = search needs
+enum-known-answer-2 : tie.Need-enum-known-answer-2 Inv-loop μ-loop
+enum-known-answer-2 c = search needs
 
 parting-requires : tie.Need-parting-requires Inv-loop μ-loop
 parting-requires c κs =
@@ -77,7 +77,7 @@ parting-requires c κs =
     let s = c .before .before .before .before .before .before .before .before .before .before .before .before .before .before in
     let job : Job = job-at s in
     let y = c .before .before .before .before .before .before .walk-from .ensures in
-    let f = fails-outcome job (l .loop .bound) (sym (y .0) ∙ c .before .before .answer .given .1) in
+    let f = fails-outcome job (l .loop .bound) (sym (y .0) ∙ c .before .before .answer2 .given .1) in
     (s .pre .0, failed-written (l .loop .separators) (s .pre .0 .valid) (l .loop .inv .0 .lendable) (f .0) (f .1) (omega (arith, l .loop .inv .1 .0 .same, s .pre .1)) (y .1))
 
 add-failures : tie.Need-add-failures Inv-loop μ-loop
@@ -88,7 +88,7 @@ loop-less c =
     let l = c .before .before .before .before .before .before .before .before .before in
     let s = c .before .before .before .before .before .before .before .before .before .before .before .before .before .before .before in
     let job : Job = job-at s in
-    let f = fails-outcome job (l .loop .bound) (sym (c .before .before .before .before .before .before .before .walk-from .ensures .0) ∙ c .before .before .before .answer .given .1) in
+    let f = fails-outcome job (l .loop .bound) (sym (c .before .before .before .before .before .before .before .walk-from .ensures .0) ∙ c .before .before .before .answer2 .given .1) in
     omega (arith, bidden-room (s .pre .0 .valid) (l .loop .inv .0) (f .0))
 
 loop-again : tie.Need-loop-again Inv-loop μ-loop
@@ -97,8 +97,8 @@ loop-again c =
     let s = c .before .before .before .before .before .before .before .before .before .before .before .before .before .before .before in
     let job : Job = job-at s in
     let y = c .before .before .before .before .before .before .before .walk-from .ensures in
-    let f = fails-outcome job (l .loop .bound) (sym (y .0) ∙ c .before .before .before .answer .given .1) in (
-      bidden-next (c .before .before .before .answer .given .0 .0) (s .pre .0 .valid) (l .loop .inv .0) (f .0) (f .1),
+    let f = fails-outcome job (l .loop .bound) (sym (y .0) ∙ c .before .before .before .answer2 .given .1) in (
+      bidden-next (c .before .before .before .answer2 .given .0 .0) (s .pre .0 .valid) (l .loop .inv .0) (f .0) (f .1),
       (
         kept-written (walk job (l .loop .bound)) _ (l .loop .inv .1 .0) (s .pre .1) (walk-count (s .pre .0 .valid) (l .loop .bound)) (y .1),
         c .parting .ensures,
@@ -114,11 +114,11 @@ bidding-in-spec =
     ideal-of-requires
     loop-holds
     walk-from-requires
-    enum-told
-    add-t14
+    enum-known-answer
+    add-t15
     same-length
     returns
-    enum-known-answer
+    enum-known-answer-2
     parting-requires
     add-failures
     loop-less

@@ -25,22 +25,22 @@ probe-in-requires c κs =
     let s = c .before .before .before .before .before .before in
     (s .pre .0, (small-lendable (c .before .bound-to .ensures .1), s .pre .1 .0))
 
-enum-told : tie.Need-enum-told
-enum-told c = search needs
-
 enum-known-answer : tie.Need-enum-known-answer
 enum-known-answer c = search needs
+
+enum-known-answer-2 : tie.Need-enum-known-answer-2
+enum-known-answer-2 c = search needs
 
 same-length : tie.Need-same-length
 same-length c = search needs
 
 returns : tie.Need-returns
 returns c =
-    let s = c .before .before .before .before .before .before .before .before .before .before .before in
+    let s = c .before .before .before .before .before .before .before .before .before .before .before .before in
     let job : Job = job-at s in
-    let b = c .before .before .before .before .before .before .bound-to in
-    let y = c .before .before .before .before .probe-in .ensures in (
-      told-fits job (s .args .p) (s .args .a) (s .args .j) (b .ensures .0) (sym (y .0) ∙ c .answer .given .1),
+    let b = c .before .before .before .before .before .before .before .bound-to in
+    let y = c .before .before .before .before .before .probe-in .ensures in (
+      told-fits job (s .args .p) (s .args .a) (s .args .j) (b .ensures .0) (sym (y .0) ∙ c .before .answer .given .1),
       kept-written (walk job (b .result)) _ (kept-start (suc (length (s .args .speeds .now))) (s .args .separators .now)) (s .pre .1 .0)
           (walk-count (s .pre .0 .valid) (b .result)) (y .1),
     )
@@ -54,7 +54,7 @@ returns-2 c =
     let job : Job = job-at s in
     let b = c .before .before .before .before .before .before .before .bound-to in
     let y = c .before .before .before .before .before .probe-in .ensures in (
-      told-fails job (s .args .p) (s .args .a) (s .args .j) (b .ensures .0) (sym (y .0) ∙ c .before .answer .given .1),
+      told-fails job (s .args .p) (s .args .a) (s .args .j) (b .ensures .0) (sym (y .0) ∙ c .before .answer2 .given .1),
       kept-written (walk job (b .result)) _ (kept-start (suc (length (s .args .speeds .now))) (s .args .separators .now)) (s .pre .1 .0)
           (walk-count (s .pre .0 .valid) (b .result)) (y .1),
     )
@@ -65,8 +65,8 @@ trial-at-spec =
     (tie.spec
     bound-to-requires
     probe-in-requires
-    enum-told
     enum-known-answer
+    enum-known-answer-2
     same-length
     returns
     same-length-2
