@@ -3,25 +3,26 @@
 use Prim.Native.Nat.{ℕ, zero, suc, _+_, _*_, _^_, _≤_, _<_}
 use mathlib.Core.Path.{_≡_, refl, sym, ap, ap₂, subst, _∙_}
 use mathlib.Core.Bool.{false, not}
-use mathlib.Core.List.{List, _++_}
+use mathlib.Core.List.{List}
 use native.Mathlib.Omega.{arith}
 use native.Mathlib.Decide.{decLe}
 use native.Mathlib.Numerals.{add-one}
 use lib.Dec.{T}
-use lib.ListN.{length, getD, drop}
+use lib.ListN.{length, getD}
 use Rattle.bound.specs.declared.Bound.{Bound}
 use Rattle.bound.specs.Order.{infinite, _≼_, _≺_, le, lesser, leastBelow, Real}
 use Rattle.bound.proofs.Order.{false-lt, lt-le, speed-real}
 use Rattle.chain.specs.Job.{Job, Valid, tasks, processors, last, offer}
-use Rattle.chain.specs.Probe.{separator, walk, fits, bid, nextBid}
+use Rattle.chain.specs.Probe.{separator, fits, bid, nextBid}
 use Rattle.chain.proofs.Parts.{valid-proper, valid-plannable}
 use Rattle.chain.proofs.Bottleneck.{processors-last}
-use Rattle.chain.proofs.Walk.{separator-grows, walk-at}
+use Rattle.chain.proofs.Walk.{separator-grows}
+use Rattle.chain.proofs.Visited.{visited-fails}
 use Rattle.chain.proofs.NextBid.{bid-before, fails-before-end, next-above, separator-stays, least-stays}
 use Rattle.chain.specs.Ranges.{Lendable, Narrow}
 use Rattle.chain.proofs.Ranges.{next-bid-small, narrow-products, small-narrow, lesser-narrow, infinite-narrow}
-use Rattle.probe.specs.Walk.{leastBefore, Reached}
-use Rattle.probe.proofs.Answer.{written-at, written-length}
+use Rattle.probe.specs.Walk.{leastBefore, begun, Reached}
+use Rattle.probe.proofs.Walked.{begun-length, begun-at}
 use Rattle.probe.proofs.Bids.{least-turn}
 use Rattle.bidding.specs.Failed.{FailedWalk}
 
@@ -46,16 +47,16 @@ parted-start job B C =
 
 -- The walk that a failed trial has written.
 pub failed-written : {job : Job} {ys : List ℕ} (xs : List ℕ) {B C : Bound} → Valid job → Lendable B → T (not (fits job B)) → C ≡ nextBid job B → processors job < length xs
-    → ys ≡ walk job B ++ drop (suc (processors job)) xs → FailedWalk job C ys
+    → ys ≡ begun job B xs → FailedWalk job C ys
 failed-written {job} {ys} xs {B} {C} v l t n h e =
     record {
       bound = B;
       lendable = l;
       rejected = record { failed = t; bids = n };
-      room = omega (arith, ap length e, written-length v B xs h);
+      room = omega (arith, ap length e, begun-length v B xs h);
       each = λ p m.
-          ap (λ (l : List ℕ). getD l p 0) e ∙ written-at v B (drop (suc (processors job)) xs) p (omega (arith, processors-last (valid-proper v)))
-          ∙ walk-at job B p m;
+          ap (λ (l : List ℕ). getD l p 0) e
+          ∙ begun-at v B xs h p (omega (arith, processors-last (valid-proper v), visited-fails (valid-proper v) B t));
     }
 
 -- What the scan keeps, whichever failed walk it is.

@@ -2,6 +2,7 @@
 -- Assumes nothing.
 use Prim.Native.Nat.{ℕ, suc, _≤_, _<_}
 use mathlib.Core.Path.{_≡_, sym, ap, subst, _∙_}
+use mathlib.Core.Bool.{not}
 use mathlib.Core.List.{List}
 use native.Mathlib.Omega.{arith}
 use native.Mathlib.Decide.{decLe}
@@ -17,6 +18,7 @@ use Rattle.chain.proofs.Parts.{Proper}
 use Rattle.chain.proofs.Indices.{first-holds, first-fails, first-of, first-exists, smallest-first}
 use Rattle.chain.proofs.Bottleneck.{processors-last}
 use Rattle.chain.proofs.Walk.{separator-to, separator-full, separator-left, walk-at, walk-end, walked-walk, walked-furthest, growing}
+use Rattle.chain.proofs.NextBid.{fails-before-end}
 
 module _ {job : Job} (ok : Proper job) (B : Bound) where
   -- The walk's last entry is N, and no entry is more.
@@ -54,13 +56,16 @@ module _ {job : Job} (ok : Proper job) (B : Bound) where
       visited-is p (omega (arith, processors-last ok)) (walk-at job B p h ∙ e)
       (λ k m. omega (arith, walk-at job B k (omega arith), l k m))
 
-  -- and all of them where a task is left for the last.
+  -- and all of them where a task is left for the last, as in a probe that fails.
   pub visited-all : separator job B (last job) < tasks job → visited job B ≡ processors job
   visited-all h =
       visited-is (processors job) (omega arith) ends
       (λ k m.
       let l : k ≤ last job = omega (arith, processors-last ok) in
       omega (arith, walk-at job B k l, separator-left job B (last job) k h l))
+
+  pub visited-fails : T (not (fits job B)) → visited job B ≡ processors job
+  visited-fails t = visited-all (fails-before-end job B t (last job) (omega arith))
 
   -- There is such an index.
   pub visited-first : (visited job B ≤ processors job) × T (isFirst (λ p. eqb (at (walk job B) p) (tasks job)) (visited job B))

@@ -6,11 +6,11 @@ use mathlib.Core.List.{List, _++_}
 use lib.Dec.{T, ltb}
 use lib.ListN.{getD, drop}
 use Rattle.bound.specs.declared.Bound.{Bound}
-use Rattle.bound.specs.Order.{leastBelow}
+use Rattle.bound.specs.Order.{infinite, leastBelow}
 use Rattle.chain.specs.Ranges.{Narrow}
 use Rattle.chain.specs.Lists.{tabulate}
 use Rattle.chain.specs.Job.{Job, tasks, last}
-use Rattle.chain.specs.Probe.{separator, fits, bid, nextBid}
+use Rattle.chain.specs.Probe.{separator, fits, bid, nextBid, visited}
 use Rattle.probe.specs.declared.Point.{Point}
 
 -- The least bid of the processors below p, infinite of none.
@@ -20,6 +20,14 @@ leastBefore job B p = leastBelow (bid job B) p
 -- The list xs with the value v at the entries from a to before b.
 unfoldable pub filled : List ℕ → ℕ → ℕ → ℕ → List ℕ
 filled xs a b v = tabulate (λ k. cond (ltb k a) (getD xs k 0) v) b ++ drop b xs
+
+-- The list xs with the separators of the processors that the walk came to in front.
+unfoldable pub begun : Job → Bound → List ℕ → List ℕ
+begun job B xs = tabulate (separator job B) (visited job B) ++ drop (visited job B) xs
+
+-- Where every walk begins.
+abbrev pub firstPoint : Point
+firstPoint = record { processor = 0; start = 0; least = infinite }
 
 -- The walk at the bound B has come to this point with a task left before each processor so far, and the separators before it stand in the
 -- list xs.

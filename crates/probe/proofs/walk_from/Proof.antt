@@ -7,7 +7,7 @@ use borrow.Author.Needs.{needs}
 use lib.ListN.{length, length-set}
 use Rattle.chain.specs.Job.{jobOf}
 use Rattle.chain.proofs.Ranges.{index-fits, narrow-products}
-use Rattle.probe.proofs.Walked.{Walked, walked-start, walked-turn, walked-end, placed-first, placed-length, placed, answer-fits, answer-fails, rest-products, end-after}
+use Rattle.probe.proofs.Walked.{Walked, walked-start, walked-turn, walked-end, placed-first, placed, answer-fits, answer-fails, rest-products, end-after}
 use Rattle.probe.proofs.walk_from.Statement.{statement}
 use Rattle.probe.proofs.walk_from.Tie as tie
 
@@ -21,24 +21,10 @@ abbrev μ-loop : tie.MeasureT-loop
 sub-last : tie.Need-sub-last Inv-loop μ-loop
 sub-last c = omega arith
 
-add-fill : tie.Need-add-fill Inv-loop μ-loop
-add-fill c = omega arith
-
-narrow-requires : tie.Need-narrow-requires Inv-loop μ-loop
-narrow-requires c κs = index-fits (c .before .before .before .before .before .before .before .pre .0 .valid) (omega arith)
-
-fill-requires : tie.Need-fill-requires Inv-loop μ-loop
-fill-requires c κs =
-    let s = c .before .before .before .before .before .before .before .before in
-    (omega (arith, s .pre .1 .1 .1 .to), omega (arith, s .pre .1 .1 .0))
-
-same-length : tie.Need-same-length Inv-loop μ-loop
-same-length c = search needs
-
 returns : tie.Need-returns Inv-loop μ-loop
 returns c =
-    let s = c .before .before .before .before .before .before .before .before .before .before .before in
-    placed-first (s .pre .0 .valid) (s .pre .1 .1 .0) (s .pre .1 .1 .1) (omega arith) (c .before .before .before .narrow .ensures) (c .before .before .fill .ensures)
+    let s = c .before .before .before .before .before .before in
+    placed-first (s .pre .0 .valid) (s .pre .1 .1 .0) (s .pre .1 .1 .1) (omega arith)
 
 loop-holds : tie.Need-loop-holds Inv-loop μ-loop
 loop-holds c = walked-start (c .before .before .before .before .before .before .pre .1 .1 .1) (omega arith)
@@ -55,8 +41,8 @@ slice-read-index c = omega (arith, c .before .before .loop .inv .front .same)
 index-requires : tie.Need-index-requires Inv-loop μ-loop
 index-requires c κs = search needs
 
-narrow-requires-2 : tie.Need-narrow-requires-2 Inv-loop μ-loop
-narrow-requires-2 c κs = index-fits (c .before .before .before .before .before .before .before .before .before .before .pre .0 .valid) (omega (arith, c .before .before .before .loop .inv .left))
+narrow-requires : tie.Need-narrow-requires Inv-loop μ-loop
+narrow-requires c κs = index-fits (c .before .before .before .before .before .before .before .before .before .before .pre .0 .valid) (omega (arith, c .before .before .before .loop .inv .left))
 
 mul-separators : tie.Need-mul-separators Inv-loop μ-loop
 mul-separators c = omega arith
@@ -70,31 +56,16 @@ part-end-requires c κs =
     let h = c .before .before .before .before .loop .inv .left in
     (s .pre .0, (s .pre .1 .0, (omega arith, omega arith)))
 
-add-fill-2 : tie.Need-add-fill-2 Inv-loop μ-loop
-add-fill-2 c = omega arith
+add-t24 : tie.Need-add-t24 Inv-loop μ-loop
+add-t24 c = omega arith
 
-add-fill-3 : tie.Need-add-fill-3 Inv-loop μ-loop
-add-fill-3 c = omega arith
-
-narrow-requires-3 : tie.Need-narrow-requires-3 Inv-loop μ-loop
-narrow-requires-3 c κs = index-fits (c .before .before .before .before .before .before .before .before .before .before .before .before .before .before .pre .0 .valid) (omega arith)
-
-fill-requires-2 : tie.Need-fill-requires-2 Inv-loop μ-loop
-fill-requires-2 c κs = (omega arith, simp length-set (omega (arith, c .before .before .before .before .before .before .before .before .loop .inv .front .same)))
-
-add-t32 : tie.Need-add-t32 Inv-loop μ-loop
-add-t32 c = omega arith
-
-same-length-2 : tie.Need-same-length-2 Inv-loop μ-loop
-same-length-2 c =
-    let s = c .before .before .before .before .before .before .before .before .before .before .before .before .before .before .before .before .before .before in
-    placed-length (s .pre .0 .valid) (s .pre .1 .1 .0) (c .before .before .before .before .before .before .before .before .before .before .before .loop .inv) _ _ (c .before .before .fill2 .ensures)
+same-length : tie.Need-same-length Inv-loop μ-loop
+same-length c = simp length-set (c .before .before .before .before .before .before .loop .inv .front .same)
 
 returns-2 : tie.Need-returns-2 Inv-loop μ-loop
 returns-2 c =
-    let s = c .before .before .before .before .before .before .before .before .before .before .before .before .before .before .before .before .before .before in
-    placed (s .pre .0 .valid) (s .pre .1 .1 .0) (c .before .before .before .before .before .before .before .before .before .before .before .loop .inv) _ _ (c .before .before .fill2 .ensures) (omega arith)
-    (c .before .before .before .before .before .before .before .narrow2 .ensures) (c .before .before .before .before .before .before .part-end .ensures) (omega arith) (c .before .before .before .narrow3 .ensures)
+    let s = c .before .before .before .before .before .before .before .before .before .before .before .before .before in
+    placed (s .pre .0 .valid) (s .pre .1 .1 .0) (c .before .before .before .before .before .before .loop .inv) (omega arith) (c .before .before .narrow .ensures) (c .before .part-end .ensures) (omega arith)
 
 bid-of-requires : tie.Need-bid-of-requires Inv-loop μ-loop
 bid-of-requires c κs =
@@ -116,11 +87,11 @@ loop-less c = omega arith
 loop-again : tie.Need-loop-again Inv-loop μ-loop
 loop-again c =
     let s = c .before .before .before .before .before .before .before .before .before .before .before .before .before .before .before in
-    walked-turn (s .pre .0 .valid) (s .pre .1 .1 .0) (c .before .before .before .before .before .before .before .before .loop .inv) (omega arith) (c .before .before .before .before .narrow2 .ensures) (c .before .before .before .part-end .ensures) (omega arith) (c .before .bid-of .ensures .0)
+    walked-turn (s .pre .0 .valid) (s .pre .1 .1 .0) (c .before .before .before .before .before .before .before .before .loop .inv) (omega arith) (c .before .before .before .before .narrow .ensures) (c .before .before .before .part-end .ensures) (omega arith) (c .before .bid-of .ensures .0)
     (c .lesser .ensures)
 
-narrow-requires-4 : tie.Need-narrow-requires-4 Inv-loop μ-loop
-narrow-requires-4 c κs = index-fits (c .before .before .before .before .before .before .before .before .pre .0 .valid) (omega (arith, c .before .loop .inv .left))
+narrow-requires-2 : tie.Need-narrow-requires-2 Inv-loop μ-loop
+narrow-requires-2 c κs = index-fits (c .before .before .before .before .before .before .before .before .pre .0 .valid) (omega (arith, c .before .loop .inv .left))
 
 mul-separators-2 : tie.Need-mul-separators-2 Inv-loop μ-loop
 mul-separators-2 c = omega arith
@@ -128,58 +99,43 @@ mul-separators-2 c = omega arith
 slice-write-separators-2 : tie.Need-slice-write-separators-2 Inv-loop μ-loop
 slice-write-separators-2 c = omega (arith, c .before .before .loop .inv .front .same)
 
-narrow-requires-5 : tie.Need-narrow-requires-5 Inv-loop μ-loop
-narrow-requires-5 c κs = index-fits (c .before .before .before .before .before .before .before .before .before .pre .0 .valid) (omega arith)
-
-add-separators : tie.Need-add-separators Inv-loop μ-loop
-add-separators c = omega arith
-
-mul-separators-3 : tie.Need-mul-separators-3 Inv-loop μ-loop
-mul-separators-3 c = omega arith
-
-slice-write-separators-3 : tie.Need-slice-write-separators-3 Inv-loop μ-loop
-slice-write-separators-3 c = simp length-set (omega (arith, c .before .before .before .loop .inv .front .same))
-
 rest-of-requires : tie.Need-rest-of-requires Inv-loop μ-loop
 rest-of-requires c κs =
-    let s = c .before .before .before .before .before .before .before .before .before .before in
-    let h = c .before .before .before .loop .inv .left in
+    let s = c .before .before .before .before .before .before .before .before .before in
+    let h = c .before .before .loop .inv .left in
     (s .pre .0, (omega arith, omega arith))
 
 at-most-requires : tie.Need-at-most-requires Inv-loop μ-loop
 at-most-requires c κs =
-    let s = c .before .before .before .before .before .before .before .before .before .before .before in
+    let s = c .before .before .before .before .before .before .before .before .before .before in
     let h = rest-products _ _ _ (s .pre .0 .valid) (s .pre .1 .0) (c .rest-of .ensures .0) in
     (omega arith, omega arith)
 
-add-t42 : tie.Need-add-t42 Inv-loop μ-loop
-add-t42 c = omega (arith, c .before .before .before .before .before .before .loop .inv .to)
-
-same-length-3 : tie.Need-same-length-3 Inv-loop μ-loop
-same-length-3 c = simp length-set (c .before .before .before .before .before .before .loop .inv .front .same)
+same-length-2 : tie.Need-same-length-2 Inv-loop μ-loop
+same-length-2 c = simp length-set (c .before .before .before .before .before .loop .inv .front .same)
 
 returns-3 : tie.Need-returns-3 Inv-loop μ-loop
 returns-3 c =
-    let s = c .before .before .before .before .before .before .before .before .before .before .before .before .before in
-    let w = c .before .before .before .before .before .before .loop .inv in (
+    let s = c .before .before .before .before .before .before .before .before .before .before .before .before in
+    let w = c .before .before .before .before .before .loop .inv in (
       answer-fits (s .pre .0 .valid) (s .pre .1 .1 .0) w (omega arith) (omega arith) (c .before .before .rest-of .ensures .0) (sym (c .before .at-most .ensures) ∙ c .if3 .taken),
-      walked-end (s .pre .0 .valid) (s .pre .1 .1 .0) w (omega arith) (c .before .before .before .before .narrow4 .ensures) (c .before .before .before .narrow5 .ensures),
+      walked-end (s .pre .0 .valid) (s .pre .1 .1 .0) w (omega arith) (c .before .before .before .narrow2 .ensures),
     )
 
 lesser-requires-2 : tie.Need-lesser-requires-2 Inv-loop μ-loop
 lesser-requires-2 c κs =
-    let h = narrow-products (c .before .before .before .before .before .before .loop .inv .small) (c .before .before .rest-of .ensures .1) in
+    let h = narrow-products (c .before .before .before .before .before .loop .inv .small) (c .before .before .rest-of .ensures .1) in
     (omega arith, omega arith)
 
-same-length-4 : tie.Need-same-length-4 Inv-loop μ-loop
-same-length-4 c = simp length-set (c .before .before .before .before .before .before .before .loop .inv .front .same)
+same-length-3 : tie.Need-same-length-3 Inv-loop μ-loop
+same-length-3 c = simp length-set (c .before .before .before .before .before .before .loop .inv .front .same)
 
 returns-4 : tie.Need-returns-4 Inv-loop μ-loop
 returns-4 c =
-    let s = c .before .before .before .before .before .before .before .before .before .before .before .before .before .before in
-    let w = c .before .before .before .before .before .before .before .loop .inv in (
+    let s = c .before .before .before .before .before .before .before .before .before .before .before .before .before in
+    let w = c .before .before .before .before .before .before .loop .inv in (
       answer-fails (s .pre .0 .valid) (s .pre .1 .1 .0) w (omega arith) (omega arith) (c .before .before .before .rest-of .ensures .0) (sym (c .before .before .at-most .ensures) ∙ c .before .if3 .left) (c .lesser2 .ensures),
-      walked-end (s .pre .0 .valid) (s .pre .1 .1 .0) w (omega arith) (c .before .before .before .before .before .narrow4 .ensures) (c .before .before .before .before .narrow5 .ensures),
+      walked-end (s .pre .0 .valid) (s .pre .1 .1 .0) w (omega arith) (c .before .before .before .before .narrow2 .ensures),
     )
 
 pub walk-from-spec : {M : Type 1} → statement M
@@ -189,44 +145,31 @@ walk-from-spec =
     Inv-loop
     μ-loop
     sub-last
-    add-fill
-    narrow-requires
-    fill-requires
-    same-length
     returns
     loop-holds
     add-index
     mul-index
     slice-read-index
     index-requires
-    narrow-requires-2
+    narrow-requires
     mul-separators
     slice-write-separators
     part-end-requires
-    add-fill-2
-    add-fill-3
-    narrow-requires-3
-    fill-requires-2
-    add-t32
-    same-length-2
+    add-t24
+    same-length
     returns-2
     bid-of-requires
     lesser-requires
     add-p
     loop-less
     loop-again
-    narrow-requires-4
+    narrow-requires-2
     mul-separators-2
     slice-write-separators-2
-    narrow-requires-5
-    add-separators
-    mul-separators-3
-    slice-write-separators-3
     rest-of-requires
     at-most-requires
-    add-t42
-    same-length-3
+    same-length-2
     returns-3
     lesser-requires-2
-    same-length-4
+    same-length-3
     returns-4)
