@@ -71,7 +71,15 @@ fn trial_at(
     ensures { λ job r. ⌜ KeptFrom (suc (processors job)) (now (separators .entry)) (now (separators .exit)) ⌝ }
 {
     let bound = bound_to(startup, speeds, weights, sums, p, a, j);
-    let answer = walk_from(startup, speeds, weights, sums, bound, first_point(), separators);
+    let answer = walk_from(
+        startup,
+        speeds,
+        weights,
+        sums,
+        bound,
+        first_point(),
+        separators,
+    );
     match answer {
         Outcome::Fits(visited) => true,
         Outcome::Fails(next) => false,
