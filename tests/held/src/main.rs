@@ -71,8 +71,8 @@ fn whole(c: &mut Check) {
     // A run in which some answer never came up would be no test of it.
     let unseen = c.unseen();
     let mut never = c.searches.contains(&0) || c.noughts.contains(&0) || c.others.contains(&0) || c.editions.contains(&0);
-    never |= c.splits.contains(&0) || c.halved.contains(&0) || c.fits == 0 || c.failed.contains(&0);
-    let mut seen = format!("{} fits, failed trials {:?}, searches {:?}", c.fits, c.failed, c.searches);
+    never |= c.splits.contains(&0) || c.halved.contains(&0) || c.fits.contains(&0) || c.failed.contains(&0);
+    let mut seen = format!("fits {:?}, failed trials {:?}, searches {:?}", c.fits, c.failed, c.searches);
     seen += &format!(", plans at and off the ideal {:?}, editions {:?}", c.noughts, c.editions);
     seen += &format!(", best plans of other separators {:?}, splits {:?}, halved rows {:?}", c.others, c.splits, c.halved);
     if talk {
