@@ -47,7 +47,7 @@ fn number(name: &str, otherwise: u64) -> u64 {
 fn whole(c: &mut Check) {
     let times = number("HELD_TIMES", 1) as usize;
     let talk = number("HELD_TALK", 0) != 0;
-    let parts: [(&'static str, &dyn Fn(&mut Check)); 10] = [
+    let parts: [(&'static str, &dyn Fn(&mut Check)); 11] = [
         ("known jobs", &known::run),
         ("refusals", &refusals::run),
         ("counts", &counts::run),
@@ -56,6 +56,7 @@ fn whole(c: &mut Check) {
         ("listings", &|c| listing::run(c, times)),
         ("plan files", &|c| grades::run(c, times)),
         ("trials", &|c| trials::run(c, times)),
+        ("short strips", &|c| trials::strips(c, times)),
         ("small jobs", &|c| small::run(c, times)),
         ("large jobs", &|c| large::run(c, times)),
     ];

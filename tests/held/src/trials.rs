@@ -1,5 +1,5 @@
 //! Trials, section 3 of the scope: at any bound, next to every bid, in turn from bid to bid, with a last machine that reaches none, some or
-//! all of what is left, and in lists that held anything before.
+//! all of what is left, of short strips on long rows, and in lists that held anything before.
 
 use crate::answers::{self, bytes_of, Solved};
 use crate::check::Check;
@@ -442,6 +442,109 @@ fn sized(c: &mut Check, machines: usize, tiles: usize) {
 pub fn middle(c: &mut Check) {
     let (machines, tiles) = large::middle_size(&mut c.rng);
     sized(c, machines, tiles);
+}
+
+/// A strip of which so many tiles may weigh, of either edition: with any speeds, or with one machine that is faster than all others; with any
+/// weights, or the greatest; and behind them tiles of weight 0, so that there are so many in all.
+fn strip(r: &mut Rng, machines: usize, weighing: usize, tiles: usize) -> Job {
+    let mut speeds = small::speeds(r, machines);
+    if r.once_in(2) {
+        let fastest = r.pick(&[2, 100, SPEED]);
+        speeds.fill(r.range(1, fastest - 1));
+        let k = r.pick(&[0, 1, machines / 2, machines.saturating_sub(2), machines - 1]);
+        speeds[k.min(machines - 1)] = fastest;
+    }
+    let mut weights = if r.once_in(4) { vec![WEIGHT; weighing] } else { small::weights(r, weighing, &speeds) };
+    weights.resize(tiles, 0);
+    small::job_of(r, speeds, weights)
+}
+
+/// Bounds about which a strip is tried: nought, the best, and those of shares of the tiles that may weigh, on the first machine, on the last and
+/// on any.
+fn strip_bounds(r: &mut Rng, t: &Case, weighing: usize) -> Vec<Bound> {
+    let mut shares: Vec<(usize, usize)> = (0..weighing).flat_map(|a| (a + 1..=weighing).map(move |b| (a, b))).collect();
+    while shares.len() > 6 {
+        shares.swap_remove(r.below(shares.len()));
+    }
+    let mut bounds = vec![(0, 1), t.bottleneck];
+    for (a, b) in shares {
+        let speeds = &t.job.speeds;
+        for e in [speeds[0], speeds[speeds.len() - 1], r.pick(speeds)] {
+            bounds.push((t.job.load(a, b), e as u128));
+        }
+    }
+    bounds
+}
+
+/// Trials of a strip at these bounds, as little below and above them as can be, and at the greatest: in lists as the trial before left them, and in
+/// others that held anything, with room for the whole answer or for less; then the same trial in lists of every kind.
+fn strip_tried(c: &mut Check, t: &Case, bounds: &[Bound]) {
+    let mut near: Vec<Bound> = bounds.iter().flat_map(|&b| [below(b), Some(b), Some(above(b))]).flatten().collect();
+    near.extend([(BOUND_LOAD as u128, 1), (BOUND_LOAD as u128, BOUND_SPEED as u128)]);
+    let (mut lent, mut before) = (Vec::new(), None);
+    for bound in near {
+        if lent.is_empty() || c.rng.once_in(2) {
+            lent = list_with_room(&mut c.rng, t, bound);
+        }
+        let entries = c.rng.pick(&[0, 1, 2, 3, 3, 4]);
+        let found = one(c, t, bound, &lent, entries).map(|found| (bound, found));
+        if let (Some(before), Some(found)) = (&before, &found) {
+            in_order(c, t, before, found);
+        }
+        (before, lent) = (found, c.after(2));
+    }
+    let bound = c.rng.pick(bounds);
+    refilled(c, t, if less(bound, t.bottleneck) { t.bottleneck } else { bound });
+}
+
+/// A strip on a row of this length: trials, and now and then every call, the plans by all methods among them.
+fn short(c: &mut Check, machines: usize, weighing: usize, tiles: usize, planned: bool) {
+    let job = strip(&mut c.rng, machines, weighing, tiles);
+    let t = if planned {
+        let s = Solved::of(&job);
+        every::job(c, &s, false);
+        Case::with(&job, (s.best, s.bottleneck))
+    } else {
+        c.jobs_seen += 1;
+        Case::of(&job)
+    };
+    let bounds = strip_bounds(&mut c.rng, &t, weighing);
+    strip_tried(c, &t, &bounds);
+}
+
+/// A short strip on any row.
+pub fn random_short(c: &mut Check) {
+    let machines = if c.rng.once_in(3) { MACHINES } else { 1 + c.rng.below(MACHINES) };
+    let weighing = c.rng.below(13);
+    let more = c.rng.pick(&[0, 0, 1, 2, 9]);
+    let planned = c.rng.once_in(4);
+    short(c, machines, weighing, weighing + more, planned);
+}
+
+/// Short strips on long rows: of none to three tiles on each number of machines, once with tiles of weight 0 behind them; of some more tiles;
+/// and a few that weigh in front of as many as there can be.
+pub fn strips(c: &mut Check, times: usize) {
+    for machines in 1..=MACHINES {
+        for tiles in 0..=3 {
+            short(c, machines, tiles, tiles, machines % 4 == tiles);
+            let weighing = c.rng.below(tiles + 1);
+            short(c, machines, weighing, tiles, machines % 4 == tiles);
+        }
+    }
+    for tiles in 0..=3 {
+        for _ in 0..25 * times {
+            short(c, MACHINES, tiles, tiles, true);
+        }
+    }
+    for _ in 0..400 * times {
+        random_short(c);
+    }
+    for weighing in 0..=3 {
+        for machines in [1, 2, 3, MACHINES / 2, MACHINES - 1, MACHINES] {
+            let tiles = c.rng.pick(&[TILES, TILES, TILES - 1, 1_000, 64]);
+            short(c, machines, weighing, tiles, machines == MACHINES);
+        }
+    }
 }
 
 /// A small job from bid to bid, from nought on, with tiles of weight 0, and in lists of every kind.
