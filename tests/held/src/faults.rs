@@ -1183,7 +1183,7 @@ const FAULTS: &[(&str, &str, Run)] = &[
     ("trial-came-failed", "trial: the number of machines behind the answer of a failure", |l| l.failed(|j, _, _, _| if let Some(v) = l.answer().get_mut(3) { *v = j.speeds.len() as u64 })),
     ("trial-came-failed-before", "trial: the number of machines before the next bid of a failure", |l| l.failed(|j, _, _, _| if let Some(a) = l.answer().get_mut(1..) { a.rotate_right(1.min(a.len())); a.iter_mut().take(1).for_each(|v| *v = j.speeds.len() as u64) })),
     // What stands behind the last machine that a fit came to.
-    ("trial-fill-none", "trial: the separators that are left not written", |l| l.filled(|_, old, s| s.copy_from_slice(old))),
+    ("trial-fill-nothing", "trial: the separators that are left not written", |l| l.filled(|_, old, s| s.copy_from_slice(old))),
     ("trial-fill-last", "trial: of the separators that are left only the last written", |l| l.filled(|_, old, s| { let k = s.len() - 1; s[..k].copy_from_slice(&old[..k]) })),
     ("trial-fill-but-last", "trial: of the separators that are left the last not written", |l| l.filled(|_, old, s| { let k = s.len() - 1; s[k] = old[k] })),
     ("trial-fill-but-first", "trial: of the separators that are left the first not written", |l| l.filled(|_, old, s| s[0] = old[0])),
