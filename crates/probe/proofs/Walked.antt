@@ -122,10 +122,10 @@ module _ {job : Job} (v : Valid job) (B : Bound) {p : ℕ} (h : p ≤ last job) 
 -- So where a walk comes to a point with no task left.
 module _ {job : Job} (v : Valid job) {B : Bound} {xs : List ℕ} {point : Point} (r : processors job < length xs) (w : Reached job B xs point)
     (h : tasks job ≤ point .start) where
-  pub placed-first : (Fits (point .processor) ≡ probe job B) × (xs ≡ begun job B xs)
-  placed-first =
+  pub placed-first : {m : ℕ} → m ≡ point .processor → (Fits m ≡ probe job B) × (xs ≡ begun job B xs)
+  placed-first f =
       let e : tasks job ≤ separator job B (point .processor) = omega (arith, w .start-is) in (
-        answer-placed v B (w .to) e (w .left),
+        ap Fits f ∙ answer-placed v B (w .to) e (w .left),
         begun-end job B (reached-front w) (omega (arith, w .to, processors-last (valid-proper v))) (came v B (w .to) e (w .left)),
       )
 
@@ -144,10 +144,10 @@ module _ {job : Job} (v : Valid job) {B : Bound} {xs ys : List ℕ} {p a : ℕ} 
   next f = f ∙ ap (λ (i : ℕ). reach job p i B) (w .reached)
 
   -- Where it is N every task is placed,
-  pub placed : {s b : ℕ} → p < last job → s ≡ a → b ≡ reach job p a B → tasks job ≤ b
-      → (Fits (p + 1) ≡ probe job B) × (set ys p s ≡ begun job B xs)
-  placed {s} {b} h e f x = (
-    ap Fits (add-one p) ∙ answer-placed v B h y before,
+  pub placed : {s b m : ℕ} → p < last job → s ≡ a → b ≡ reach job p a B → tasks job ≤ b → m ≡ suc p
+      → (Fits m ≡ probe job B) × (set ys p s ≡ begun job B xs)
+  placed {s} {b} h e f x g = (
+    ap Fits g ∙ answer-placed v B h y before,
     begun-end job B (store e) (omega (arith, processors-last (valid-proper v))) (came v B h y before),
   )
     where
@@ -204,9 +204,9 @@ module _ {job : Job} (v : Valid job) {B : Bound} {xs ys : List ℕ} {p a : ℕ} 
           ap (λ (D : Bound). le D B) (rest-is ∙ offer-part job (last job) (separator job B (last job)) (tasks job))
           ∙ sym (within-is job (last job) (separator job B (last job)) (tasks job) B)
 
-      pub answer-fits : le C B ≡ true → Fits (processors job) ≡ probe job B
-      answer-fits t =
-          ap Fits (sym came-to-all) ∙ sym (outcome-fits job B (sym fits-is ∙ t))
+      pub answer-fits : {m : ℕ} → le C B ≡ true → m ≡ processors job → Fits m ≡ probe job B
+      answer-fits t g =
+          ap Fits (g ∙ sym came-to-all) ∙ sym (outcome-fits job B (sym fits-is ∙ t))
 
       -- and is the last bid.
       pub answer-fails : {D : Bound} → le C B ≡ false → D ≡ lesser best C → Fails D ≡ probe job B

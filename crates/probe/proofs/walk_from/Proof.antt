@@ -24,7 +24,7 @@ sub-last c = omega arith
 returns : tie.Need-returns Inv-loop μ-loop
 returns c =
     let s = c .before .before .before .before .before .before in
-    placed-first (s .pre .0 .valid) (s .pre .1 .1 .0) (s .pre .1 .1 .1) (omega arith)
+    placed-first (s .pre .0 .valid) (s .pre .1 .1 .0) (s .pre .1 .1 .1) (omega arith) (omega arith)
 
 loop-holds : tie.Need-loop-holds Inv-loop μ-loop
 loop-holds c = walked-start (c .before .before .before .before .before .before .pre .1 .1 .1) (omega arith)
@@ -65,7 +65,7 @@ same-length c = simp length-set (c .before .before .before .before .before .befo
 returns-2 : tie.Need-returns-2 Inv-loop μ-loop
 returns-2 c =
     let s = c .before .before .before .before .before .before .before .before .before .before .before .before .before in
-    placed (s .pre .0 .valid) (s .pre .1 .1 .0) (c .before .before .before .before .before .before .loop .inv) (omega arith) (c .before .before .narrow .ensures) (c .before .part-end .ensures) (omega arith)
+    placed (s .pre .0 .valid) (s .pre .1 .1 .0) (c .before .before .before .before .before .before .loop .inv) (omega arith) (c .before .before .narrow .ensures) (c .before .part-end .ensures) (omega arith) (omega arith)
 
 bid-of-requires : tie.Need-bid-of-requires Inv-loop μ-loop
 bid-of-requires c κs =
@@ -118,7 +118,7 @@ returns-3 : tie.Need-returns-3 Inv-loop μ-loop
 returns-3 c =
     let s = c .before .before .before .before .before .before .before .before .before .before .before .before in
     let w = c .before .before .before .before .before .loop .inv in (
-      answer-fits (s .pre .0 .valid) (s .pre .1 .1 .0) w (omega arith) (omega arith) (c .before .before .rest-of .ensures .0) (sym (c .before .at-most .ensures) ∙ c .if3 .taken),
+      answer-fits (s .pre .0 .valid) (s .pre .1 .1 .0) w (omega arith) (omega arith) (c .before .before .rest-of .ensures .0) (sym (c .before .at-most .ensures) ∙ c .if3 .taken) (omega arith),
       walked-end (s .pre .0 .valid) (s .pre .1 .1 .0) w (omega arith) (c .before .before .before .narrow2 .ensures),
     )
 
