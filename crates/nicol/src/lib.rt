@@ -51,7 +51,7 @@ fn bound_to(
     part_bound(startup, speeds[p], sums, a, j)
 }
 
-// Inner. A trial of the whole job at the bound of the part from a to j on processor p. Nobody looks at what it writes.
+// Inner. A trial of the whole job at the bound of the part from a to j on processor p. What it writes is a hint for the next and no more.
 fn trial_at(
     startup: u32,
     speeds: &[u32],
