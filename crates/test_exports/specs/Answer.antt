@@ -6,6 +6,7 @@ use lib.ListN.{set}
 use Rattle.bound.specs.declared.Bound.{Bound}
 use Rattle.chain.specs.declared.Outcome.{Outcome}
 use Rattle.calls.specs.declared.Probed.{Probed}
+use Rattle.calls.specs.Answers.{outcomeValues}
 use Rattle.refusals.specs.Answers.{Said}
 
 -- The values from entry i on.
@@ -20,10 +21,11 @@ saidPut said xs = valuesPut 0 (said .values) xs
 abbrev pub boundPut : List ℕ → ℕ → ℕ → Bound → List ℕ
 boundPut xs i j B = set (set xs i (B .load)) j (B .speed)
 
--- Of a probe: 1 for a fit and the number of processors that its walk came to; or 0 and the next bid's load, speed.
+-- Of a probe: 1 for a fit and 0 for a failure, and behind it the values that its outcome says: the number of processors that its walk came to,
+-- or the next bid's load and speed.
 abbrev pub outcomePut : Outcome → List ℕ → List ℕ
-outcomePut (Outcome.Fits n) xs = set (set xs 0 1) 1 n
-outcomePut (Outcome.Fails B) xs = boundPut (set xs 0 0) 1 2 B
+outcomePut (Outcome.Fits n) xs = valuesPut 1 (outcomeValues (Outcome.Fits n)) (set xs 0 1)
+outcomePut (Outcome.Fails B) xs = valuesPut 1 (outcomeValues (Outcome.Fails B)) (set xs 0 0)
 
 abbrev pub probedPut : Probed → List ℕ → List ℕ
 probedPut (Probed.Answered outcome) xs = outcomePut outcome xs
