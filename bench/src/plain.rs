@@ -183,20 +183,20 @@ impl<'a> Tiles<'a> {
     }
 }
 
-/// The greatest end of a part from a on that is within the bound on a machine of this speed. A machine that cannot carry the start-up
-/// work takes no tile.
+/// The greatest end of a part from a on that is within the bound on a machine of this speed, None where that is N: every tile that is
+/// left. A machine that cannot carry the start-up work takes no tile, and there is one.
 #[inline]
-fn part_end(tiles: Tiles, a: usize, speed: u32, bound: Bound, hint: usize) -> usize {
+fn part_end(tiles: Tiles, a: usize, speed: u32, bound: Bound, hint: usize) -> Option<usize> {
     let sums = tiles.sums;
     let n = sums.len() - 1;
     let limit = bound.load * speed as u64 / bound.speed;
     let Some(weight) = limit.checked_sub(tiles.startup as u64) else {
-        return a;
+        return Some(a);
     };
     if (sums[n] - sums[a]) as u64 <= weight {
-        return n;
+        return None;
     }
-    last_from(sums, a, sums[a] + weight as u32, hint)
+    Some(last_from(sums, a, sums[a] + weight as u32, hint))
 }
 
 /// The load of the part from a to b: 0 where it has no tile.
@@ -223,6 +223,13 @@ fn started_bound(tiles: Tiles, a: usize, b: usize, speed: u32) -> Bound {
     }
 }
 
+/// Writes N to the separators from one on. Kept out of line: in line it made the walk slower.
+#[cold]
+#[inline(never)]
+fn fill(separators: &mut [u32], from: usize, n: usize) {
+    separators[from..].fill(n as u32);
+}
+
 /// One walk at the bound from machine `first` on, whose part begins at separators[first]; `best` is the least bid before it.
 /// Writes the separators behind it; what they hold before is a hint, most often the walk before. Once every tile is placed it ends
 /// and fills the separators that are left with N, so a machine that bids has a tile more to bid for.
@@ -239,15 +246,14 @@ fn walk(
     let separators = &mut separators[..=speeds.len()];
     let mut a = separators[first] as usize;
     if a == n {
-        separators[first..].fill(n as u32);
+        fill(separators, first, n);
         return Outcome::Fits(first);
     }
     for (p, (&speed, end)) in (first + 1..).zip(speeds[first..last].iter().zip(&mut separators[first + 1..])) {
-        let b = part_end(tiles, a, speed, bound, *end as usize);
-        if b == n {
-            separators[p..].fill(n as u32);
+        let Some(b) = part_end(tiles, a, speed, bound, *end as usize) else {
+            fill(separators, p, n);
             return Outcome::Fits(p);
-        }
+        };
         best = best.lesser(started_bound(tiles, a, b + 1, speed));
         *end = b as u32;
         a = b;
@@ -363,24 +369,21 @@ fn bisection(speeds: &[u32], tiles: Tiles, separators: &mut [u32]) -> Found {
     Found { bound: low, count }
 }
 
-/// Whether the walk of all machines fits: a walk without bids, which Nicol's search does not ask for.
+/// Whether the walk of all machines fits: a walk without bids and filling, which Nicol's search does not ask for. There is a tile.
 fn fits(speeds: &[u32], tiles: Tiles, bound: Bound, separators: &mut [u32]) -> bool {
     let n = tiles.sums.len() - 1;
     let last = speeds.len() - 1;
     let separators = &mut separators[..=speeds.len()];
     let mut a = 0;
     separators[0] = 0;
-    for (p, (&speed, end)) in (1..).zip(speeds[..last].iter().zip(&mut separators[1..])) {
-        let b = part_end(tiles, a, speed, bound, *end as usize);
-        if b == n {
-            separators[p..].fill(n as u32);
+    for (&speed, end) in speeds[..last].iter().zip(&mut separators[1..]) {
+        let Some(b) = part_end(tiles, a, speed, bound, *end as usize) else {
             return true;
-        }
+        };
         *end = b as u32;
         a = b;
     }
-    separators[last + 1] = n as u32;
-    part_bound(tiles, a, n, speeds[last]).at_most(bound)
+    started_bound(tiles, a, n, speeds[last]).at_most(bound)
 }
 
 /// Nicol's search: for each machine but the last the smallest end of its part at whose bound the whole job fits, by halving.
@@ -681,7 +684,7 @@ pub fn probe(
     if let Outcome::Fails(_) = outcome {
         let last = speeds.len() - 1;
         let a = separators[last] as usize;
-        separators[last + 1] = part_end(tiles, a, speeds[last], bound, a) as u32;
+        separators[last + 1] = part_end(tiles, a, speeds[last], bound, a).unwrap_or(weights.len()) as u32;
     }
     Ok(outcome)
 }
