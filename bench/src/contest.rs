@@ -7,8 +7,8 @@ use std::time::{Duration, Instant};
 const BUDGET: Duration = Duration::from_millis(80);
 const LEAST: usize = 2;
 const MOST: usize = 30;
-/// How often the jobs of a short strip are gone round.
-const ROUNDS: usize = 200;
+/// The most rounds of the jobs of a short strip.
+const ROUNDS: usize = 1000;
 
 pub struct Contest {
     pub name: &'static str,
@@ -161,7 +161,11 @@ impl Contest {
     pub fn time_rounds(&self, jobs: &[Job]) -> Vec<Vec<f64>> {
         let mut rooms = [Room::new(), Room::new()];
         let mut least = vec![vec![f64::INFINITY]; 2];
+        let start = Instant::now();
         for round in 0..ROUNDS {
+            if round >= LEAST && start.elapsed() > BUDGET {
+                break;
+            }
             for turn in 0..2 {
                 let side = (turn + round) % 2;
                 let call = self.sides[side].1;
