@@ -3,8 +3,8 @@
 # the table, else anywhere on the page. ' .. ' in a quote leaves words out. The page's worked jobs have the figures of their listings in
 # examples/, which are those that the program writes (tests/strips.sh) and that the prover computes (crates/listing/proofs/Examples.antt);
 # so have README.md, docs/strips.1, docs/WHY.md (the imbalances of A and N, the plan of D) and examples/README.md (bottlenecks and imbalances).
-# Its trials that fail are rows of crates/chain/specs/Marked.antt; docs/WHY.md has that of B. The bytes that docs/FORMATS.md shows are those
-# of the example files.
+# Its trials that fail, and those that fit and come to so many machines, are rows of crates/chain/specs/Marked.antt; docs/WHY.md has that of B.
+# The bytes that docs/FORMATS.md shows are those of the example files.
 set -eu
 cd "$(dirname "$0")/.."
 find crates -name '*.antt' -o -name '*.rt' | grep -v /declared/ | LC_ALL=C sort | xargs awk '
@@ -108,23 +108,32 @@ for text in examples/*.txt; do
 done
 same docs/WHY.md "$(tr '\n' ' ' <docs/WHY.md | sed -n 's/.*our plan is \([0-9 ]*\), and [0-9 ]* and [0-9 ]* are best as well.*/\1/p')" \
     "$(awk 'NR == 2 { print $7, $8, $9 }' examples/D.txt)"
-# The trials of sections 11 and 17 that fail are rows of the table that the prover computes; so is the one that WHY.md tells of job B.
+# The trials of sections 11 and 17 that fail, and those that fit and come to so many machines, are rows of the table that the prover computes;
+# so is the one that WHY.md tells of job B.
 trials=$(awk '/^## / { inside = /^## (11|17) / }
-    inside && /^[0-9]+\. (A trial of [A-Z]|Of weights [0-9 ]+ on one machine of speed [0-9]+ a trial) at [0-9]+\/[0-9]+ fails with next bid / {
+    inside && /^[0-9]+\. (A trial of [A-Z]|Of weights [0-9 ]+ on (one machine of speed|speeds) [0-9 ]+ a trial) at [0-9]+\/[0-9]+ (fails with next bid|fits, comes to) / {
         job = "job" $5; list = $0
         sub(/.* and writes /, "", list); sub(/[^0-9 ].*/, "", list)
         if ($2 == "Of") {
-            speed = $0; sub(/.*of speed /, "", speed); sub(/ .*/, "", speed)
+            speeds = $0; sub(/.* on (one machine of speed|speeds) /, "", speeds); sub(/ a trial .*/, "", speeds)
             weights = $0; sub(/.*Of weights /, "", weights); sub(/ on .*/, "", weights)
-            gsub(/ /, " ∷ ", weights)
-            job = "(jobOf 0 (" speed " ∷ []) (" weights " ∷ []))"
+            gsub(/ /, " ∷ ", speeds); gsub(/ /, " ∷ ", weights)
+            job = "(jobOf 0 (" speeds " ∷ []) (" weights " ∷ []))"
         }
-        at = $0; sub(/ fails .*/, "", at); sub(/.* at /, "", at); sub(/\//, " ", at)
-        next_bid = $0; sub(/.*next bid /, "", next_bid); sub(/ .*/, "", next_bid); sub(/\//, " ", next_bid)
+        at = $0; sub(/ (fails|fits,) .*/, "", at); sub(/.* at /, "", at); sub(/\//, " ", at)
         gsub(/ /, " ∷ ", list)
-        print "failsWith " job " (over " at ") (over " next_bid ") (" list " ∷ [])"
+        said = $0
+        if (sub(/.* fits, comes to /, "", said)) {
+            if (said !~ /^(1 machine|(0|[2-9]|[1-9][0-9]+) machines) and writes /) said = "?"
+            sub(/ .*/, "", said)
+            print "fitsWith " job " (over " at ") " said " (" list " ∷ [])"
+        } else {
+            sub(/.*next bid /, "", said); sub(/ .*/, "", said); sub(/\//, " ", said)
+            print "failsWith " job " (over " at ") (over " said ") (" list " ∷ [])"
+        }
     }' docs/SCOPE.md)
 [ "$(printf '%s\n' "$trials" | grep -c failsWith)" = 5 ] || { echo "docs/SCOPE.md, sections 11 and 17: five trials that fail are looked for"; failed=1; }
+[ "$(printf '%s\n' "$trials" | grep -c fitsWith)" = 7 ] || { echo "docs/SCOPE.md, sections 11 and 17: seven trials that fit and come to so many machines are looked for"; failed=1; }
 printf '%s\n' "$trials" >"$work"
 while read -r trial; do
     grep -qF "$trial" crates/chain/specs/Marked.antt || { echo "crates/chain/specs/Marked.antt: no row '$trial'"; failed=1; }
@@ -148,4 +157,4 @@ for job in A B C D E N; do
     fi
 done
 [ "$failed" = 0 ] || { echo "tests/scope.sh: FAILED"; exit 1; }
-echo "tests/scope.sh: the worked jobs have the figures of their listings, in docs/SCOPE.md, README.md, docs/strips.1, examples/README.md and the computed examples; the trials those of the computed rows"
+echo "tests/scope.sh: the worked jobs have the figures of their listings, in docs/SCOPE.md, README.md, docs/strips.1, examples/README.md and the computed examples; its trials, those that fail and those that come to so many machines, those of the computed rows"

@@ -3,25 +3,26 @@
 use Prim.Native.Nat.{ℕ, zero, suc, _+_, _*_, _^_, _≤_, _<_}
 use mathlib.Core.Path.{_≡_, refl, sym, ap, ap₂, subst, _∙_}
 use mathlib.Core.Bool.{false, not}
-use mathlib.Core.List.{List, _++_}
+use mathlib.Core.List.{List}
 use native.Mathlib.Omega.{arith}
 use native.Mathlib.Decide.{decLe}
 use native.Mathlib.Numerals.{add-one}
 use lib.Dec.{T}
-use lib.ListN.{length, getD, drop}
+use lib.ListN.{length, getD}
 use Rattle.bound.specs.declared.Bound.{Bound}
 use Rattle.bound.specs.Order.{infinite, _≼_, _≺_, le, lesser, leastBelow, Real}
 use Rattle.bound.proofs.Order.{false-lt, lt-le, speed-real}
 use Rattle.chain.specs.Job.{Job, Valid, tasks, processors, last, offer}
-use Rattle.chain.specs.Probe.{separator, walk, fits, bid, nextBid}
+use Rattle.chain.specs.Probe.{separator, fits, bid, nextBid}
 use Rattle.chain.proofs.Parts.{valid-proper, valid-plannable}
 use Rattle.chain.proofs.Bottleneck.{processors-last}
-use Rattle.chain.proofs.Walk.{separator-to, separator-grows, walk-at}
-use Rattle.chain.proofs.NextBid.{bid-before, next-above, separator-stays, least-stays}
+use Rattle.chain.proofs.Walk.{separator-grows}
+use Rattle.chain.proofs.Visited.{visited-fails}
+use Rattle.chain.proofs.NextBid.{bid-before, fails-before-end, next-above, separator-stays, least-stays}
 use Rattle.chain.specs.Ranges.{Lendable, Narrow}
 use Rattle.chain.proofs.Ranges.{next-bid-small, narrow-products, small-narrow, lesser-narrow, infinite-narrow}
-use Rattle.probe.specs.Walk.{leastBefore, Reached}
-use Rattle.probe.proofs.Answer.{written-at, written-length}
+use Rattle.probe.specs.Walk.{leastBefore, begun, Reached}
+use Rattle.probe.proofs.Walked.{begun-length, begun-at}
 use Rattle.probe.proofs.Bids.{least-turn}
 use Rattle.bidding.specs.Failed.{FailedWalk}
 
@@ -29,7 +30,6 @@ use Rattle.bidding.specs.Failed.{FailedWalk}
 pub record Parted (job : Job) (B C : Bound) (p a : ℕ) (least : Bound) : Type 0 where
   pub to : p ≤ last job
   pub start-is : a ≡ separator job B p
-  pub inside : a ≤ tasks job
   pub least-is : least ≡ leastBefore job B p
   pub small : Narrow least
   pub above : (q : ℕ) → q < p → C ≺ bid job B q
@@ -40,7 +40,6 @@ parted-start job B C =
     record {
       to = omega arith;
       start-is = refl;
-      inside = omega arith;
       least-is = refl;
       small = infinite-narrow;
       above = λ q h. absurd (let z : ⊥ = omega arith in z);
@@ -48,16 +47,16 @@ parted-start job B C =
 
 -- The walk that a failed trial has written.
 pub failed-written : {job : Job} {ys : List ℕ} (xs : List ℕ) {B C : Bound} → Valid job → Lendable B → T (not (fits job B)) → C ≡ nextBid job B → processors job < length xs
-    → ys ≡ walk job B ++ drop (suc (processors job)) xs → FailedWalk job C ys
+    → ys ≡ begun job B xs → FailedWalk job C ys
 failed-written {job} {ys} xs {B} {C} v l t n h e =
     record {
       bound = B;
       lendable = l;
       rejected = record { failed = t; bids = n };
-      room = omega (arith, ap length e, written-length v B xs h);
+      room = omega (arith, ap length e, begun-length v B xs h);
       each = λ p m.
-          ap (λ (l : List ℕ). getD l p 0) e ∙ written-at v B (drop (suc (processors job)) xs) p (omega (arith, processors-last (valid-proper v)))
-          ∙ walk-at job B p m;
+          ap (λ (l : List ℕ). getD l p 0) e
+          ∙ begun-at v B xs h p (omega (arith, processors-last (valid-proper v), visited-fails (valid-proper v) B t));
     }
 
 -- What the scan keeps, whichever failed walk it is.
@@ -77,8 +76,9 @@ module _ {job : Job} (v : Valid job) {C : Bound} {xs : List ℕ} (f : FailedWalk
     pub end-after : {b : ℕ} → p < last job → b ≡ getD xs (p + 1) 0 → a ≤ b
     end-after h e = omega (arith, w .start-is, end-is h e, separator-grows job (f .bound) p)
 
-    pub end-inside : {b : ℕ} → p < last job → b ≡ getD xs (p + 1) 0 → b ≤ tasks job
-    end-inside h e = omega (arith, end-is h e, separator-to job (f .bound) (suc p))
+    -- before the last task, since the trial failed,
+    pub end-before : {b : ℕ} → p < last job → b ≡ getD xs (p + 1) 0 → b < tasks job
+    end-before h e = omega (arith, end-is h e, fails-before-end job (f .bound) (f .rejected .failed) (suc p) h)
 
     -- and one processor more whose bid is above.
     pub parted-turn : {b : ℕ} {D E : Bound} → p < last job → b ≡ getD xs (p + 1) 0 → D ≡ offer job p a (suc b) → Narrow D → le D C ≡ false → E ≡ lesser least D
@@ -88,7 +88,6 @@ module _ {job : Job} (v : Valid job) {C : Bound} {xs : List ℕ} (f : FailedWalk
         (record {
           to = h;
           start-is = end-is h e;
-          inside = end-inside h e;
           least-is = g ∙ ap₂ lesser (w .least-is) is-part ∙ least-turn v (f .bound) p h;
           small = subst Narrow (sym g) (lesser-narrow (w .small) n);
           above = λ q l. elim (decLe (suc q) p) [ yes m ↦ w .above q m | no m ↦ last-above q (omega arith) ];
@@ -124,5 +123,6 @@ module _ {job : Job} (v : Valid job) {C : Bound} {xs : List ℕ} (f : FailedWalk
           start-is = w .start-is ∙ sym (stays p (omega arith));
           least-is = w .least-is ∙ sym (least-before p (omega arith));
           small = w .small;
+          left = λ k h. omega (arith, stays k (omega arith), fails-before-end job (f .bound) (f .rejected .failed) k (omega (arith, w .to)));
           before = λ k h. f .each k (omega (arith, w .to)) ∙ sym (stays k (omega arith));
         }

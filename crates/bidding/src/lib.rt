@@ -14,8 +14,11 @@ use chain::Outcome;
 use parts::Found;
 use parts::ideal_of;
 use parts::index;
+use parts::narrow;
 use probe::Point;
 use probe::bid_of;
+use probe::fill;
+use probe::first_point;
 use probe::walk_from;
 
 // Inner. Where the walk at the next bid parts from the failed walk in front of the list: before the first processor whose bid is
@@ -76,16 +79,13 @@ pub fn bidding_in(
     ensures { λ job r. ⌜ now (separators .exit) ≡ walk job (r .bound) ++ drop (suc (processors job)) (now (separators .entry)) ⌝ }
 {
     let mut bound = ideal_of(startup, speeds, weights, sums);
-    let mut point = Point {
-        processor: 0,
-        start: 0,
-        least: Bound::INFINITE,
-    };
+    let mut point = first_point();
     let mut failures = 0u32;
     loop {
         let answer = walk_from(startup, speeds, weights, sums, bound, point, separators);
         match answer {
-            Outcome::Fits => {
+            Outcome::Fits(visited) => {
+                fill(separators, visited, speeds.len() + 1, narrow(weights.len()));
                 return Found {
                     bound,
                     count: failures + 1,

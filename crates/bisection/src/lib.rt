@@ -40,7 +40,7 @@ fn next_ends(
     let middle = Bound::midpoint(low, high);
     let answer = probe_in(startup, speeds, weights, sums, middle, separators);
     match answer {
-        Outcome::Fits => {
+        Outcome::Fits(visited) => {
             let least = measure_in(startup, speeds, weights, sums, separators);
             Ends { low, high: least }
         }
@@ -104,7 +104,7 @@ pub fn bisection_in(
     let bound = ideal_of(startup, speeds, weights, sums);
     let answer = probe_in(startup, speeds, weights, sums, bound, separators);
     match answer {
-        Outcome::Fits => Found { bound, count: 1 },
+        Outcome::Fits(visited) => Found { bound, count: 1 },
         Outcome::Fails(next) => bisect(startup, speeds, weights, sums, next, separators),
     }
 }

@@ -14,7 +14,7 @@ use Rattle.bound.specs.Order.{plus, _≼_, _≺_}
 use Rattle.chain.specs.Job.{Job, Valid, Partition, Within, processors, last, partLoad, totalWeight, heaviest, ideal, at, bottleneck}
 use Rattle.chain.specs.declared.Outcome.{Outcome}
 use Rattle.chain.specs.declared.Outcome.the-variants.{Fits, Fails}
-use Rattle.chain.specs.Probe.{walk, walked, fits, nextBid, probe}
+use Rattle.chain.specs.Probe.{walk, walked, fits, nextBid, visited, probe}
 use Rattle.chain.specs.Heuristic.{margin, heuristic}
 use Rattle.chain.specs.Halving.{Halvable, halving}
 use Rattle.chain.specs.Plan.{planOf}
@@ -271,31 +271,36 @@ module _ (job : Job) (B : Bound) (s : List ℕ) where
 
   -- Demand 2: an accepted probe fits exactly when some partition stays within the bound.
   pub probe-fits-exactly : refusal job (probeInputs job B (length s)) ≡ 0
-      → (probeAnswer job B s ≡ Answered Fits) ↔ ((t : List ℕ) × Partition job t × Within job t B)
+      → ((n : ℕ) × (probeAnswer job B s ≡ Answered (Fits n))) ↔ ((t : List ℕ) × Partition job t × Within job t B)
   unfolding probeAnswer probedOf
   probe-fits-exactly e =
       let f = walks.fits-exactly (valid-proper ((accepted e) .valid)) B in (
-        λ h. f .0 (fits-outcome job B (answered {n = refusal job (probeInputs job B (length s))} h .1)),
-        λ x. ap (λ (n : ℕ). probedOf n (probe job B)) e ∙ ap Answered (outcome-fits job B (T-true (fits job B) (f .1 x))),
+        λ h. f .0 (fits-outcome job B (answered {n = refusal job (probeInputs job B (length s))} (h .1) .1) .0),
+        λ x. (visited job B, ap (λ (n : ℕ). probedOf n (probe job B)) e ∙ ap Answered (outcome-fits job B (T-true (fits job B) (f .1 x)))),
       )
 
-  -- A fit: it is a partition within the bound.
-  pub record Fitted : Type 0 where
+  -- A fit: it is a partition within the bound, and n is the number of processors that its walk came to.
+  pub record Fitted (n : ℕ) : Type 0 where
+    pub came : n ≡ visited job B
     pub separators : take (suc (processors job)) (probeWrites job B s) ≡ walk job B
     pub partition : Partition job (take (suc (processors job)) (probeWrites job B s))
     pub within : Within job (take (suc (processors job)) (probeWrites job B s)) B
 
-  pub probe-fitted : probeAnswer job B s ≡ Answered Fits → Fitted
+  pub probe-fitted : {n : ℕ} → probeAnswer job B s ≡ Answered (Fits n) → Fitted n
   unfolding probeAnswer
-  probe-fitted e =
+  probe-fitted {n} e =
       record {
+        came = m .2;
         separators = front;
         partition = subst (Partition job) (sym front) (walks.walk-partition ok B (m .1));
         within = subst (λ (t : List ℕ). Within job t B) (sym front) (walks.walk-within job B (m .1));
       }
     where
-      m : (refusal job (probeInputs job B (length s)) ≡ 0) × T (fits job B)
-      m = let a = answered e in (a .0, fits-outcome job B (a .1))
+      m : (refusal job (probeInputs job B (length s)) ≡ 0) × T (fits job B) × (n ≡ visited job B)
+      m =
+          let a = answered e in
+          let f = fits-outcome job B (a .1) in
+          (a .0, f .0, f .1)
 
       ok : Proper job
       ok = valid-proper ((accepted (m .0)) .valid)

@@ -2,7 +2,7 @@
 -- definition on the whole input, refusals included. Scope, sections 2, 3, 4, 8 and 16.
 use Prim.Native.Nat.{ℕ, suc}
 use mathlib.Core.Bool.{cond}
-use mathlib.Core.List.{List, []}
+use mathlib.Core.List.{List, [], _∷_}
 use lib.ListN.{length, take}
 use lib.Dec.{eqb}
 use Rattle.bound.specs.declared.Bound.{Bound}
@@ -25,9 +25,9 @@ abbrev pub measuredSaid : Measured → Said
 measuredSaid (Bottleneck B) = accepting (boundValues B)
 measuredSaid (Refused number) = alone number
 
--- a probe says the next bid where it fails, and no value where it fits.
+-- a probe says the number of processors that its walk came to where it fits, and the next bid where it fails.
 abbrev pub outcomeValues : Outcome → List ℕ
-outcomeValues Fits = []
+outcomeValues (Fits n) = n ∷ []
 outcomeValues (Fails B) = boundValues B
 
 abbrev pub probedSaid : Probed → Said
@@ -46,7 +46,8 @@ measureAnswer job s = measuredOf (refusal job (measureInputs job s)) (bottleneck
 unfoldable pub probedOf : ℕ → Outcome → Probed
 probedOf number outcome = cond (eqb number 0) (Answered outcome) (ProbeRefused number)
 
--- Scope 3.3: "The trial fits where the last share is within the bound". Scope 3.4: "it answers with the least next bid".
+-- Scope 3.3: "The trial fits where the last share is within the bound". Scope 3.13: "A trial that fits also answers with the number of
+-- machines that its walk came to". Scope 3.4: "it answers with the least next bid".
 unfoldable pub probeAnswer : Job → Bound → List ℕ → Probed
 probeAnswer job B s = probedOf (refusal job (probeInputs job B (length s))) (probe job B)
 

@@ -123,8 +123,9 @@ fn probe_with(
     Probed::Answered(probe_tested(startup, speeds, weights, bound, separators))
 }
 
-// The probe at a lent bound: whether it fits, or the refusal: 16, 5, 6, 7, 8, 9 or 10, in this order. It writes the P + 1 separators,
-// whether it fits or fails; a refusal writes nothing. Later entries stay.
+// The probe at a lent bound: it fits, with the number of processors that its walk came to, or fails, with the least next bid; or the
+// refusal: 16, 5, 6, 7, 8, 9 or 10, in this order. It writes the P + 1 separators, whether it fits or fails; a refusal writes nothing.
+// Later entries stay.
 pub fn probe(
     second: bool,
     startup: u32,

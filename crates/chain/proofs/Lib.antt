@@ -26,5 +26,6 @@ pub mod Sums
 pub mod Table
 pub mod Tests
 pub mod Walk
+pub mod Visited
 pub mod Counts
 pub mod Within

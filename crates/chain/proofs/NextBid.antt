@@ -1,7 +1,7 @@
 -- The next bid of a probe that fails is above its bound and at most every bound that fits; a walk at a greater bound agrees
 -- with a failed walk up to the first processor whose bid is within that bound.
 -- Assumes nothing.
-use Prim.Native.Nat.{ℕ, zero, suc, _+_, _-_, _≤_, _<_}
+use Prim.Native.Nat.{ℕ, zero, suc, _≤_, _<_}
 use mathlib.Core.Path.{_≡_, sym, ap, ap₂, subst, _∙_}
 use mathlib.Core.Bool.{Bool, true, false, not}
 use mathlib.Core.Logic.{inl, inr}
@@ -15,8 +15,8 @@ use Rattle.bound.proofs.Order.{finite-below, le-or-lt, lt-le-trans, not-both, l
 use Rattle.chain.specs.Job.{Job, tasks, last, within, offer}
 use Rattle.chain.specs.Probe.{separator, fits, bid, leastBidTo, nextBid}
 use Rattle.chain.proofs.Parts.{Proper, Plannable}
-use Rattle.chain.proofs.Within.{within-empty, within-shrink, within-offer, past-offer, offer-real}
-use Rattle.chain.proofs.Walk.{separator-to, separator-grows, separator-mono, separator-within, separator-past, growing, fits-last, last-fits, fails-last, fails-finite, some-fits}
+use Rattle.chain.proofs.Within.{within-shrink, within-offer, past-offer, offer-real}
+use Rattle.chain.proofs.Walk.{separator-to, separator-grows, separator-within, separator-past, growing, fits-last, fails-last, full-fits, fails-finite, some-fits}
 
 module _ (job : Job) (B : Bound) where
   -- The bids of the processors before the last, and of the last.
@@ -53,20 +53,10 @@ module _ (job : Job) (B : Bound) where
   -- In a probe that fails every separator before the end is before the last task.
   pub fails-before-end : T (not (fits job B)) → (p : ℕ) → p ≤ last job → separator job B p < tasks job
   fails-before-end t p h =
-      elim (decLe (suc (separator job B p)) (tasks job)) [ yes x ↦ x | no x ↦ absurd (T-not (fits job B) t (last-fits job B (last-empty x))) ]
-    where
-      last-empty : (suc (separator job B p) ≤ tasks job → ⊥) → T (within job (last job) (separator job B (last job)) (tasks job) B)
-      last-empty x =
-          subst (λ (a : ℕ). T (within job (last job) a (tasks job) B))
-          (let e : tasks job ≡ separator job B (last job) =
-          omega (
-            arith,
-            separator-to job B (last job),
-            separator-mono job B p (last job - p),
-            ap (separator job B) (let f : p + (last job - p) ≡ last job = omega arith in f),
-          ) in
-          e)
-          (within-empty job (last job) (tasks job) B)
+      elim (decLe (suc (separator job B p)) (tasks job)) [
+        | yes x ↦ x
+        | no x ↦ absurd (T-not (fits job B) t (full-fits job B p h (omega (arith, separator-to job B p))))
+      ]
 
 module _ (job : Job) where
   -- A bound below the bids of the processors before p walks no further up to p.

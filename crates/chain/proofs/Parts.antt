@@ -83,13 +83,6 @@ module _ (job : Job) where
   unfolding partOf
   part-none a b h = ap (λ (n : ℕ). take n (drop a (job .weights))) (let e : b - a ≡ 0 = omega arith in e)
 
-  pub tasks-past : (a b : ℕ) → tasks job ≤ b → partOf job a b ≡ partOf job a (tasks job)
-  unfolding partOf
-  tasks-past a b h = rest (b - a) (omega arith) ∙ sym (rest (tasks job - a) (omega arith))
-    where
-      rest : (n : ℕ) → tasks job - a ≤ n → take n (drop a (job .weights)) ≡ drop a (job .weights)
-      rest n k = take-all n (drop a (job .weights)) (omega (arith, length-drop a (job .weights)))
-
   -- Two parts side by side weigh what the part over both weighs.
   pub weight-split : (a b c : ℕ) → a ≤ b → b ≤ c → partWeight job a c ≡ partWeight job a b + partWeight job b c
   unfolding partWeight
@@ -132,12 +125,7 @@ module _ (job : Job) where
   unfolding partLoad partWeight
   weight-le-load a b = weight-le-load-of (job .startup) (partOf job a b)
 
-  -- Nothing is gained past the last task,
-  pub load-past : (a b : ℕ) → tasks job ≤ b → partLoad job a b ≡ partLoad job a (tasks job)
-  unfolding partLoad
-  load-past a b h = ap (loadOf (job .startup)) (tasks-past a b h)
-
-  -- and nothing lost where a part is extended.
+  -- Nothing is lost where a part is extended.
   pub load-empty : (a : ℕ) → partLoad job a a ≡ 0
   load-empty a = load-none a a (part-none a a (omega arith))
 
@@ -161,10 +149,6 @@ module _ (job : Job) where
   pub part-left : (p a b c : ℕ) → a ≤ b → b ≤ c → partBound job p b c ≼ partBound job p a c
   unfolding partBound
   part-left p a b c h k = make-le (mul-le-mul-right (speedOf job p) (load-left a b c h k))
-
-  pub part-past : (p a b : ℕ) → tasks job ≤ b → partBound job p a b ≡ partBound job p a (tasks job)
-  unfolding partBound
-  part-past p a b h = ap (λ (n : ℕ). over n (speedOf job p)) (load-past a b h)
 
   pub part-finite : Proper job → (p a b : ℕ) → Finite (partBound job p a b)
   unfolding partBound

@@ -77,6 +77,15 @@ module _ (job : Job) where
         subst (λ (i : ℕ). separator job B p ≤ separator job B i) (let e : suc (p + k) ≡ p + suc k = omega arith in e)
         (omega (arith, separator-mono p k, separator-grows (p + k)))
 
+    -- Once every task is placed, every further separator is N; while one is left, it was left before.
+    pub separator-full : (p k : ℕ) → separator job B p ≡ tasks job → p ≤ k → separator job B k ≡ tasks job
+    separator-full p k e h =
+        omega (arith, separator-to k, separator-mono p (k - p), ap (separator job B) (let f : p + (k - p) ≡ k = omega arith in f))
+
+    pub separator-left : (p k : ℕ) → separator job B p < tasks job → k ≤ p → separator job B k < tasks job
+    separator-left p k h l =
+        omega (arith, separator-mono k (p - k), ap (separator job B) (let f : k + (p - k) ≡ p = omega arith in f))
+
     pub separator-within : (p : ℕ) → T (within job p (separator job B p) (separator job B (suc p)) B)
     unfolding separator
     separator-within p = reach-within p (separator job B p) B
@@ -185,6 +194,13 @@ module _ (job : Job) where
   pub fails-last : (B : Bound) → T (not (fits job B)) → T (not (within job (last job) (separator job B (last job)) (tasks job) B))
   unfolding fits
   fails-last B t = t
+
+  -- It does where every task is placed before.
+  pub full-fits : (B : Bound) (p : ℕ) → p ≤ last job → separator job B p ≡ tasks job → T (fits job B)
+  full-fits B p h e =
+      last-fits B
+      (subst (λ (a : ℕ). T (within job (last job) a (tasks job) B)) (sym (separator-full B p (last job) e h))
+      (within-empty job (last job) (tasks job) B))
 
   -- A probe fits exactly when all tasks can go to all processors within the bound.
   pub fits-cover : (B : Bound) → T (fits job B) → Cover job B (suc (last job)) (tasks job)

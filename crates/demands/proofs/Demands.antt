@@ -206,8 +206,11 @@ trial g B s e =
     record {
       outcome = outcome;
       answer = answer;
-      exactly = (λ f. exactly .0 (answer ∙ ap Answered f), λ w. outcome-same (sym answer ∙ exactly .1 w));
-      written = λ f. let w = probe-fitted (jobBy g) B s (answer ∙ ap Answered f) in (w .partition, w .within);
+      exactly = (
+        λ f. exactly .0 (f .0, answer ∙ ap Answered (f .1)),
+        λ w. let x = exactly .1 w in (x .0, outcome-same (sym answer ∙ x .1)),
+      );
+      written = λ f. let w = probe-fitted (jobBy g) B s (answer ∙ ap Answered (f .1)) in (w .partition, w .within);
     }
   where
     outcome : Outcome
@@ -219,7 +222,7 @@ trial g B s e =
     answer : probeAnswer (jobBy g) B s ≡ Answered outcome
     answer = ap (λ (n : ℕ). probedOf n outcome) none
 
-    exactly : (probeAnswer (jobBy g) B s ≡ Answered Fits) ↔ SomeWithin (jobBy g) B
+    exactly : ((n : ℕ) × (probeAnswer (jobBy g) B s ≡ Answered (Fits n))) ↔ SomeWithin (jobBy g) B
     exactly = probe-fits-exactly (jobBy g) B s none
 
     outcome-same : {a b : Outcome} → Answered a ≡ Answered b → a ≡ b

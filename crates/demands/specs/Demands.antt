@@ -66,14 +66,18 @@ front job s = take (suc (processors job)) s
 abbrev pub SomeWithin : Job → Bound → Type 0
 SomeWithin job B = (t : List ℕ) × Partition job t × Within job t B
 
+-- The trial fits, whatever the number of machines that its walk came to.
+abbrev pub Fitting : Outcome → Type 0
+Fitting outcome = (n : ℕ) × (outcome ≡ Fits n)
+
 -- An accepted trial of the job at the bound B, with the list s lent.
 pub record Trial (job : Job) (B : Bound) (s : List ℕ) : Type 0 where
   pub outcome : Outcome
   pub answer : probeAnswer job B s ≡ Answered outcome
   -- Scope 10.2: "A trial fits exactly where some division stays within its bound."
-  pub exactly : (outcome ≡ Fits) ↔ SomeWithin job B
+  pub exactly : Fitting outcome ↔ SomeWithin job B
   -- Scope 3.8: "what it writes is then a division"; and that stays within the bound.
-  pub written : outcome ≡ Fits → Partition job (front job (probeWrites job B s)) × Within job (front job (probeWrites job B s)) B
+  pub written : Fitting outcome → Partition job (front job (probeWrites job B s)) × Within job (front job (probeWrites job B s)) B
 
 -- An accepted quick plan of the job, with the list s lent.
 pub record QuickPlan (job : Job) (s : List ℕ) : Type 0 where

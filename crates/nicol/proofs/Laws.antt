@@ -28,9 +28,9 @@ use Rattle.probe.proofs.Answer.{fits-outcome, fails-outcome}
 
 -- What the answer of a trial says of the part.
 module _ (job : Job) (p a j : ℕ) {B : Bound} (e : B ≡ partBound job p a j) where
-  pub told-fits : probe job B ≡ Fits → true ≡ fitsAt job p a j
+  pub told-fits : {n : ℕ} → probe job B ≡ Fits n → true ≡ fitsAt job p a j
   unfolding fitsAt
-  told-fits f = sym (T-true (fits job (partBound job p a j)) (subst (λ (C : Bound). T (fits job C)) e (fits-outcome job B f)))
+  told-fits f = sym (T-true (fits job (partBound job p a j)) (subst (λ (C : Bound). T (fits job C)) e (fits-outcome job B f .0)))
 
   pub told-fails : {C : Bound} → probe job B ≡ Fails C → false ≡ fitsAt job p a j
   unfolding fitsAt

@@ -14,7 +14,8 @@ use bound::Bound;
 use chain::Outcome;
 use parts::Found;
 use parts::part_bound;
-use probe::probe_in;
+use probe::first_point;
+use probe::walk_from;
 
 // The smallest index that fits, and the trials that found it.
 struct FirstFit {
@@ -50,7 +51,7 @@ fn bound_to(
     part_bound(startup, speeds[p], sums, a, j)
 }
 
-// Inner. A trial of the whole job at the bound of the part from a to j on processor p.
+// Inner. A trial of the whole job at the bound of the part from a to j on processor p. Nobody looks at what it writes.
 fn trial_at(
     startup: u32,
     speeds: &[u32],
@@ -70,9 +71,17 @@ fn trial_at(
     ensures { λ job r. ⌜ KeptFrom (suc (processors job)) (now (separators .entry)) (now (separators .exit)) ⌝ }
 {
     let bound = bound_to(startup, speeds, weights, sums, p, a, j);
-    let answer = probe_in(startup, speeds, weights, sums, bound, separators);
+    let answer = walk_from(
+        startup,
+        speeds,
+        weights,
+        sums,
+        bound,
+        first_point(),
+        separators,
+    );
     match answer {
-        Outcome::Fits => true,
+        Outcome::Fits(visited) => true,
         Outcome::Fails(next) => false,
     }
 }

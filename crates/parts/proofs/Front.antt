@@ -68,7 +68,16 @@ front-of f n xs h =
           ∙ after-tabulate f n (drop n xs) (k - n) ∙ getD-drop n xs (k - n) 0 ∙ ap (λ (i : ℕ). getD xs i 0) (let e : n + (k - n) ≡ k = omega arith in e);
     }
 
--- Nothing changed, so what is behind the first n entries is as it was.
+-- What is behind the entries that were written is as it was,
+pub front-kept : {f : ℕ → ℕ} {n m : ℕ} {xs ys : List ℕ} → Front f n xs ys → n ≤ m → KeptFrom m xs ys
+front-kept {f} {n} {m} {xs} {ys} w h =
+    record {
+      same = w .same;
+      rest = ext-getD 0 (drop m ys) (drop m xs) (omega (arith, length-drop m ys, length-drop m xs, w .same))
+          (λ k l. getD-drop m ys k 0 ∙ w .rest (m + k) (omega arith) ∙ sym (getD-drop m xs k 0));
+    }
+
+-- and where nothing changed, what is behind the first n entries.
 pub kept-start : (n : ℕ) (xs : List ℕ) → KeptFrom n xs xs
 kept-start n xs = record { same = refl; rest = refl }
 

@@ -10,7 +10,7 @@ use lib.ListN.{length, getD, take, drop, length-append, length-drop, List·getD-
 use lib.Seq.{take-at, drop-at}
 use Rattle.bound.specs.declared.Bound.{Bound}
 use Rattle.chain.specs.Job.{Job, Valid, processors, at, Partition}
-use Rattle.chain.specs.Probe.{walk, fits, nextBid, probe}
+use Rattle.chain.specs.Probe.{walk, fits, nextBid, visited, probe}
 use Rattle.chain.proofs.Parts.{valid-proper}
 use Rattle.chain.proofs.Bottleneck.{processors-last}
 use Rattle.chain.proofs.Walk.{walk-length, walk-partition}
@@ -20,9 +20,9 @@ use Rattle.chain.specs.declared.Outcome.the-variants.{Fits, Fails}
 -- What the answer says, case by case.
 module _ (job : Job) (B : Bound) where
   answer : Bool → Outcome
-  answer t = elim t [ true ↦ Fits | false ↦ Fails (nextBid job B) ]
+  answer t = elim t [ true ↦ Fits (visited job B) | false ↦ Fails (nextBid job B) ]
 
-  pub outcome-fits : fits job B ≡ true → probe job B ≡ Fits
+  pub outcome-fits : fits job B ≡ true → probe job B ≡ Fits (visited job B)
   unfolding probe answer
   outcome-fits e = ap answer e
 
@@ -30,11 +30,11 @@ module _ (job : Job) (B : Bound) where
   unfolding probe answer
   outcome-fails e = ap answer e
 
-  pub fits-outcome : probe job B ≡ Fits → T (fits job B)
-  fits-outcome e = go (fits job B) refl
+  pub fits-outcome : {n : ℕ} → probe job B ≡ Fits n → T (fits job B) × (n ≡ visited job B)
+  fits-outcome {n} e = go (fits job B) refl
     where
-      go : (t : Bool) → fits job B ≡ t → T t
-      go true f = tt
+      go : (t : Bool) → fits job B ≡ t → T t × (n ≡ visited job B)
+      go true f = (tt, cc (outcome-fits f))
       go false f = let z : _≡_ {A = ℕ} 0 1 = cc (outcome-fails f) in absurd (let y : ⊥ = omega arith in y)
 
   pub fails-outcome : {C : Bound} → probe job B ≡ Fails C → T (not (fits job B)) × (C ≡ nextBid job B)

@@ -1,4 +1,4 @@
--- The bids: a part gains nothing past the last task, and the least bid so far.
+-- The bids: one task more, and the least bid so far.
 -- Assumes nothing.
 use Prim.Native.Nat.{ℕ, suc, _+_, _≤_, _<_}
 use mathlib.Core.Path.{_≡_, sym, ap, subst, _∙_}
@@ -9,7 +9,6 @@ use Rattle.bound.specs.Order.{lesser, leastBelow}
 use Rattle.bound.proofs.Order.{least-next}
 use Rattle.chain.specs.Job.{Job, Valid, tasks, last, partBound, offer}
 use Rattle.chain.specs.Probe.{separator, bid, nextBid}
-use Rattle.chain.proofs.Parts.{part-past}
 use Rattle.chain.proofs.Within.{offer-part}
 use Rattle.chain.proofs.NextBid.{bid-before, bid-last}
 use Rattle.chain.specs.Ranges.{Narrow}
@@ -17,14 +16,9 @@ use Rattle.chain.proofs.Ranges.{part-small, offer-small, small-narrow}
 use Rattle.probe.specs.Walk.{leastBefore}
 
 module _ (job : Job) where
-  -- A bid is for one task more,
+  -- A bid is for one task more.
   pub bid-next : (p a i : ℕ) {C : Bound} → C ≡ partBound job p a (i + 1) → C ≡ offer job p a (suc i)
   bid-next p a i e = e ∙ ap (partBound job p a) (add-one i) ∙ sym (offer-part job p a (suc i))
-
-  -- but a part gains nothing past the last task, and stops there.
-  pub bid-stops : (p a i : ℕ) {C : Bound} → tasks job ≤ i → C ≡ partBound job p a (tasks job) → C ≡ offer job p a (suc i)
-  bid-stops p a i h e =
-      e ∙ sym (part-past job p a (suc i) (let k : tasks job ≤ suc i = omega arith in k)) ∙ sym (offer-part job p a (suc i))
 
 -- The bound of a part is narrow.
 pub part-narrow : {job : Job} {C : Bound} (p a b : ℕ) → Valid job → C ≡ partBound job p a b → Narrow C

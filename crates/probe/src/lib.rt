@@ -9,7 +9,7 @@ ghost use Rattle.chain.specs.Job.{Job, jobOf, tasks, processors, offer};
 ghost use Rattle.chain.specs.Probe.{reach, walk, walked, probe};
 ghost use Rattle.parts.specs.Prefix.{Ready};
 ghost use Rattle.parts.specs.Rising.{Rising, LastAtMost};
-ghost use Rattle.probe.specs.Walk.{filled, Reached};
+ghost use Rattle.probe.specs.Walk.{filled, begun, firstPoint, Reached};
 use bound::Bound;
 use chain::Outcome;
 use parts::index;
@@ -143,7 +143,7 @@ pub struct Point {
 }
 
 // Inner. Writes a value to the entries from one index to before another.
-fn fill(xs: &mut [u32], from: usize, to: usize, value: u32)
+pub fn fill(xs: &mut [u32], from: usize, to: usize, value: u32)
     requires { ⌜ (from ≤ to) × (to ≤ length (now xs)) ⌝ }
     ensures { λ _. ⌜ now (xs .exit) ≡ filled (now (xs .entry)) from to value ⌝ }
 {
@@ -154,9 +154,9 @@ fn fill(xs: &mut [u32], from: usize, to: usize, value: u32)
     }
 }
 
-// Inner. The probe at the bound from a point on that its walk has reached: writes the separators from there on, whether it fits
-// or not, and answers. Once every task is placed the walk ends, and the separators that are left become N. What the list holds from the
-// point on is a hint, most often the walk before.
+// Inner. The probe at the bound from a point on that its walk has reached: writes the separators of the processors that it comes to,
+// whether it fits or not, and answers. Once every task is placed the walk ends; the separators that are left, all N, are not written. What
+// the list holds from the point on is a hint, most often the walk before.
 pub fn walk_from(
     startup: u32,
     speeds: &[u32],
@@ -173,7 +173,7 @@ pub fn walk_from(
     requires { λ job. ⌜ processors job < length (now separators) ⌝ }
     requires { λ job. ⌜ Reached job bound (now separators) point ⌝ }
     ensures { λ job r. ⌜ r ≡ probe job bound ⌝ }
-    ensures { λ job r. ⌜ now (separators .exit) ≡ walk job bound ++ drop (suc (processors job)) (now (separators .entry)) ⌝ }
+    ensures { λ job r. ⌜ now (separators .exit) ≡ begun job bound (now (separators .entry)) ⌝ }
 {
     let count = speeds.len();
     let last = count - 1;
@@ -182,7 +182,6 @@ pub fn walk_from(
     let mut a = point.start;
     let mut p = point.processor;
     if n <= a {
-        fill(separators, p, count + 1, narrow(n));
         return Outcome::Fits(p);
     }
     while p < last {
@@ -190,7 +189,6 @@ pub fn walk_from(
         separators[p] = narrow(a);
         let end = part_end(startup, speeds, weights, sums, p, a, bound, hint);
         if n <= end {
-            fill(separators, p + 1, count + 1, narrow(n));
             return Outcome::Fits(p + 1);
         }
         best = Bound::lesser(best, bid_of(startup, speeds, weights, sums, p, a, end));
@@ -198,12 +196,22 @@ pub fn walk_from(
         p += 1;
     }
     separators[p] = narrow(a);
-    separators[p + 1] = narrow(n);
     let rest = rest_of(startup, speeds, weights, sums, p, a);
     if Bound::at_most(rest, bound) {
-        return Outcome::Fits(p + 1);
+        return Outcome::Fits(count);
     }
     Outcome::Fails(Bound::lesser(best, rest))
+}
+
+// Inner. Every walk begins here.
+pub fn first_point() -> Point
+    ensures { λ r. ⌜ r ≡ firstPoint ⌝ }
+{
+    Point {
+        processor: 0,
+        start: 0,
+        least: Bound::INFINITE,
+    }
 }
 
 // Inner. The probe at the bound: writes the walk's P + 1 separators, whether it fits or not, and answers.
@@ -223,12 +231,20 @@ pub fn probe_in(
     ensures { λ job r. ⌜ r ≡ probe job bound ⌝ }
     ensures { λ job r. ⌜ now (separators .exit) ≡ walk job bound ++ drop (suc (processors job)) (now (separators .entry)) ⌝ }
 {
-    let first = Point {
-        processor: 0,
-        start: 0,
-        least: Bound::INFINITE,
-    };
-    walk_from(startup, speeds, weights, sums, bound, first, separators)
+    let count = speeds.len();
+    let n = narrow(weights.len());
+    let first = first_point();
+    let answer = walk_from(startup, speeds, weights, sums, bound, first, separators);
+    match answer {
+        Outcome::Fits(visited) => {
+            fill(separators, visited, count + 1, n);
+            Outcome::Fits(visited)
+        }
+        Outcome::Fails(next) => {
+            fill(separators, count, count + 1, n);
+            Outcome::Fails(next)
+        }
+    }
 }
 
 // Inner. The same probe, which writes how far each processor gets: where it fits that is the walk, where it fails the last entry is

@@ -20,9 +20,9 @@ saidPut said xs = valuesPut 0 (said .values) xs
 abbrev pub boundPut : List ℕ → ℕ → ℕ → Bound → List ℕ
 boundPut xs i j B = set (set xs i (B .load)) j (B .speed)
 
--- Of a probe: 1 for a fit; or 0 and the next bid's load, speed.
+-- Of a probe: 1 for a fit and the number of processors that its walk came to; or 0 and the next bid's load, speed.
 abbrev pub outcomePut : Outcome → List ℕ → List ℕ
-outcomePut Outcome.Fits xs = set xs 0 1
+outcomePut (Outcome.Fits n) xs = set (set xs 0 1) 1 n
 outcomePut (Outcome.Fails B) xs = boundPut (set xs 0 0) 1 2 B
 
 abbrev pub probedPut : Probed → List ℕ → List ℕ

@@ -103,8 +103,9 @@ fn put_outcome(answer: &mut [u64], outcome: Outcome)
     ensures { λ _. ⌜ now (answer .exit) ≡ outcomePut outcome (now (answer .entry)) ⌝ }
 {
     match outcome {
-        Outcome::Fits => {
+        Outcome::Fits(visited) => {
             put(answer, 0, 1);
+            put(answer, 1, visited as u64);
         }
         Outcome::Fails(next) => {
             put(answer, 0, 0);

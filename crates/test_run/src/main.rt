@@ -69,12 +69,12 @@ fn say_measured(answer: Measured) {
     }
 }
 
-// A fit is 0 1; a failure is 0, the next bid's load and its speed.
+// A fit is 0 and the number of machines that its walk came to; a failure is 0, the next bid's load and its speed.
 fn say_outcome(outcome: Outcome) {
     match outcome {
-        Outcome::Fits => {
+        Outcome::Fits(visited) => {
             say(0);
-            say(1);
+            say(visited as u64);
         }
         Outcome::Fails(next) => say_bound(next),
     }
@@ -161,13 +161,14 @@ fn counts() {
 
 fn calls_on_a() {
     probe(15, 3, 1); // fails, next 11/3, with 0 1 2
-    probe(16, 11, 3); // fits
-    probe(17, 23, 6); // fits
+    probe(16, 11, 3); // fits with 2 machines
+    probe(17, 23, 6); // fits with 2 machines
     probe(18, 3, 0); // a bound of speed 0: 10
     heuristic(19); // 0 2 3, bottleneck 4/1
     measure(20, &[1, 3], &[1, 3, 8], &[0, 3, 3]); // 12/1
     measure(21, &[1, 3], &[1, 3, 8], &[0, 2, 2]); // no division: 11
     measure(22, &[1, 3], &[1, 3, 8], &[0, 3]); // a separator too few: 9
+    probe(33, 12, 1); // fits with 1 machine, 0 3 3
 }
 
 fn second_edition() {

@@ -188,7 +188,10 @@ fn tried(job: &Job, load: u64, speed: u64, given: &[&[u8]]) -> Result<Vec<After>
         return Err(10);
     }
     let found = methods::trial(job, (load as u128, speed as u128));
-    let said = found.next.map_or(vec![1], |next| vec![0, next.0, next.1]);
+    let said = match found.next {
+        None => vec![1, found.machines.unwrap() as u128],
+        Some(next) => vec![0, next.0, next.1],
+    };
     Ok(vec![After::default(), After::default(), front(&found.separators), answer(given[3], &said)])
 }
 

@@ -26,7 +26,10 @@ pub struct Check {
     pub part: &'static str,
     /// How often each call gave each number.
     seen: [[u64; OTHER + 1]; KINDS.len()],
-    pub fits: u64,
+    /// Of trials that fit and whose answer had room for the number of machines: how often that was 0, the only one, 1 of several, some
+    /// between, and all of several; how often one of these had no tile; how often the last tile had weight 0; how often two machines or more
+    /// were left; and how often there were fewer tiles than machines, in a row of the most.
+    pub fits: [u64; 9],
     /// Of trials that failed: how often the last of several machines reached none of what was left, and some; the only machine some; and how
     /// often the last share ended with a tile of weight 0, was just the bound, and left one tile.
     pub failed: [u64; 6],
@@ -145,7 +148,7 @@ impl Check {
             hasty: false,
             part: "",
             seen: [[0; OTHER + 1]; KINDS.len()],
-            fits: 0,
+            fits: [0; 9],
             failed: [0; 6],
             searches: [0; 4],
             noughts: [0; 5],

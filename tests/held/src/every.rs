@@ -136,7 +136,8 @@ fn trials(c: &mut Check, s: &Solved, t: &Case, thorough: bool) {
         for _ in 0..2 {
             let bound = trials::bound(&mut c.rng, s);
             let lent = trials::some_list(&mut c.rng, t, bound, l[0]);
-            trials::one(c, t, bound, &lent, l[1]);
+            let entries = if c.rng.once_in(6) { c.rng.below(3) } else { l[1] };
+            trials::one(c, t, bound, &lent, entries);
         }
     }
 }

@@ -29,6 +29,20 @@ fn walk(job: &Job, within: impl Fn(i128, i128) -> bool) -> Option<Vec<usize>> {
     within(rest, *last as i128).then_some(separators)
 }
 
+/// Whether the first machines, so many of them, can take all tiles in order within a bound: from the last tile back each takes all that it
+/// can carry beside the start-up work.
+pub fn take_all(job: &Job, machines: usize, (load, speed): (u128, u128)) -> bool {
+    let mut left = &job.weights[..];
+    for &e in job.speeds[..machines].iter().rev() {
+        let Some(mut carries) = (load as u64 * e as u64 / speed as u64).checked_sub(job.c() as u64) else { continue };
+        while let Some((&last, others)) = left.split_last().filter(|(&last, _)| last as u64 <= carries) {
+            carries -= last as u64;
+            left = others;
+        }
+    }
+    left.is_empty()
+}
+
 /// The load of these tiles on one machine.
 fn load_of(job: &Job, tiles: &[u32]) -> i128 {
     let weight: i128 = tiles.iter().map(|&w| w as i128).sum();

@@ -10,7 +10,7 @@ use crate::job::{self, Job};
 use crate::limits::{job_bytes, plan_bytes, work_numbers, BOUND_LOAD, BOUND_SPEED, JOB_INTAKE, LISTING, LONGEST_JOB};
 use crate::limits::{LONGEST_HALVED, MACHINES, SPEED, STARTUP, TILES, WEIGHT};
 use crate::listing;
-use crate::methods;
+use crate::methods::{self, Trial};
 use crate::planner::{self, At, Call, Edition, Slot};
 use crate::slow::{self, less, Bound};
 
@@ -177,6 +177,35 @@ impl Lists<'_> {
 
     fn failed(&self, spoil: impl FnOnce(&Job, Bound, &[u32], &mut [u32])) -> u32 {
         self.tried(false, spoil)
+    }
+
+    /// Another number of machines that a trial which fits came to, by the job, the trial and the right number.
+    fn came(&self, other: impl FnOnce(&Job, &Trial, u64) -> u64) -> u32 {
+        let Some(bound) = self.bound() else { return self.real() };
+        self.figure(true, 1, |job, many| {
+            let found = methods::trial(job, bound);
+            if found.fits() {
+                other(job, &found, many)
+            } else {
+                many
+            }
+        })
+    }
+
+    /// Spoils the separators behind the first that is N of a trial that fits, by what the list held there.
+    fn filled(&self, spoil: impl FnOnce(&Job, &[u32], &mut [u32])) -> u32 {
+        self.tried(true, |job, _, before, s| refill(job, before, s, spoil))
+    }
+
+    /// A fit of another walk: its separators, and the machines that it comes to.
+    fn stopped(&self, other: impl FnOnce(&Job, &Trial) -> Option<Vec<usize>>) -> u32 {
+        self.tried(true, |job, bound, _, s| {
+            let Some(walk) = other(job, &methods::trial(job, bound)) else { return };
+            put(s, &walk);
+            if let Some(many) = self.answer().get_mut(1) {
+                *many = walk.iter().position(|&s| s == job.weights.len()).unwrap() as u64;
+            }
+        })
     }
 
     /// Of a trial that fails another end of the last share, by where that begins and ends.
@@ -706,6 +735,30 @@ fn relist_failing(l: &Lists, bytes: usize) {
     }
 }
 
+/// Spoils the separators behind the first that is N, by what the list held there.
+fn refill(job: &Job, before: &[u32], s: &mut [u32], spoil: impl FnOnce(&Job, &[u32], &mut [u32])) {
+    let end = s.len();
+    let from = s.iter().position(|&s| s as usize == job.weights.len()).map_or(end, |p| p + 1);
+    if from < end {
+        spoil(job, &before[from..end], &mut s[from..]);
+    }
+}
+
+/// A plan by a method that leaves them as the list had them.
+fn unfilled(l: Lists, method: u32) -> u32 {
+    let before = l.words(Slot::Separators).to_vec();
+    l.inner(l.is_plan(method), |job, s| refill(job, &before, s, |_, old, s| s.copy_from_slice(old)))
+}
+
+/// The walk of a fit that stops one machine early, where no more than so many tiles are left then: the machine takes them too.
+fn stopped_with(job: &Job, found: &Trial, left: usize) -> Option<Vec<usize>> {
+    let tiles = job.weights.len();
+    let many = found.machines.filter(|&many| many > 1 && found.separators[many - 1] + left >= tiles)?;
+    let mut walk = found.separators.clone();
+    walk[many - 1] = tiles;
+    Some(walk)
+}
+
 /// Puts separators into a list, as far as it goes.
 fn put(to: &mut [u32], from: &[usize]) {
     for (to, from) in to.iter_mut().zip(from) {
@@ -1098,6 +1151,70 @@ const FAULTS: &[(&str, &str, Run)] = &[
     ("trial-next-rest", "trial: the last machine does not bid", |l| rebid(l, |bids, b| bids[..bids.len() - 1].iter().copied().reduce(|a, x| if less(x, a) { x } else { a }).unwrap_or(b))),
     ("trial-next-reduced", "trial: the next bid reduced", |l| rebid(l, |_, b| reduced(b))),
     ("trial-next-tile", "trial: the last machine bids its share with the next tile added", rebid_next_tile),
+    // The number of machines that a trial which fits came to.
+    ("trial-came-more", "trial: one machine too many", |l| l.came(|_, _, n| n + 1)),
+    ("trial-came-more-left", "trial: one machine too many, where machines are left", |l| l.came(|j, _, n| if (n as usize) < j.speeds.len() { n + 1 } else { n })),
+    ("trial-came-more-several", "trial: one machine too many, where several are left", |l| l.came(|j, _, n| if (n as usize) + 1 < j.speeds.len() { n + 1 } else { n })),
+    ("trial-came-fewer", "trial: one machine too few", |l| l.came(|_, _, n| n.saturating_sub(1))),
+    ("trial-came-fewer-all", "trial: one machine too few, where the last is needed", |l| l.came(|j, _, n| if n as usize == j.speeds.len() { n - 1 } else { n })),
+    ("trial-came-one", "trial: 1 without tiles", |l| l.came(|_, _, n| n.max(1))),
+    ("trial-came-one-startup", "trial: 1 without tiles, where there is start-up work", |l| l.came(|j, _, n| if j.c() > 0 { n.max(1) } else { n })),
+    ("trial-came-row-empty", "trial: P without tiles", |l| l.came(|j, _, n| if n == 0 { j.speeds.len() as u64 } else { n })),
+    ("trial-came-weightless", "trial: 0 where nothing weighs", |l| l.came(|j, _, n| if methods::ideal(j).0 == 0 { 0 } else { n })),
+    ("trial-came-busy", "trial: the machines that have tiles counted", |l| l.came(|_, t, _| t.separators.windows(2).filter(|s| s[0] < s[1]).count() as u64)),
+    ("trial-came-from", "trial: counted from the first machine that has a tile", |l| l.came(|_, t, n| n - t.separators[1..].iter().take_while(|&&s| s == 0).count().min(n as usize) as u64)),
+    ("trial-came-room", "trial: machines without room for the start-up work not counted", |l| { let b = l.bound(); l.came(|j, _, n| j.speeds[..n as usize].iter().filter(|&&e| !less(b.unwrap(), (j.c(), e as u128))).count() as u64) }),
+    ("trial-came-row", "trial: P in the place of the machines come to", |l| l.came(|j, _, _| j.speeds.len() as u64)),
+    ("trial-came-left", "trial: the machines that are left", |l| l.came(|j, _, n| j.speeds.len() as u64 - n)),
+    ("trial-came-tiles", "trial: no more machines than tiles", |l| l.came(|j, _, n| n.min(j.weights.len() as u64))),
+    ("trial-came-best", "trial: the machines of the walk at the best bottleneck", |l| l.came(|j, _, _| methods::trial(j, answers::best(j).1).machines.unwrap() as u64)),
+    ("trial-came-zeros", "trial: one machine more where the last tile has weight 0", |l| l.came(|j, _, n| if j.weights.last() == Some(&0) { n + 1 } else { n })),
+    ("trial-came-held", "trial: the machines counted in what the list held, where it held N", |l| { let before = l.words(Slot::Separators).to_vec(); l.came(|j, _, n| before[..j.speeds.len() + 1].iter().position(|&s| s as usize == j.weights.len()).map_or(n, |p| p as u64)) }),
+    ("trial-came-alone", "trial: 0 on one machine", |l| l.came(|j, _, n| if j.speeds.len() == 1 { 0 } else { n })),
+    ("trial-came-6-bits", "trial: a number of machines of 6 bits", |l| l.came(|_, _, n| n % 64)),
+    ("trial-came-most", "trial: one machine too few, with the most machines only", |l| l.came(|j, _, n| if j.speeds.len() == MACHINES { n.saturating_sub(1) } else { n })),
+    ("trial-came-second", "trial: one machine too many, in the second edition only", |l| l.came(|j, _, n| n + j.is_second() as u64)),
+    ("trial-came-seldom", "trial: one machine too many, once in 5,000 fits", |l| l.came(|_, _, n| n + seldom(5_000) as u64)),
+    ("trial-came-dropped", "trial: no number of machines", |l| { let old = l.answer().get(1).copied(); l.came(|_, _, _| old.unwrap()) }),
+    ("trial-came-first", "trial: the number of machines in the place of the 1", |l| { let Some(b) = l.bound() else { return l.real() }; l.figure(true, 0, |j, v| methods::trial(j, b).machines.map_or(v, |n| n as u64)) }),
+    ("trial-came-later", "trial: the entry after the number of machines changed by a fit", |l| l.tried(true, |_, _, _, _| if let Some(v) = l.answer().get_mut(2) { *v = 0 })),
+    ("trial-came-short", "trial: nothing answered by a fit where there is room for one entry", |l| { let old = l.answer().first().copied(); l.tried(true, |_, _, _, _| if let [v] = l.answer() { *v = old.unwrap() }) }),
+    ("trial-came-past", "trial: the number of machines written past an answer of one entry", |l| l.tried(true, |_, _, _, _| if let Some((at, 1)) = l.place(Slot::Answer) { unsafe { *at.wrapping_add(8) ^= 1 } })),
+    ("trial-came-failed", "trial: the number of machines behind the answer of a failure", |l| l.failed(|j, _, _, _| if let Some(v) = l.answer().get_mut(3) { *v = j.speeds.len() as u64 })),
+    ("trial-came-failed-before", "trial: the number of machines before the next bid of a failure", |l| l.failed(|j, _, _, _| if let Some(a) = l.answer().get_mut(1..) { a.rotate_right(1.min(a.len())); a.iter_mut().take(1).for_each(|v| *v = j.speeds.len() as u64) })),
+    // What stands behind the last machine that a fit came to.
+    ("trial-fill-nothing", "trial: the separators that are left not written", |l| l.filled(|_, old, s| s.copy_from_slice(old))),
+    ("trial-fill-last", "trial: of the separators that are left only the last written", |l| l.filled(|_, old, s| { let k = s.len() - 1; s[..k].copy_from_slice(&old[..k]) })),
+    ("trial-fill-but-last", "trial: of the separators that are left the last not written", |l| l.filled(|_, old, s| { let k = s.len() - 1; s[k] = old[k] })),
+    ("trial-fill-but-first", "trial: of the separators that are left the first not written", |l| l.filled(|_, old, s| s[0] = old[0])),
+    ("trial-fill-less", "trial: N - 1 in the separators that are left", |l| l.filled(|j, _, s| s.fill((j.weights.len() as u32).wrapping_sub(1)))),
+    ("trial-fill-less-one", "trial: N - 1 in the first of the separators that are left", |l| l.filled(|j, _, s| s[0] = (j.weights.len() as u32).saturating_sub(1))),
+    ("trial-fill-more", "trial: N + 1 in the separators that are left", |l| l.filled(|j, _, s| s.fill(j.weights.len() as u32 + 1))),
+    ("trial-fill-nought", "trial: 0 in the separators that are left", |l| l.filled(|_, _, s| s.fill(0))),
+    ("trial-fill-empty", "trial: nothing written without tiles", |l| l.tried(true, |j, _, before, s| if j.weights.is_empty() { s.copy_from_slice(&before[..s.len()]) })),
+    ("trial-fill-empty-first", "trial: s0 not written without tiles", |l| l.tried(true, |j, _, before, s| if j.weights.is_empty() { s[0] = before[0] })),
+    ("trial-fill-greater", "trial: of the separators that are left those kept that are greater than N", |l| l.filled(|_, old, s| s.iter_mut().zip(old).for_each(|(s, &old)| *s = old.max(*s)))),
+    ("trial-fill-lesser", "trial: of the separators that are left those kept that are less than N", |l| l.filled(|_, old, s| s.iter_mut().zip(old).for_each(|(s, &old)| *s = old.min(*s)))),
+    ("trial-fill-later", "trial: one separator too many filled", |l| l.tried(true, |j, _, _, s| if let Some(v) = l.words(Slot::Separators).get_mut(s.len()) { *v = j.weights.len() as u32 })),
+    ("trial-fill-longer", "trial: the whole list filled", |l| l.tried(true, |j, _, _, s| l.words(Slot::Separators)[s.len()..].fill(j.weights.len() as u32))),
+    ("trial-fill-past", "trial: filled past the list", |l| l.filled(|_, _, _| if let Some((at, n)) = l.place(Slot::Separators) { unsafe { *at.wrapping_add(4 * n) ^= 1 } })),
+    ("trial-fill-16", "trial: no more than 16 separators filled", |l| l.filled(|_, old, s| if s.len() > 16 { s[16..].copy_from_slice(&old[16..]) })),
+    ("trial-fill-most", "trial: the last separator not filled, with the most machines and up to three tiles only", |l| l.filled(|j, old, s| if j.speeds.len() == MACHINES && j.weights.len() <= 3 { let k = s.len() - 1; s[k] = old[k] })),
+    ("trial-fill-zeros", "trial: the separators that are left not written where the last tile has weight 0", |l| l.filled(|j, old, s| if j.weights.last() == Some(&0) { s.copy_from_slice(old) })),
+    ("trial-fill-seldom", "trial: the last separator not filled once in 5,000 times", |l| l.filled(|_, old, s| { let k = s.len() - 1; if seldom(5_000) { s[k] = old[k] } })),
+    ("plan-fill-table", "table: the separators that are left not written", |l| unfilled(l, 1)),
+    ("plan-fill-bidding", "bidding: the separators that are left not written", |l| unfilled(l, 2)),
+    ("plan-fill-bisection", "bisection: the separators that are left not written", |l| unfilled(l, 3)),
+    ("plan-fill-nicol", "Nicol's search: the separators that are left not written", |l| unfilled(l, 4)),
+    ("plan-fill-less", "plan: N - 1 in the separators that are left", |l| l.inner(l.is_plans(), |j, s| refill(j, &s.to_vec(), s, |j, _, s| s.fill((j.weights.len() as u32).saturating_sub(1))))),
+    ("host-fill", "C call: 0 and 0 in the records of machines that are left", |l| l.then(l.is_host(), |j| l.bytes(Slot::Plan)[..16 * j.speeds.len()].chunks_exact_mut(16).for_each(|r| if r[..4] == r[4..8] && r[..4] == (j.weights.len() as u32).to_le_bytes() { r[..8].fill(0) }))),
+    // Where the walk of a fit ends.
+    ("trial-stop-early", "trial: stopped one machine early, which takes what is left", |l| l.stopped(|j, t| stopped_with(j, t, j.weights.len()))),
+    ("trial-stop-tile", "trial: stopped with one tile left", |l| l.stopped(|j, t| stopped_with(j, t, 1))),
+    ("trial-stop-last", "trial: stopped before the last machine, where that is needed", |l| l.stopped(|j, t| if t.machines == Some(j.speeds.len()) { stopped_with(j, t, j.weights.len()) } else { None })),
+    ("trial-stop-weight", "trial: stopped once all weight is placed, before any machine where nothing weighs", |l| l.stopped(|j, _| if methods::ideal(j).0 == 0 { Some(vec![j.weights.len(); j.speeds.len() + 1]) } else { None })),
+    ("trial-stop-short", "trial: the separator of the last machine come to one too small", |l| l.tried(true, |j, _, _, s| if let Some(p) = s.iter().position(|&s| s as usize == j.weights.len()).filter(|&p| p > 0) { s[p] -= 1 })),
+    ("trial-stop-fails", "trial: fits that leave machines said to fail", |l| { let Some(b) = l.bound() else { return l.real() }; l.figure(true, 0, |j, v| if methods::trial(j, b).machines.is_some_and(|n| n < j.speeds.len()) { 0 } else { v }) }),
     // What a trial that fails writes.
     ("trial-failed-silent", "trial: nothing written by a failure", |l| l.failed(|_, _, before, s| s.copy_from_slice(&before[..s.len()]))),
     ("trial-failed-nought", "trial: 0 throughout written by a failure", |l| l.failed(|_, _, _, s| s.fill(0))),

@@ -231,8 +231,17 @@ fn cells(row: &Row) -> String {
     format!("| {} | {} | {} | {} | {}/{} |", row.name, text(row.weights), text(row.speeds), text(row.separators), load, speed)
 }
 
+const SCOPE: &str = include_str!("../../../docs/SCOPE.md");
+
 fn in_scope(c: &mut Check, words: &str) {
-    if !include_str!("../../../docs/SCOPE.md").contains(words) {
+    if !SCOPE.contains(words) {
+        c.fail(&format!("docs/SCOPE.md does not say: {}", words), String::new());
+    }
+}
+
+/// The same, and the sentence, or its part, ends there.
+fn sentence(c: &mut Check, words: &str) {
+    if !SCOPE.match_indices(words).any(|(at, _)| SCOPE[at + words.len()..].starts_with(['.', ':', ';'])) {
         c.fail(&format!("docs/SCOPE.md does not say: {}", words), String::new());
     }
 }
@@ -302,61 +311,156 @@ fn lines_of_section_17(c: &mut Check) {
     in_scope(c, "on speeds 7 2 with c = 9 the bottleneck is 0/7.");
 }
 
-/// A trial: where it fails, its next bid.
+/// A trial with its answer: 1 and the number of machines that its walk came to, or 0 and the next bid.
 struct Tried {
     name: &'static str,
     weights: &'static [u32],
     speeds: &'static [u32],
     bound: (u64, u64),
-    next: Option<(u64, u64)>,
+    said: &'static [u64],
     separators: &'static [u32],
 }
 
-/// The trials of the scope, those that fail with the words that it begins with.
+/// The trials of the scope, all but the one called A with the words that it begins with.
 #[rustfmt::skip]
-const TRIALS: [Tried; 6] = [
-    Tried { name: "A trial of A", weights: JOBS[0].weights, speeds: JOBS[0].speeds, bound: (3, 1), next: Some((11, 3)), separators: &[0, 1, 2] },
-    Tried { name: "A", weights: JOBS[0].weights, speeds: JOBS[0].speeds, bound: (11, 3), next: None, separators: &[0, 1, 3] },
-    Tried { name: "A", weights: JOBS[0].weights, speeds: JOBS[0].speeds, bound: (23, 6), next: None, separators: &[0, 1, 3] },
-    Tried { name: "A trial of B", weights: JOBS[1].weights, speeds: JOBS[1].speeds, bound: (4, 1), next: Some((12, 2)), separators: &[0, 1, 3] },
-    Tried { name: "A trial of E", weights: JOBS[4].weights, speeds: JOBS[4].speeds, bound: (5, 1), next: Some((6, 1)), separators: &[0, 0, 0] },
-    Tried { name: "Of weights 2 0 3 on one machine of speed 1 a trial", weights: &[2, 0, 3], speeds: &[1], bound: (2, 1), next: Some((5, 1)), separators: &[0, 2] },
+const TRIALS: [Tried; 11] = [
+    Tried { name: "A trial of A", weights: JOBS[0].weights, speeds: JOBS[0].speeds, bound: (3, 1), said: &[0, 11, 3], separators: &[0, 1, 2] },
+    Tried { name: "A trial of A", weights: JOBS[0].weights, speeds: JOBS[0].speeds, bound: (11, 3), said: &[1, 2], separators: &[0, 1, 3] },
+    Tried { name: "A", weights: JOBS[0].weights, speeds: JOBS[0].speeds, bound: (23, 6), said: &[1, 2], separators: &[0, 1, 3] },
+    Tried { name: "A trial of B", weights: JOBS[1].weights, speeds: JOBS[1].speeds, bound: (4, 1), said: &[0, 12, 2], separators: &[0, 1, 3] },
+    Tried { name: "A trial of E", weights: JOBS[4].weights, speeds: JOBS[4].speeds, bound: (5, 1), said: &[0, 6, 1], separators: &[0, 0, 0] },
+    Tried { name: "Of weights 2 0 3 on one machine of speed 1 a trial", weights: &[2, 0, 3], speeds: &[1], bound: (2, 1), said: &[0, 5, 1], separators: &[0, 2] },
+    Tried { name: "A trial of A", weights: JOBS[0].weights, speeds: JOBS[0].speeds, bound: (12, 1), said: &[1, 1], separators: &[0, 3, 3] },
+    Tried { name: "A trial of D", weights: JOBS[3].weights, speeds: JOBS[3].speeds, bound: (0, 1), said: &[1, 1], separators: &[0, 2, 2] },
+    Tried { name: "A trial of C", weights: JOBS[2].weights, speeds: JOBS[2].speeds, bound: (0, 1), said: &[1, 0], separators: &[0, 0, 0] },
+    Tried { name: "Of weights 2 3 0 0 on speeds 1 1 1 a trial", weights: &[2, 3, 0, 0], speeds: &[1, 1, 1], bound: (3, 1), said: &[1, 2], separators: &[0, 1, 4, 4] },
+    Tried { name: "Of weights 6 on speeds 1 2 1 a trial", weights: &[6], speeds: &[1, 2, 1], bound: (3, 1), said: &[1, 2], separators: &[0, 0, 1, 1] },
 ];
 
 /// Worked by hand.
 #[rustfmt::skip]
 const MORE_TRIALS: [Tried; 14] = [
-    Tried { name: "nought", weights: JOBS[1].weights, speeds: JOBS[1].speeds, bound: (0, 1), next: Some((4, 1)), separators: &[0, 0, 0] },
-    Tried { name: "no tiles", weights: &[], speeds: &[7, 2], bound: (0, 1), next: None, separators: &[0, 0, 0] },
-    Tried { name: "none reached, 0 in front of it and behind", weights: &[0, 5, 0, 0, 7, 0], speeds: &[1, 1], bound: (5, 1), next: Some((7, 1)), separators: &[0, 4, 4] },
-    Tried { name: "some reached, a machine without a tile", weights: &[3, 0, 2, 4, 0], speeds: &[1, 2, 1], bound: (2, 1), next: Some((5, 2)), separators: &[0, 0, 2, 3] },
-    Tried { name: "0 taken along by the last", weights: &[2, 2, 0, 0, 9], speeds: &[1, 1], bound: (2, 1), next: Some((4, 1)), separators: &[0, 1, 4] },
-    Tried { name: "0 at the end not reached", weights: &[1, 1, 1, 0], speeds: &[1, 1], bound: (1, 1), next: Some((2, 1)), separators: &[0, 1, 2] },
-    Tried { name: "the last alone reaches any", weights: &[5, 1, 1, 9, 1], speeds: &[1, 1, 10], bound: (1, 1), next: Some((17, 10)), separators: &[0, 0, 0, 3] },
-    Tried { name: "between two bids of the last", weights: &[1, 2, 2, 2], speeds: &[2, 3], bound: (4, 3), next: Some((3, 2)), separators: &[0, 1, 3] },
-    Tried { name: "one machine, none reached", weights: &[3], speeds: &[2], bound: (1, 1), next: Some((3, 2)), separators: &[0, 0] },
-    Tried { name: "one machine, 0 reached", weights: &[0, 0, 4, 1], speeds: &[1], bound: (0, 1), next: Some((5, 1)), separators: &[0, 2] },
-    Tried { name: "the most and heaviest tiles, shares of just the bound", weights: &[WEIGHT; TILES], speeds: &[SPEED; 2], bound: (BOUND_LOAD, BOUND_SPEED), next: Some((1_001_000_000, 10_000)), separators: &[0, 1000, 2000] },
-    Tried { name: "the same, as little below it as can be", weights: &[WEIGHT; TILES], speeds: &[SPEED; 2], bound: (BOUND_LOAD - 1, BOUND_SPEED), next: Some((1_000_000_000, 10_000)), separators: &[0, 999, 1998] },
-    Tried { name: "a last share of more than 30 bits", weights: &[WEIGHT; TILES], speeds: &[1, SPEED], bound: (150_000, 1), next: Some((2_048_000_000, 10_000)), separators: &[0, 0, 1500] },
-    Tried { name: "the greatest bound", weights: &[WEIGHT; TILES], speeds: &[1, 1], bound: (BOUND_LOAD, 1), next: None, separators: &[0, 2048, 2048] },
+    Tried { name: "nought", weights: JOBS[1].weights, speeds: JOBS[1].speeds, bound: (0, 1), said: &[0, 4, 1], separators: &[0, 0, 0] },
+    Tried { name: "no tiles", weights: &[], speeds: &[7, 2], bound: (0, 1), said: &[1, 0], separators: &[0, 0, 0] },
+    Tried { name: "none reached, 0 in front of it and behind", weights: &[0, 5, 0, 0, 7, 0], speeds: &[1, 1], bound: (5, 1), said: &[0, 7, 1], separators: &[0, 4, 4] },
+    Tried { name: "some reached, a machine without a tile", weights: &[3, 0, 2, 4, 0], speeds: &[1, 2, 1], bound: (2, 1), said: &[0, 5, 2], separators: &[0, 0, 2, 3] },
+    Tried { name: "0 taken along by the last", weights: &[2, 2, 0, 0, 9], speeds: &[1, 1], bound: (2, 1), said: &[0, 4, 1], separators: &[0, 1, 4] },
+    Tried { name: "0 at the end not reached", weights: &[1, 1, 1, 0], speeds: &[1, 1], bound: (1, 1), said: &[0, 2, 1], separators: &[0, 1, 2] },
+    Tried { name: "the last alone reaches any", weights: &[5, 1, 1, 9, 1], speeds: &[1, 1, 10], bound: (1, 1), said: &[0, 17, 10], separators: &[0, 0, 0, 3] },
+    Tried { name: "between two bids of the last", weights: &[1, 2, 2, 2], speeds: &[2, 3], bound: (4, 3), said: &[0, 3, 2], separators: &[0, 1, 3] },
+    Tried { name: "one machine, none reached", weights: &[3], speeds: &[2], bound: (1, 1), said: &[0, 3, 2], separators: &[0, 0] },
+    Tried { name: "one machine, 0 reached", weights: &[0, 0, 4, 1], speeds: &[1], bound: (0, 1), said: &[0, 5, 1], separators: &[0, 2] },
+    Tried { name: "the most and heaviest tiles, shares of just the bound", weights: &[WEIGHT; TILES], speeds: &[SPEED; 2], bound: (BOUND_LOAD, BOUND_SPEED), said: &[0, 1_001_000_000, 10_000], separators: &[0, 1000, 2000] },
+    Tried { name: "the same, as little below it as can be", weights: &[WEIGHT; TILES], speeds: &[SPEED; 2], bound: (BOUND_LOAD - 1, BOUND_SPEED), said: &[0, 1_000_000_000, 10_000], separators: &[0, 999, 1998] },
+    Tried { name: "a last share of more than 30 bits", weights: &[WEIGHT; TILES], speeds: &[1, SPEED], bound: (150_000, 1), said: &[0, 2_048_000_000, 10_000], separators: &[0, 0, 1500] },
+    Tried { name: "the greatest bound", weights: &[WEIGHT; TILES], speeds: &[1, 1], bound: (BOUND_LOAD, 1), said: &[1, 1], separators: &[0, 2048, 2048] },
 ];
 
-/// Of the second edition, each with its start-up work: that of the scope, the others worked by hand.
+/// The separators of the longest row.
+const ENTRIES: usize = MACHINES + 1;
+
+/// So many numbers: some in front, some at the end, and the same between.
+const fn list<const LEN: usize>(front: &[u32], between: u32, end: &[u32]) -> [u32; LEN] {
+    let mut list = [between; LEN];
+    let mut k = 0;
+    while k < front.len() {
+        list[k] = front[k];
+        k += 1;
+    }
+    k = 0;
+    while k < end.len() {
+        list[LEN - end.len() + k] = end[k];
+        k += 1;
+    }
+    list
+}
+
+/// The separators of the longest row where each machine takes so many tiles as long as there are any.
+const fn steps(each: usize, tiles: usize) -> [u32; ENTRIES] {
+    let mut list = [0; ENTRIES];
+    let mut p = 0;
+    while p < ENTRIES {
+        list[p] = if each * p < tiles { each * p } else { tiles } as u32;
+        p += 1;
+    }
+    list
+}
+
+/// Short strips, and what a walk that ends early leaves, worked by hand: the longest row with one, two and three tiles, one to a machine, several
+/// on the first, on the second since the first is too slow, on the last but one, on the last alone; as many tiles as machines, and one fewer; a few tiles that
+/// weigh in front of as many as there can be; weights 0 at the end; machines between without a tile; no tiles; one machine; the last machine needed or not.
 #[rustfmt::skip]
-const SECOND_TRIALS: [(u32, Tried); 12] = [
-    (2, Tried { name: "A trial of M", weights: STARTED[0].1.weights, speeds: STARTED[0].1.speeds, bound: (1, 1), next: Some((3, 1)), separators: &[0, 0, 1] }),
-    (5, Tried { name: "A with start-up work, at the ideal", weights: JOBS[0].weights, speeds: JOBS[0].speeds, bound: (3, 1), next: Some((17, 3)), separators: &[0, 0, 2] }),
-    (5, Tried { name: "A with start-up work, at its bottleneck", weights: JOBS[0].weights, speeds: JOBS[0].speeds, bound: (17, 3), next: None, separators: &[0, 0, 3] }),
-    (5, Tried { name: "A with start-up work, at 6/1", weights: JOBS[0].weights, speeds: JOBS[0].speeds, bound: (6, 1), next: None, separators: &[0, 1, 3] }),
-    (0, Tried { name: "A in the second edition", weights: JOBS[0].weights, speeds: JOBS[0].speeds, bound: (3, 1), next: Some((11, 3)), separators: &[0, 1, 2] }),
-    (3, Tried { name: "just the start-up work", weights: &[0, 4], speeds: &[1, 1], bound: (3, 1), next: Some((7, 1)), separators: &[0, 1, 1] }),
-    (3, Tried { name: "less than the start-up work", weights: &[0, 4], speeds: &[1, 1], bound: (2, 1), next: Some((3, 1)), separators: &[0, 0, 0] }),
-    (9, Tried { name: "start-up work and no tiles, at nought", weights: &[], speeds: &[7, 2], bound: (0, 1), next: None, separators: &[0, 0, 0] }),
-    (4, Tried { name: "one machine with start-up work", weights: &[3], speeds: &[2], bound: (3, 1), next: Some((7, 2)), separators: &[0, 0] }),
-    (4, Tried { name: "the first machine cannot start", weights: &[1, 1, 1, 4], speeds: &[1, 2, 3], bound: (5, 2), next: Some((6, 2)), separators: &[0, 0, 1, 3] }),
-    (1_000_000, Tried { name: "the most of everything, at 100,000/1", weights: &[WEIGHT; TILES], speeds: &[SPEED; 2], bound: (BOUND_LOAD, BOUND_SPEED), next: Some((1_001_000_000, 10_000)), separators: &[0, 999, 1998] }),
-    (1_000_000, Tried { name: "the most of everything, at the greatest bound", weights: &[WEIGHT; TILES], speeds: &[1, 1], bound: (BOUND_LOAD, 1), next: None, separators: &[0, 2048, 2048] }),
+const SHORT: [Tried; 38] = [
+    Tried { name: "one tile on the longest row", weights: &[5], speeds: &[1; MACHINES], bound: (5, 1), said: &[1, 1], separators: &list::<ENTRIES>(&[0], 1, &[]) },
+    Tried { name: "one tile that is too heavy for the longest row", weights: &[5], speeds: &[1; MACHINES], bound: (4, 1), said: &[0, 5, 1], separators: &[0; ENTRIES] },
+    Tried { name: "two tiles, one a machine", weights: &[5, 5], speeds: &[1; MACHINES], bound: (5, 1), said: &[1, 2], separators: &list::<ENTRIES>(&[0, 1], 2, &[]) },
+    Tried { name: "two tiles on the first machine", weights: &[5, 5], speeds: &[1; MACHINES], bound: (10, 1), said: &[1, 1], separators: &list::<ENTRIES>(&[0], 2, &[]) },
+    Tried { name: "three tiles, one a machine", weights: &[5, 5, 5], speeds: &[1; MACHINES], bound: (5, 1), said: &[1, 3], separators: &list::<ENTRIES>(&[0, 1, 2], 3, &[]) },
+    Tried { name: "three tiles, two on the first machine", weights: &[5, 5, 5], speeds: &[1; MACHINES], bound: (10, 1), said: &[1, 2], separators: &list::<ENTRIES>(&[0, 2], 3, &[]) },
+    Tried { name: "three tiles on the first machine", weights: &[5, 5, 5], speeds: &[1; MACHINES], bound: (15, 1), said: &[1, 1], separators: &list::<ENTRIES>(&[0], 3, &[]) },
+    Tried { name: "three tiles, as little below that as can be", weights: &[5, 5, 5], speeds: &[1; MACHINES], bound: (14_999_999_999, 1_000_000_000), said: &[1, 2], separators: &list::<ENTRIES>(&[0, 2], 3, &[]) },
+    Tried { name: "one tile, the first machine too slow", weights: &[5], speeds: &list::<MACHINES>(&[1, 5], 1, &[]), bound: (1, 1), said: &[1, 2], separators: &list::<ENTRIES>(&[0, 0], 1, &[]) },
+    Tried { name: "two tiles, the first machine too slow", weights: &[5, 5], speeds: &list::<MACHINES>(&[1, 10], 1, &[]), bound: (1, 1), said: &[1, 2], separators: &list::<ENTRIES>(&[0, 0], 2, &[]) },
+    Tried { name: "three tiles, the first machine too slow", weights: &[5, 5, 5], speeds: &list::<MACHINES>(&[1, 15], 1, &[]), bound: (1, 1), said: &[1, 2], separators: &list::<ENTRIES>(&[0, 0], 3, &[]) },
+    Tried { name: "one tile for the last machine but one alone", weights: &[5], speeds: &list::<MACHINES>(&[], 1, &[5, 1]), bound: (1, 1), said: &[1, 95], separators: &list::<ENTRIES>(&[], 0, &[1, 1]) },
+    Tried { name: "one tile for the last machine alone", weights: &[5], speeds: &list::<MACHINES>(&[], 1, &[5]), bound: (1, 1), said: &[1, 96], separators: &list::<ENTRIES>(&[], 0, &[1]) },
+    Tried { name: "two tiles for the last machine alone", weights: &[5, 5], speeds: &list::<MACHINES>(&[], 1, &[10]), bound: (1, 1), said: &[1, 96], separators: &list::<ENTRIES>(&[], 0, &[2]) },
+    Tried { name: "three tiles for the last machine alone", weights: &[5, 5, 5], speeds: &list::<MACHINES>(&[], 1, &[15]), bound: (1, 1), said: &[1, 96], separators: &list::<ENTRIES>(&[], 0, &[3]) },
+    Tried { name: "one tile for the first machine, one for the last", weights: &[1, 5], speeds: &list::<MACHINES>(&[], 1, &[5]), bound: (1, 1), said: &[1, 96], separators: &list::<ENTRIES>(&[0], 1, &[2]) },
+    Tried { name: "as many tiles as machines", weights: &[5; MACHINES], speeds: &[1; MACHINES], bound: (5, 1), said: &[1, 96], separators: &steps(1, MACHINES) },
+    Tried { name: "one tile fewer than machines", weights: &[5; MACHINES - 1], speeds: &[1; MACHINES], bound: (5, 1), said: &[1, 95], separators: &steps(1, MACHINES - 1) },
+    Tried { name: "the most and heaviest tiles, 22 a machine", weights: &[WEIGHT; TILES], speeds: &[1; MACHINES], bound: (22_000_000, 1), said: &[1, 94], separators: &steps(22, TILES) },
+    Tried { name: "the most tiles, all weight at the front", weights: &list::<TILES>(&[WEIGHT], 0, &[]), speeds: &[1; MACHINES], bound: (1_000_000, 1), said: &[1, 1], separators: &list::<ENTRIES>(&[0], 2048, &[]) },
+    Tried { name: "the same, as little below that as can be", weights: &list::<TILES>(&[WEIGHT], 0, &[]), speeds: &[1; MACHINES], bound: (99_999_999_999_999, 100_000_000), said: &[0, 1_000_000, 1], separators: &[0; ENTRIES] },
+    Tried { name: "the most tiles, two that weigh at the front", weights: &list::<TILES>(&[WEIGHT, WEIGHT], 0, &[]), speeds: &[1; MACHINES], bound: (1_000_000, 1), said: &[1, 2], separators: &list::<ENTRIES>(&[0, 1], 2048, &[]) },
+    Tried { name: "the most tiles, all weight at the end, for the last machine alone", weights: &list::<TILES>(&[], 0, &[5]), speeds: &list::<MACHINES>(&[], 1, &[5]), bound: (1, 1), said: &[1, 96], separators: &list::<ENTRIES>(&[0], 2047, &[2048]) },
+    Tried { name: "the most tiles, nothing weighs", weights: &[0; TILES], speeds: &[1; MACHINES], bound: (0, 1), said: &[1, 1], separators: &list::<ENTRIES>(&[0], 2048, &[]) },
+    Tried { name: "0 at the end", weights: &[2, 2, 0, 0], speeds: &[1, 1, 1], bound: (2, 1), said: &[1, 2], separators: &[0, 1, 4, 4] },
+    Tried { name: "0 at the end, on the last machine", weights: &[2, 2, 0], speeds: &[1, 1], bound: (2, 1), said: &[1, 2], separators: &[0, 1, 3] },
+    Tried { name: "0 behind a tile for the last machine alone", weights: &[1, 9, 0, 0], speeds: &[1, 1, 9], bound: (1, 1), said: &[1, 3], separators: &[0, 1, 1, 4] },
+    Tried { name: "a machine between without a tile", weights: &[0, 9], speeds: &[1, 1, 9, 1], bound: (1, 1), said: &[1, 3], separators: &[0, 1, 1, 2, 2] },
+    Tried { name: "only 0 for the first machine", weights: &[0, 0, 9, 0], speeds: &[1, 9, 1], bound: (1, 1), said: &[1, 2], separators: &[0, 2, 4, 4] },
+    Tried { name: "no tiles on one machine", weights: &[], speeds: &[3], bound: (0, 1), said: &[1, 0], separators: &[0, 0] },
+    Tried { name: "no tiles on the longest row", weights: &[], speeds: &[1; MACHINES], bound: (0, 1), said: &[1, 0], separators: &[0; ENTRIES] },
+    Tried { name: "no tiles, at the greatest bound", weights: &[], speeds: &[SPEED; MACHINES], bound: (BOUND_LOAD, 1), said: &[1, 0], separators: &[0; ENTRIES] },
+    Tried { name: "one machine", weights: &[4, 0, 3], speeds: &[5], bound: (7, 5), said: &[1, 1], separators: &[0, 3] },
+    Tried { name: "one machine, a tile of weight 0", weights: &[0], speeds: &[5], bound: (0, 1), said: &[1, 1], separators: &[0, 1] },
+    Tried { name: "one machine, the most and heaviest tiles", weights: &[WEIGHT; TILES], speeds: &[SPEED], bound: (BOUND_LOAD, 1), said: &[1, 1], separators: &[0, 2048] },
+    Tried { name: "the last of three machines needed", weights: &[2, 2, 2], speeds: &[1, 1, 1], bound: (3, 1), said: &[1, 3], separators: &[0, 1, 2, 3] },
+    Tried { name: "the last of three machines not needed", weights: &[2, 2, 2], speeds: &[1, 1, 1], bound: (4, 1), said: &[1, 2], separators: &[0, 2, 3, 3] },
+    Tried { name: "the greatest bound on the longest row", weights: &[WEIGHT; TILES], speeds: &[1; MACHINES], bound: (BOUND_LOAD, 1), said: &[1, 1], separators: &list::<ENTRIES>(&[0], 2048, &[]) },
+];
+
+/// Of the second edition, each with its start-up work: the two of the scope, the others worked by hand.
+#[rustfmt::skip]
+const SECOND_TRIALS: [(u32, Tried); 27] = [
+    (2, Tried { name: "A trial of M", weights: STARTED[0].1.weights, speeds: STARTED[0].1.speeds, bound: (1, 1), said: &[0, 3, 1], separators: &[0, 0, 1] }),
+    (2, Tried { name: "A trial of M", weights: STARTED[0].1.weights, speeds: STARTED[0].1.speeds, bound: (14, 1), said: &[1, 1], separators: &[0, 3, 3] }),
+    (5, Tried { name: "A with start-up work, at the ideal", weights: JOBS[0].weights, speeds: JOBS[0].speeds, bound: (3, 1), said: &[0, 17, 3], separators: &[0, 0, 2] }),
+    (5, Tried { name: "A with start-up work, at its bottleneck", weights: JOBS[0].weights, speeds: JOBS[0].speeds, bound: (17, 3), said: &[1, 2], separators: &[0, 0, 3] }),
+    (5, Tried { name: "A with start-up work, at 6/1", weights: JOBS[0].weights, speeds: JOBS[0].speeds, bound: (6, 1), said: &[1, 2], separators: &[0, 1, 3] }),
+    (0, Tried { name: "A in the second edition", weights: JOBS[0].weights, speeds: JOBS[0].speeds, bound: (3, 1), said: &[0, 11, 3], separators: &[0, 1, 2] }),
+    (3, Tried { name: "just the start-up work", weights: &[0, 4], speeds: &[1, 1], bound: (3, 1), said: &[0, 7, 1], separators: &[0, 1, 1] }),
+    (3, Tried { name: "less than the start-up work", weights: &[0, 4], speeds: &[1, 1], bound: (2, 1), said: &[0, 3, 1], separators: &[0, 0, 0] }),
+    (9, Tried { name: "start-up work and no tiles, at nought", weights: &[], speeds: &[7, 2], bound: (0, 1), said: &[1, 0], separators: &[0, 0, 0] }),
+    (4, Tried { name: "one machine with start-up work", weights: &[3], speeds: &[2], bound: (3, 1), said: &[0, 7, 2], separators: &[0, 0] }),
+    (4, Tried { name: "the first machine cannot start", weights: &[1, 1, 1, 4], speeds: &[1, 2, 3], bound: (5, 2), said: &[0, 6, 2], separators: &[0, 0, 1, 3] }),
+    (1_000_000, Tried { name: "the most of everything, at 100,000/1", weights: &[WEIGHT; TILES], speeds: &[SPEED; 2], bound: (BOUND_LOAD, BOUND_SPEED), said: &[0, 1_001_000_000, 10_000], separators: &[0, 999, 1998] }),
+    (1_000_000, Tried { name: "the most of everything, at the greatest bound", weights: &[WEIGHT; TILES], speeds: &[1, 1], bound: (BOUND_LOAD, 1), said: &[1, 1], separators: &[0, 2048, 2048] }),
+    (4, Tried { name: "two machines cannot start, and count", weights: &[1], speeds: &[1, 1, 5, 1], bound: (1, 1), said: &[1, 3], separators: &[0, 0, 0, 1, 1] }),
+    (3, Tried { name: "the last machine alone can start, 0 in front and behind", weights: &[0, 0, 4, 0], speeds: &[1, 1, 7], bound: (1, 1), said: &[1, 3], separators: &[0, 0, 0, 4] }),
+    (1_000_000, Tried { name: "the last of the longest row alone can start", weights: &[0], speeds: &list::<MACHINES>(&[], 9_999, &[SPEED]), bound: (100, 1), said: &[1, 96], separators: &list::<ENTRIES>(&[], 0, &[1]) }),
+    (9, Tried { name: "start-up work and no tiles, on the longest row", weights: &[], speeds: &[1; MACHINES], bound: (0, 1), said: &[1, 0], separators: &[0; ENTRIES] }),
+    (9, Tried { name: "start-up work and no tiles, on one machine", weights: &[], speeds: &[1], bound: (0, 1), said: &[1, 0], separators: &[0, 0] }),
+    (5, Tried { name: "O at its bottleneck", weights: STARTED[2].1.weights, speeds: STARTED[2].1.speeds, bound: (5, 1), said: &[1, 1], separators: &[0, 2, 2] }),
+    (4, Tried { name: "Q at its bottleneck", weights: STARTED[3].1.weights, speeds: STARTED[3].1.speeds, bound: (11, 3), said: &[1, 1], separators: &[0, 2] }),
+    (2, Tried { name: "start-up work, one tile a machine", weights: &[1, 1, 1], speeds: &[1, 1, 1, 1], bound: (3, 1), said: &[1, 3], separators: &[0, 1, 2, 3, 3] }),
+    (2, Tried { name: "start-up work, two tiles on the first machine", weights: &[1, 1, 1], speeds: &[1, 1, 1, 1], bound: (4, 1), said: &[1, 2], separators: &[0, 2, 3, 3, 3] }),
+    (0, Tried { name: "three tiles on the longest row in the second edition", weights: &[5, 5, 5], speeds: &[1; MACHINES], bound: (5, 1), said: &[1, 3], separators: &list::<ENTRIES>(&[0, 1, 2], 3, &[]) }),
+    (1, Tried { name: "three tiles on the longest row with start-up work, one a machine", weights: &[5, 5, 5], speeds: &[1; MACHINES], bound: (6, 1), said: &[1, 3], separators: &list::<ENTRIES>(&[0, 1, 2], 3, &[]) }),
+    (1, Tried { name: "the same, two on the first machine", weights: &[5, 5, 5], speeds: &[1; MACHINES], bound: (11, 1), said: &[1, 2], separators: &list::<ENTRIES>(&[0, 2], 3, &[]) }),
+    (1_000_000, Tried { name: "the most tiles of weight 0, just the start-up work", weights: &[0; TILES], speeds: &[1; MACHINES], bound: (1_000_000, 1), said: &[1, 1], separators: &list::<ENTRIES>(&[0], 2048, &[]) }),
+    (1_000_000, Tried { name: "the most tiles of weight 0, less than the start-up work", weights: &[0; TILES], speeds: &[1; MACHINES], bound: (999_999, 1), said: &[0, 1_000_000, 1], separators: &[0; ENTRIES] }),
 ];
 
 /// The solver must give what is known of a trial, then the planner, whatever the list held.
@@ -365,16 +469,20 @@ fn tried(c: &mut Check, startup: Option<u32>, k: &Tried) {
     let bound = (k.bound.0 as u128, k.bound.1 as u128);
     let separators: Vec<usize> = k.separators.iter().map(|&s| s as usize).collect();
     let found = methods::trial(&job, bound);
-    let mut good = found == Trial { separators, next: k.next.map(|(load, speed)| (load as u128, speed as u128)) };
+    let (next, machines) = match *k.said {
+        [0, load, speed] => (Some((load as u128, speed as u128)), None),
+        [1, many] => (None, Some(many as usize)),
+        _ => unreachable!(),
+    };
+    let mut good = found == Trial { separators, next, machines };
     good &= !is_tiny(&job) || slow::furthest(&job, bound) == found.separators;
     if !good {
         c.fail(&format!("the solver gives {:?} for trial {}", found, k.name), String::new());
     }
-    let said = k.next.map_or(vec![1], |(load, speed)| vec![0, load, speed]);
     let lent = c.rng.pattern(4 * k.separators.len() + 12);
     for len in [k.separators.len(), k.separators.len() + 3] {
         let edition = c.edition(&job);
-        on_lists(c, &job, Call::Trial(edition, k.bound.0, k.bound.1), &lent[..4 * len], Ok((k.separators, &said)));
+        on_lists(c, &job, Call::Trial(edition, k.bound.0, k.bound.1), &lent[..4 * len], Ok((k.separators, k.said)));
     }
     trials::refilled(c, &Case::of(&job), bound);
 }
@@ -382,17 +490,21 @@ fn tried(c: &mut Check, startup: Option<u32>, k: &Tried) {
 /// The trials as the scope writes them, those worked by hand, and the longest row with the most and heaviest tiles, each machine with none
 /// and with one.
 fn all_tried(c: &mut Check) {
-    for k in TRIALS.iter().chain(&MORE_TRIALS) {
+    for k in TRIALS.iter().chain(&MORE_TRIALS).chain(&SHORT) {
         tried(c, None, k);
     }
     for (startup, k) in &SECOND_TRIALS {
         tried(c, Some(*startup), k);
     }
-    for k in TRIALS.iter().chain([&SECOND_TRIALS[0].1]) {
-        if let Some((load, speed)) = k.next {
-            let (at, over) = k.bound;
-            in_scope(c, &format!("{} at {}/{} fails with next bid {}/{} and writes {}", k.name, at, over, load, speed, text(k.separators)));
-        }
+    for k in TRIALS.iter().filter(|k| k.name != "A").chain([&SECOND_TRIALS[0].1, &SECOND_TRIALS[1].1]) {
+        let ends = match *k.said {
+            [0, load, speed] => format!("fails with next bid {}/{}", load, speed),
+            [_, 1] => "fits, comes to 1 machine".to_string(),
+            [_, many] => format!("fits, comes to {} machines", many),
+            _ => unreachable!(),
+        };
+        let (at, over) = k.bound;
+        sentence(c, &format!("{} at {}/{} {} and writes {}", k.name, at, over, ends, text(k.separators)));
     }
     let [(a, b), (d, e)] = [TRIALS[1].bound, TRIALS[2].bound];
     in_scope(c, &format!("; at {}/{} it fits; at {}/{} it fits with {}.", a, b, d, e, text(TRIALS[2].separators)));

@@ -24,6 +24,7 @@ pub fn run(c: &mut Check, count: u64) {
             205..=299 => small::random_row(c),
             300..=302 => trials::middle(c),
             303..=349 => trials::random(c),
+            350..=352 => trials::random_short(c),
             _ => small::random(c),
         }
         if shown.elapsed() >= Duration::from_secs(1) || k + 1 == count {

@@ -47,7 +47,7 @@ fn number(name: &str, otherwise: u64) -> u64 {
 fn whole(c: &mut Check) {
     let times = number("HELD_TIMES", 1) as usize;
     let talk = number("HELD_TALK", 0) != 0;
-    let parts: [(&'static str, &dyn Fn(&mut Check)); 10] = [
+    let parts: [(&'static str, &dyn Fn(&mut Check)); 11] = [
         ("known jobs", &known::run),
         ("refusals", &refusals::run),
         ("counts", &counts::run),
@@ -56,6 +56,7 @@ fn whole(c: &mut Check) {
         ("listings", &|c| listing::run(c, times)),
         ("plan files", &|c| grades::run(c, times)),
         ("trials", &|c| trials::run(c, times)),
+        ("short strips", &|c| trials::strips(c, times)),
         ("small jobs", &|c| small::run(c, times)),
         ("large jobs", &|c| large::run(c, times)),
     ];
@@ -71,8 +72,8 @@ fn whole(c: &mut Check) {
     // A run in which some answer never came up would be no test of it.
     let unseen = c.unseen();
     let mut never = c.searches.contains(&0) || c.noughts.contains(&0) || c.others.contains(&0) || c.editions.contains(&0);
-    never |= c.splits.contains(&0) || c.halved.contains(&0) || c.fits == 0 || c.failed.contains(&0);
-    let mut seen = format!("{} fits, failed trials {:?}, searches {:?}", c.fits, c.failed, c.searches);
+    never |= c.splits.contains(&0) || c.halved.contains(&0) || c.fits.contains(&0) || c.failed.contains(&0);
+    let mut seen = format!("fits {:?}, failed trials {:?}, searches {:?}", c.fits, c.failed, c.searches);
     seen += &format!(", plans at and off the ideal {:?}, editions {:?}", c.noughts, c.editions);
     seen += &format!(", best plans of other separators {:?}, splits {:?}, halved rows {:?}", c.others, c.splits, c.halved);
     if talk {

@@ -3,11 +3,13 @@
 use crate::job::Job;
 use crate::slow::{self, less, Bound};
 
-/// What a trial comes to: the P + 1 separators that it writes, whether it fits or fails, and where it fails the least next bid.
+/// What a trial comes to: the P + 1 separators that it writes; where it fails the least next bid, and where it fits the number of machines
+/// that its walk came to.
 #[derive(Clone, Debug, PartialEq)]
 pub struct Trial {
     pub separators: Vec<usize>,
     pub next: Option<Bound>,
+    pub machines: Option<usize>,
 }
 
 impl Trial {
@@ -24,7 +26,7 @@ impl Trial {
 
 /// A trial: each machine takes tiles up to the greatest index whose share is within the bound; with its first tile it has the start-up
 /// work. Each before the last bids its share with the next tile added; the last bids all that is left, and where that is within the bound
-/// the trial fits.
+/// the trial fits. Then the machines that it came to are the smallest p whose separator is N; s0 is, where there are no tiles.
 pub fn trial(job: &Job, bound: Bound) -> Trial {
     let tiles = job.weights.len();
     let mut separators = vec![0];
@@ -46,7 +48,8 @@ pub fn trial(job: &Job, bound: Bound) -> Trial {
         let bid = if p + 1 == job.speeds.len() {
             let left = (job.load(start, tiles), share.1);
             if !less(bound, left) {
-                return Trial { separators, next: None };
+                let machines = (0..separators.len()).find(|&p| separators[p] == tiles);
+                return Trial { separators, next: None, machines };
             }
             left
         } else if at < tiles {
@@ -58,7 +61,7 @@ pub fn trial(job: &Job, bound: Bound) -> Trial {
             least = Some(bid);
         }
     }
-    Trial { separators, next: least }
+    Trial { separators, next: least, machines: None }
 }
 
 /// The quick plan: the smallest index whose W(1,s) is nearest to the machine's target, among all indices.

@@ -1,5 +1,5 @@
 //! Trials, section 3 of the scope: at any bound, next to every bid, in turn from bid to bid, with a last machine that reaches none, some or
-//! all of what is left, and in lists that held anything before.
+//! all of what is left, of short strips on long rows, and in lists that held anything before.
 
 use crate::answers::{self, bytes_of, Solved};
 use crate::check::Check;
@@ -10,7 +10,7 @@ use crate::methods::{self, Trial};
 use crate::planner::Call;
 use crate::rng::Rng;
 use crate::slow::{self, less, Bound};
-use crate::{every, large, small};
+use crate::{every, fast, large, small};
 
 /// A job to be tried, its lists as a call takes them, its best division and the bottleneck of that.
 pub struct Case {
@@ -58,31 +58,60 @@ fn in_great_numbers((load, speed): Bound) -> Bound {
     (load * times, speed * times)
 }
 
-/// A trial in a list that holds this, with so many entries for its answer.
-pub fn one(c: &mut Check, t: &Case, bound: Bound, lent: &[u8], entries: usize) {
-    if can_lend(bound) && lent.len() >= 4 * t.entries() {
-        let found = methods::trial(&t.job, bound);
-        sound(c, t, bound, &found);
-        count(c, &t.job, bound, &found);
+/// A trial in a list that holds this, with so many entries for its answer; and what the solver's own comes to, where it is accepted.
+pub fn one(c: &mut Check, t: &Case, bound: Bound, lent: &[u8], entries: usize) -> Option<Trial> {
+    let accepted = can_lend(bound) && lent.len() >= 4 * t.entries();
+    let found = accepted.then(|| methods::trial(&t.job, bound));
+    if let Some(found) = &found {
+        sound(c, t, bound, found);
+        count(c, &t.job, bound, found, entries);
     }
     let (answer, edition) = (c.rng.pattern(8 * entries), c.edition(&t.job));
     let call = Call::Trial(edition, bound.0 as u64, bound.1 as u64);
     c.judge(call, &[&t.speeds, &t.weights, lent, &answer], None);
+    found
 }
 
 /// The trial that the test expects must itself be as it has to. It fits exactly where the best division stays within the bound, and
-/// where it writes N last; its next bid lies above the bound and not above the best. Of a tiny job its separators are as far as the first
-/// machines get, however tiles are given to them; of any other each is the greatest index whose share is within the bound.
+/// where it writes N last; its next bid lies above the bound and not above the best. Of a tiny job and of up to three tiles its separators
+/// are as far as the first machines get, however tiles are given to them, and it comes to as many machines as are needed so (scope 3.14);
+/// of any other each separator is the greatest index whose share is within the bound.
 fn sound(c: &mut Check, t: &Case, bound: Bound, found: &Trial) {
-    let (job, best) = (&t.job, t.bottleneck);
+    let (job, best, tiles) = (&t.job, t.bottleneck, t.job.weights.len());
     let mut good = match found.next {
         None => !less(bound, best),
         Some(next) => less(bound, best) && less(bound, next) && !less(best, next),
     };
-    good &= found.fits() == (found.last().1 == job.weights.len());
-    good &= if is_tiny(job) { found.separators == slow::furthest(job, bound) } else { is_greatest(job, bound, &found.separators) };
+    good &= found.fits() == (found.last().1 == tiles) && found.fits() == found.machines.is_some();
+    if is_tiny(job) || tiles <= 3 {
+        let furthest = slow::furthest(job, bound);
+        good &= found.separators == furthest && found.machines == furthest.iter().position(|&s| s == tiles);
+    } else {
+        good &= is_greatest(job, bound, &found.separators);
+    }
+    good &= found.machines.map_or(true, |many| is_fewest(job, bound, &found.separators, many));
     if !good {
         c.fail(&format!("the solver's own trial at {:?} is wrong: {:?}", bound, found), format!("  {:?}", job));
+    }
+}
+
+/// Whether so many machines are those that a fit comes to: so many separators are below N and each behind them is N (scope 3.12); filled from
+/// the last tile back so many machines take all tiles, and one fewer does not (3.14).
+fn is_fewest(job: &Job, bound: Bound, separators: &[usize], many: usize) -> bool {
+    let tiles = job.weights.len();
+    let mut good = separators.iter().filter(|&&s| s < tiles).count() == many;
+    good &= separators[many..].iter().all(|&s| s == tiles);
+    good && fast::take_all(job, many, bound) && (many == 0 || !fast::take_all(job, many - 1, bound))
+}
+
+/// Of two of the solver's own trials the one at a bound at least as great has no smaller separator (scope 3.11), and where the other fits it
+/// fits too and comes to no more machines (3.15).
+fn in_order(c: &mut Check, t: &Case, one: &(Bound, Trial), other: &(Bound, Trial)) {
+    let (low, high) = if less(other.0, one.0) { (other, one) } else { (one, other) };
+    let mut good = low.1.separators.iter().zip(&high.1.separators).all(|(a, b)| a <= b);
+    good &= low.1.machines.map_or(true, |many| high.1.machines.is_some_and(|other| other <= many));
+    if !good {
+        c.fail(&format!("the solver's own trials are out of order: {:?}, {:?}", low, high), format!("  {:?}", t.job));
     }
 }
 
@@ -97,13 +126,26 @@ fn is_greatest(job: &Job, bound: Bound, separators: &[usize]) -> bool {
     separators.len() == job.speeds.len() + 1 && separators[0] == 0 && (0..job.speeds.len()).all(each)
 }
 
-/// How a trial ended, for what must have come up at the end of the run.
-fn count(c: &mut Check, job: &Job, bound: Bound, found: &Trial) {
-    if found.fits() {
-        c.fits += 1;
+/// How a trial ended, for what must have come up at the end of the run: of fits those whose answer has room for the number of machines.
+fn count(c: &mut Check, job: &Job, bound: Bound, found: &Trial, entries: usize) {
+    let (tiles, machines, (start, end)) = (job.weights.len(), job.speeds.len(), found.last());
+    if let Some(many) = found.machines {
+        let ends = [
+            many == 0,
+            machines == 1 && many == 1,
+            machines > 1 && many == 1,
+            many > 1 && many < machines,
+            machines > 1 && many == machines,
+            found.separators[..=many].windows(2).any(|s| s[0] == s[1]),
+            job.weights.last() == Some(&0),
+            many > 0 && many + 1 < machines,
+            many > 0 && tiles < machines && machines == MACHINES,
+        ];
+        for (count, is) in c.fits.iter_mut().zip(ends) {
+            *count += (is && entries > 1) as u64;
+        }
         return;
     }
-    let (tiles, machines, (start, end)) = (job.weights.len(), job.speeds.len(), found.last());
     let share = (job.load(start, end), job.speeds[machines - 1] as u128);
     let ends = [
         machines > 1 && end == start,
@@ -223,23 +265,28 @@ fn at_every_bid(c: &mut Check, t: &Case) {
         bounds.reverse();
     }
     let mut lent = list_with_room(&mut c.rng, t, t.bottleneck);
+    let mut before: Option<(Bound, Trial)> = None;
     for bound in bounds {
         for near in [below(bound), Some(bound), Some(above(bound))].into_iter().flatten() {
-            one(c, t, near, &lent, 3);
+            let found = one(c, t, near, &lent, 3).map(|found| (near, found));
+            if let (Some(before), Some(found)) = (&before, &found) {
+                in_order(c, t, before, found);
+            }
+            before = found;
             lent = c.after(2);
         }
     }
 }
 
 /// From a bound on each next bid in turn, as little below it and at it, until a trial fits or so many have failed, in one list. Short of the
-/// next bid nothing changes but how far the last machine reaches.
+/// next bid nothing changes but how far the last machine reaches. From the trial that fits it goes on.
 fn in_turn(c: &mut Check, t: &Case, from: Bound, most: usize) {
     let mut lent = list_with_room(&mut c.rng, t, from);
     let mut bound = from;
     one(c, t, bound, &lent, 3);
     for _ in 0..most {
         let found = methods::trial(&t.job, bound);
-        let Some(next) = found.next else { return };
+        let Some(next) = found.next else { return to_fewer(c, t, (bound, found), most.min(MORE)) };
         let short = below(next).unwrap();
         if less(bound, short) {
             let other = methods::trial(&t.job, short);
@@ -257,9 +304,38 @@ fn in_turn(c: &mut Check, t: &Case, from: Bound, most: usize) {
     }
 }
 
+/// How many bounds are tried above the first that fits.
+const MORE: usize = 4;
+
+/// Of a trial that fits the least greater bound at which its walk is another: each machine that it came to, but the last of them, bids its
+/// share with the next tile added. There is none where one machine has all tiles.
+fn next_walk(job: &Job, found: &Trial) -> Option<Bound> {
+    let share = |p: usize| (job.load(found.separators[p], found.separators[p + 1] + 1), job.speeds[p] as u128);
+    (1..found.machines?).map(|p| share(p - 1)).reduce(|a, b| if less(b, a) { b } else { a })
+}
+
+/// From a bound that fits on to those at which the walk is another, as little below each and at it, until one machine has all tiles or so many
+/// have been tried, in one list. Short of such a bound nothing changes; with each no more machines are come to.
+fn to_fewer(c: &mut Check, t: &Case, from: (Bound, Trial), most: usize) {
+    let mut at = from;
+    for _ in 0..most {
+        let Some(next) = next_walk(&t.job, &at.1) else { return };
+        for near in [below(next).filter(|&short| less(at.0, short)), Some(next)].into_iter().flatten() {
+            let lent = c.after(2);
+            let Some(found) = one(c, t, near, &lent, 3) else { return };
+            let found = (near, found);
+            in_order(c, t, &at, &found);
+            if (near == next) == (found.1 == at.1) {
+                c.fail(&format!("the solver's own walks at {:?} and {:?} are wrong", at, found), format!("  {:?}", t.job));
+            }
+            at = found;
+        }
+    }
+}
+
 /// The same job with tiles of weight 0 put in, most of them where shares end: each machine takes along those behind its last tile, and
-/// nothing else changes. Where there is start-up work and the first machine takes no tile, none is put in front of all others, since
-/// that tile could be taken.
+/// nothing else changes, but that without other tiles machine 1 is come to. Where there is start-up work and the first machine takes no
+/// tile, none is put in front of all others, since that tile could be taken.
 fn padded(c: &mut Check, t: &Case, bound: Bound) {
     let found = methods::trial(&t.job, bound);
     let tiles = t.job.weights.len();
@@ -280,7 +356,8 @@ fn padded(c: &mut Check, t: &Case, bound: Bound) {
     let other = Case::of(&Job { startup: t.job.startup, speeds: t.job.speeds.clone(), weights });
     let mut separators: Vec<usize> = found.separators.iter().map(|&s| s + more[..=s].iter().sum::<usize>()).collect();
     separators[0] = 0;
-    let wanted = Trial { separators, next: found.next };
+    let least = !other.job.weights.is_empty() as usize;
+    let wanted = Trial { separators, next: found.next, machines: found.machines.map(|many| many.max(least)) };
     let got = methods::trial(&other.job, bound);
     if got != wanted {
         c.fail(&format!("the solver's own trial at {:?} is {:?}, not {:?}", bound, got, wanted), format!("  {:?}", other.job));
@@ -365,6 +442,109 @@ fn sized(c: &mut Check, machines: usize, tiles: usize) {
 pub fn middle(c: &mut Check) {
     let (machines, tiles) = large::middle_size(&mut c.rng);
     sized(c, machines, tiles);
+}
+
+/// A strip of which so many tiles may weigh, of either edition: with any speeds, or with one machine that is faster than all others; with any
+/// weights, or the greatest; and behind them tiles of weight 0, so that there are so many in all.
+fn strip(r: &mut Rng, machines: usize, weighing: usize, tiles: usize) -> Job {
+    let mut speeds = small::speeds(r, machines);
+    if r.once_in(2) {
+        let fastest = r.pick(&[2, 100, SPEED]);
+        speeds.fill(r.range(1, fastest - 1));
+        let k = r.pick(&[0, 1, machines / 2, machines.saturating_sub(2), machines - 1]);
+        speeds[k.min(machines - 1)] = fastest;
+    }
+    let mut weights = if r.once_in(4) { vec![WEIGHT; weighing] } else { small::weights(r, weighing, &speeds) };
+    weights.resize(tiles, 0);
+    small::job_of(r, speeds, weights)
+}
+
+/// Bounds about which a strip is tried: nought, the best, and those of shares of the tiles that may weigh, on the first machine, on the last and
+/// on any.
+fn strip_bounds(r: &mut Rng, t: &Case, weighing: usize) -> Vec<Bound> {
+    let mut shares: Vec<(usize, usize)> = (0..weighing).flat_map(|a| (a + 1..=weighing).map(move |b| (a, b))).collect();
+    while shares.len() > 6 {
+        shares.swap_remove(r.below(shares.len()));
+    }
+    let mut bounds = vec![(0, 1), t.bottleneck];
+    for (a, b) in shares {
+        let speeds = &t.job.speeds;
+        for e in [speeds[0], speeds[speeds.len() - 1], r.pick(speeds)] {
+            bounds.push((t.job.load(a, b), e as u128));
+        }
+    }
+    bounds
+}
+
+/// Trials of a strip at these bounds, as little below and above them as can be, and at the greatest: in lists as the trial before left them, and in
+/// others that held anything, with room for the whole answer or for less; then the same trial in lists of every kind.
+fn strip_tried(c: &mut Check, t: &Case, bounds: &[Bound]) {
+    let mut near: Vec<Bound> = bounds.iter().flat_map(|&b| [below(b), Some(b), Some(above(b))]).flatten().collect();
+    near.extend([(BOUND_LOAD as u128, 1), (BOUND_LOAD as u128, BOUND_SPEED as u128)]);
+    let (mut lent, mut before) = (Vec::new(), None);
+    for bound in near {
+        if lent.is_empty() || c.rng.once_in(2) {
+            lent = list_with_room(&mut c.rng, t, bound);
+        }
+        let entries = c.rng.pick(&[0, 1, 2, 3, 3, 4]);
+        let found = one(c, t, bound, &lent, entries).map(|found| (bound, found));
+        if let (Some(before), Some(found)) = (&before, &found) {
+            in_order(c, t, before, found);
+        }
+        (before, lent) = (found, c.after(2));
+    }
+    let bound = c.rng.pick(bounds);
+    refilled(c, t, if less(bound, t.bottleneck) { t.bottleneck } else { bound });
+}
+
+/// A strip on a row of this length: trials, and now and then every call, the plans by all methods among them.
+fn short(c: &mut Check, machines: usize, weighing: usize, tiles: usize, planned: bool) {
+    let job = strip(&mut c.rng, machines, weighing, tiles);
+    let t = if planned {
+        let s = Solved::of(&job);
+        every::job(c, &s, false);
+        Case::with(&job, (s.best, s.bottleneck))
+    } else {
+        c.jobs_seen += 1;
+        Case::of(&job)
+    };
+    let bounds = strip_bounds(&mut c.rng, &t, weighing);
+    strip_tried(c, &t, &bounds);
+}
+
+/// A short strip on any row.
+pub fn random_short(c: &mut Check) {
+    let machines = if c.rng.once_in(3) { MACHINES } else { 1 + c.rng.below(MACHINES) };
+    let weighing = c.rng.below(13);
+    let more = c.rng.pick(&[0, 0, 1, 2, 9]);
+    let planned = c.rng.once_in(4);
+    short(c, machines, weighing, weighing + more, planned);
+}
+
+/// Short strips on long rows: of none to three tiles on each number of machines, once with tiles of weight 0 behind them; of some more tiles;
+/// and a few that weigh in front of as many as there can be.
+pub fn strips(c: &mut Check, times: usize) {
+    for machines in 1..=MACHINES {
+        for tiles in 0..=3 {
+            short(c, machines, tiles, tiles, machines % 4 == tiles);
+            let weighing = c.rng.below(tiles + 1);
+            short(c, machines, weighing, tiles, machines % 4 == tiles);
+        }
+    }
+    for tiles in 0..=3 {
+        for _ in 0..25 * times {
+            short(c, MACHINES, tiles, tiles, true);
+        }
+    }
+    for _ in 0..400 * times {
+        random_short(c);
+    }
+    for weighing in 0..=3 {
+        for machines in [1, 2, 3, MACHINES / 2, MACHINES - 1, MACHINES] {
+            let tiles = c.rng.pick(&[TILES, TILES, TILES - 1, 1_000, 64]);
+            short(c, machines, weighing, tiles, machines == MACHINES);
+        }
+    }
 }
 
 /// A small job from bid to bid, from nought on, with tiles of weight 0, and in lists of every kind.

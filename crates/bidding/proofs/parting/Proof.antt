@@ -6,7 +6,7 @@ use native.Mathlib.Omega.{arith}
 use borrow.Author.Needs.{needs}
 use Rattle.chain.specs.Job.{jobOf}
 use Rattle.chain.proofs.Ranges.{narrow-products}
-use Rattle.bidding.proofs.Resume.{Scanned, parted-start, parting-products, end-after, end-inside, parted-turn, parted-reached}
+use Rattle.bidding.proofs.Resume.{Scanned, parted-start, parting-products, end-after, end-before, parted-turn, parted-reached}
 use Rattle.bidding.proofs.parting.Statement.{statement}
 use Rattle.bidding.proofs.parting.Tie as tie
 
@@ -38,7 +38,7 @@ bid-of-requires : tie.Need-bid-of-requires Inv-loop μ-loop
 bid-of-requires c κs =
     let s = c .before .before .before .before .before .before .before .before in
     let w = c .before .before .before .loop .inv (s .pre .1) in
-    (s .pre .0, (omega arith, end-after (s .pre .0 .valid) (s .pre .1) w (omega arith) (c .index .ensures), end-inside (s .pre .0 .valid) (s .pre .1) w (omega arith) (c .index .ensures)))
+    (s .pre .0, (omega arith, end-after (s .pre .0 .valid) (s .pre .1) w (omega arith) (c .index .ensures), end-before (s .pre .0 .valid) (s .pre .1) w (omega arith) (c .index .ensures)))
 
 at-most-requires : tie.Need-at-most-requires Inv-loop μ-loop
 at-most-requires c κs =

@@ -30,11 +30,11 @@ probe-in-requires c κs =
     let s = c .before .before .before .before .before .before in
     (s .pre .0, (subst Lendable (sym (c .before .ideal-of .ensures)) (ideal-lendable (s .pre .0 .valid)), s .pre .1))
 
-enum-told : tie.Need-enum-told
-enum-told c = search needs
-
 enum-known-answer : tie.Need-enum-known-answer
 enum-known-answer c = search needs
+
+enum-known-answer-2 : tie.Need-enum-known-answer-2
+enum-known-answer-2 c = search needs
 
 bisect-requires : tie.Need-bisect-requires
 bisect-requires c κs =
@@ -44,7 +44,7 @@ bisect-requires c κs =
     let b = kept-start (suc (length (s .args .speeds .now))) (s .args .separators .now) in
     let I : Bound = c .before .before .before .before .before .before .before .before .ideal-of .result in
     let y = c .before .before .before .before .before .before .probe-in .ensures in
-    let f = fails-outcome job I (sym (y .0) ∙ c .before .before .answer .given .1) in (
+    let f = fails-outcome job I (sym (y .0) ∙ c .before .before .answer2 .given .1) in (
       s .pre .0,
       (
         omega (arith, s .pre .1, kept-written (walk job I) _ b (s .pre .1) (walk-count v I) (y .1) .same),
@@ -60,14 +60,14 @@ same-length c = search needs
 
 returns : tie.Need-returns
 returns c =
-    let s = c .before .before .before .before .before .before .before .before .before .before .before in
+    let s = c .before .before .before .before .before .before .before .before .before .before .before .before in
     let job : Job = job-at s in
     let v = s .pre .0 .valid in
     let b = kept-start (suc (length (s .args .speeds .now))) (s .args .separators .now) in
-    let I : Bound = c .before .before .before .before .before .before .ideal-of .result in
-    let y = c .before .before .before .before .probe-in .ensures in (
-      ended-at-once (c .before .before .before .before .before .before .ideal-of .ensures) (fits-outcome job I (sym (y .0) ∙ c .enum-told .given .1)),
-      (subst Lendable (sym (c .before .before .before .before .before .before .ideal-of .ensures)) (ideal-lendable v), kept-written (walk job I) _ b (s .pre .1) (walk-count v I) (y .1)),
+    let I : Bound = c .before .before .before .before .before .before .before .ideal-of .result in
+    let y = c .before .before .before .before .before .probe-in .ensures in (
+      ended-at-once (c .before .before .before .before .before .before .before .ideal-of .ensures) (fits-outcome job I (sym (y .0) ∙ c .before .answer .given .1) .0),
+      (subst Lendable (sym (c .before .before .before .before .before .before .before .ideal-of .ensures)) (ideal-lendable v), kept-written (walk job I) _ b (s .pre .1) (walk-count v I) (y .1)),
     )
 
 same-length-2 : tie.Need-same-length-2
@@ -89,8 +89,8 @@ bisection-in-spec =
     (tie.spec
     ideal-of-requires
     probe-in-requires
-    enum-told
     enum-known-answer
+    enum-known-answer-2
     bisect-requires
     same-length
     returns

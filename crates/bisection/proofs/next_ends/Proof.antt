@@ -30,36 +30,36 @@ probe-in-requires c κs =
     let s = c .before .before .before .before .before .before in
     (s .pre .0, (subst Lendable (sym (c .before .midpoint .ensures)) (middle-lendable (s .pre .1 .1 .0) (s .pre .1 .1 .1)), s .pre .1 .0))
 
-enum-told : tie.Need-enum-told
-enum-told c = search needs
+enum-known-answer : tie.Need-enum-known-answer
+enum-known-answer c = search needs
 
 measure-in-requires : tie.Need-measure-in-requires
 measure-in-requires c κs =
-    let s = c .before .before .before .before .before .before .before .before .before .before .before .before in
+    let s = c .before .before .before .before .before .before .before .before .before .before .before .before .before in
     let job : Job = job-at s in
-    let M : Bound = c .before .before .before .before .before .before .before .midpoint .result in
-    let y = c .before .before .before .before .before .probe-in .ensures in
-    let f = fits-outcome job M (sym (y .0) ∙ c .before .enum-told .given .1) in (
+    let M : Bound = c .before .before .before .before .before .before .before .before .midpoint .result in
+    let y = c .before .before .before .before .before .before .probe-in .ensures in
+    let f = fits-outcome job M (sym (y .0) ∙ c .before .before .answer .given .1) .0 in (
       s .pre .0,
       front-partition (walk job M) (drop (suc (length (s .args .speeds .now))) (s .args .separators .now)) (walk-partition (valid-proper (s .pre .0 .valid)) M f)
           (y .1),
     )
 
-enum-known-answer : tie.Need-enum-known-answer
-enum-known-answer c = search needs
+enum-known-answer-2 : tie.Need-enum-known-answer-2
+enum-known-answer-2 c = search needs
 
 same-length : tie.Need-same-length
 same-length c = search needs
 
 returns : tie.Need-returns
 returns c =
-    let s = c .before .before .before .before .before .before .before .before .before .before .before .before .before in
+    let s = c .before .before .before .before .before .before .before .before .before .before .before .before .before .before in
     let job : Job = job-at s in
-    let M : Bound = c .before .before .before .before .before .before .before .before .midpoint .result in
+    let M : Bound = c .before .before .before .before .before .before .before .before .before .midpoint .result in
     let l : List ℕ = drop (suc (length (s .args .speeds .now))) (s .args .separators .now) in
-    let y = c .before .before .before .before .before .before .probe-in .ensures in
-    let f = fits-outcome job M (sym (y .0) ∙ c .before .before .enum-told .given .1) in (
-      round-fits job (s .args .low) (s .args .high) (c .before .before .before .before .before .before .before .before .midpoint .ensures) f
+    let y = c .before .before .before .before .before .before .before .probe-in .ensures in
+    let f = fits-outcome job M (sym (y .0) ∙ c .before .before .before .answer .given .1) .0 in (
+      round-fits job (s .args .low) (s .args .high) (c .before .before .before .before .before .before .before .before .before .midpoint .ensures) f
           (front-bottleneck (walk job M) l (walk-partition (valid-proper (s .pre .0 .valid)) M f) (y .1) (c .measure-in .ensures .1)),
       kept-written (walk job M) _ (kept-start (suc (length (s .args .speeds .now))) (s .args .separators .now)) (s .pre .1 .0)
           (walk-count (s .pre .0 .valid) M) (y .1),
@@ -74,7 +74,7 @@ returns-2 c =
     let job : Job = job-at s in
     let M : Bound = c .before .before .before .before .before .before .before .midpoint .result in
     let y = c .before .before .before .before .before .probe-in .ensures in
-    let f = fails-outcome job M (sym (y .0) ∙ c .before .answer .given .1) in (
+    let f = fails-outcome job M (sym (y .0) ∙ c .before .answer2 .given .1) in (
       round-fails job (s .args .low) (s .args .high) (c .before .before .before .before .before .before .before .midpoint .ensures) (f .0) (f .1),
       kept-written (walk job M) _ (kept-start (suc (length (s .args .speeds .now))) (s .args .separators .now)) (s .pre .1 .0)
           (walk-count (s .pre .0 .valid) M) (y .1),
@@ -86,9 +86,9 @@ next-ends-spec =
     (tie.spec
     midpoint-requires
     probe-in-requires
-    enum-told
-    measure-in-requires
     enum-known-answer
+    measure-in-requires
+    enum-known-answer-2
     same-length
     returns
     same-length-2

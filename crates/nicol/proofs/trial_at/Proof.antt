@@ -1,13 +1,10 @@
 -- `trial_at` meets its contract, by what the trial answers.
 -- Assumes nothing.
-use Prim.Native.Nat.{suc}
-use mathlib.Core.Path.{sym, _∙_}
-use lib.ListN.{length}
+use mathlib.Core.Path.{sym, subst, _∙_}
 use Rattle.chain.specs.Job.{Job, jobOf}
-use Rattle.chain.specs.Probe.{walk}
 use Rattle.chain.proofs.Ranges.{small-lendable}
-use Rattle.parts.proofs.Front.{kept-start, kept-written}
-use Rattle.probe.proofs.Answer.{walk-count}
+use Rattle.probe.specs.Walk.{Reached}
+use Rattle.probe.proofs.Walked.{reached-first, begun-kept}
 use Rattle.nicol.proofs.Laws.{told-fits, told-fails}
 use borrow.Author.Needs.{needs}
 use Rattle.nicol.proofs.trial_at.Statement.{statement}
@@ -20,29 +17,31 @@ job-at s = jobOf (s .args .startup) (s .args .speeds .now) (s .args .weights .no
 bound-to-requires : tie.Need-bound-to-requires
 bound-to-requires c κs = search needs
 
-probe-in-requires : tie.Need-probe-in-requires
-probe-in-requires c κs =
-    let s = c .before .before .before .before .before .before in
-    (s .pre .0, (small-lendable (c .before .bound-to .ensures .1), s .pre .1 .0))
+first-point-requires : tie.Need-first-point-requires
+first-point-requires c κs = search needs
 
-enum-told : tie.Need-enum-told
-enum-told c = search needs
+walk-from-requires : tie.Need-walk-from-requires
+walk-from-requires c κs =
+    let s = c .before .before .before .before .before .before .before in
+    let b = c .before .before .bound-to in
+    (s .pre .0, (small-lendable (b .ensures .1), (s .pre .1 .0, subst (Reached (job-at s) (b .result) _) (sym (c .before .first-point .ensures)) (reached-first (job-at s) (b .result) _))))
 
 enum-known-answer : tie.Need-enum-known-answer
 enum-known-answer c = search needs
+
+enum-known-answer-2 : tie.Need-enum-known-answer-2
+enum-known-answer-2 c = search needs
 
 same-length : tie.Need-same-length
 same-length c = search needs
 
 returns : tie.Need-returns
 returns c =
-    let s = c .before .before .before .before .before .before .before .before .before .before .before in
-    let job : Job = job-at s in
-    let b = c .before .before .before .before .before .before .bound-to in
-    let y = c .before .before .before .before .probe-in .ensures in (
-      told-fits job (s .args .p) (s .args .a) (s .args .j) (b .ensures .0) (sym (y .0) ∙ c .enum-told .given .1),
-      kept-written (walk job (b .result)) _ (kept-start (suc (length (s .args .speeds .now))) (s .args .separators .now)) (s .pre .1 .0)
-          (walk-count (s .pre .0 .valid) (b .result)) (y .1),
+    let s = c .before .before .before .before .before .before .before .before .before .before .before .before .before in
+    let b = c .before .before .before .before .before .before .before .before .bound-to in
+    let y = c .before .before .before .before .before .walk-from .ensures in (
+      told-fits (job-at s) (s .args .p) (s .args .a) (s .args .j) (b .ensures .0) (sym (y .0) ∙ c .before .answer .given .1),
+      begun-kept (s .pre .0 .valid) (b .result) (s .args .separators .now) (s .pre .1 .0) (y .1),
     )
 
 same-length-2 : tie.Need-same-length-2
@@ -50,13 +49,11 @@ same-length-2 c = search needs
 
 returns-2 : tie.Need-returns-2
 returns-2 c =
-    let s = c .before .before .before .before .before .before .before .before .before .before .before .before in
-    let job : Job = job-at s in
-    let b = c .before .before .before .before .before .before .before .bound-to in
-    let y = c .before .before .before .before .before .probe-in .ensures in (
-      told-fails job (s .args .p) (s .args .a) (s .args .j) (b .ensures .0) (sym (y .0) ∙ c .before .answer .given .1),
-      kept-written (walk job (b .result)) _ (kept-start (suc (length (s .args .speeds .now))) (s .args .separators .now)) (s .pre .1 .0)
-          (walk-count (s .pre .0 .valid) (b .result)) (y .1),
+    let s = c .before .before .before .before .before .before .before .before .before .before .before .before .before in
+    let b = c .before .before .before .before .before .before .before .before .bound-to in
+    let y = c .before .before .before .before .before .walk-from .ensures in (
+      told-fails (job-at s) (s .args .p) (s .args .a) (s .args .j) (b .ensures .0) (sym (y .0) ∙ c .before .answer2 .given .1),
+      begun-kept (s .pre .0 .valid) (b .result) (s .args .separators .now) (s .pre .1 .0) (y .1),
     )
 
 pub trial-at-spec : {M : Type 1} → statement M
@@ -64,9 +61,10 @@ trial-at-spec =
     tie.close
     (tie.spec
     bound-to-requires
-    probe-in-requires
-    enum-told
+    first-point-requires
+    walk-from-requires
     enum-known-answer
+    enum-known-answer-2
     same-length
     returns
     same-length-2

@@ -1,12 +1,12 @@
--- `bid_of` meets its contract: the bid's part goes one task further, or to the last task where it ends there.
+-- `bid_of` meets its contract: the bid's part goes one task further.
 -- Assumes nothing.
 use Prim.Native.Nat.{_+_}
 use mathlib.Core.Path.{_≡_, refl}
 use native.Mathlib.Omega.{arith}
 use lib.ListN.{getD}
-use Rattle.chain.specs.Job.{Job, jobOf, tasks, partBound}
+use Rattle.chain.specs.Job.{Job, jobOf, partBound}
 use Rattle.parts.proofs.Laws.{loads-to, prefix-bound, started-some}
-use Rattle.probe.proofs.Bids.{part-narrow, bid-next, bid-stops}
+use Rattle.probe.proofs.Bids.{bid-next}
 use borrow.Author.Needs.{needs}
 use Rattle.probe.proofs.bid_of.Statement.{statement}
 use Rattle.probe.proofs.bid_of.Tie as tie
@@ -22,37 +22,18 @@ add-started-bound c = search needs
 
 started-bound-requires : tie.Need-started-bound-requires
 started-bound-requires c κs =
-    let s = c .before .before .before .before .before in
+    let s = c .before .before .before .before in
     (loads-to (s .pre .0) (omega arith), omega (arith, s .pre .1 .1))
 
 returns : tie.Need-returns
 returns c =
-    let s = c .before .before .before .before .before .before in
+    let s = c .before .before .before .before .before in
     let job : Job = jobOf (s .args .startup) (s .args .speeds .now) (s .args .weights .now) in
     let e : c .started-bound .result ≡ partBound job (s .args .p) (s .args .a) (s .args .end + 1) =
     prefix-bound (s .pre .0 .prefix) (s .args .p) (s .args .a) (s .args .end + 1) (s .pre .1 .0) (omega (arith, s .pre .1 .1)) (omega arith) refl
     (started-some (job .startup) (s .args .sums .now) (getD (job .speeds) (s .args .p) 0) (s .args .a) (s .args .end + 1) (omega (arith, s .pre .1 .1))
     (c .started-bound .ensures .0)) in
     (bid-next job (s .args .p) (s .args .a) (s .args .end) e, c .started-bound .ensures .1)
-
-mul-part-bound : tie.Need-mul-part-bound
-mul-part-bound c = search needs
-
-shared-slice-read-part-bound : tie.Need-shared-slice-read-part-bound
-shared-slice-read-part-bound c = search needs
-
-part-bound-requires : tie.Need-part-bound-requires
-part-bound-requires c κs =
-    let s = c .before .before .before .before .before in
-    (loads-to (s .pre .0) (omega arith), omega (arith, s .pre .1))
-
-returns-2 : tie.Need-returns-2
-returns-2 c =
-    let s = c .before .before .before .before .before .before in
-    let job : Job = jobOf (s .args .startup) (s .args .speeds .now) (s .args .weights .now) in
-    let e : c .part-bound .result ≡ partBound job (s .args .p) (s .args .a) (tasks job) =
-    prefix-bound (s .pre .0 .prefix) (s .args .p) (s .args .a) (tasks job) (s .pre .1 .0) (omega (arith, s .pre .1)) (omega arith) refl (c .part-bound .ensures) in
-    (bid-stops job (s .args .p) (s .args .a) (s .args .end) (omega arith) e, part-narrow _ _ _ (s .pre .0 .valid) e)
 
 pub bid-of-spec : {M : Type 1} → statement M
 bid-of-spec =
@@ -62,8 +43,4 @@ bid-of-spec =
     shared-slice-read-started-bound
     add-started-bound
     started-bound-requires
-    returns
-    mul-part-bound
-    shared-slice-read-part-bound
-    part-bound-requires
-    returns-2)
+    returns)

@@ -13,11 +13,11 @@ use Rattle.probe.proofs.walked_in.Tie as tie
 probe-in-requires : tie.Need-probe-in-requires
 probe-in-requires c κs = search needs
 
-enum-told : tie.Need-enum-told
-enum-told c = search needs
-
 enum-known-answer : tie.Need-enum-known-answer
 enum-known-answer c = search needs
+
+enum-known-answer-2 : tie.Need-enum-known-answer-2
+enum-known-answer-2 c = search needs
 
 sub-last : tie.Need-sub-last
 sub-last c = search needs
@@ -57,11 +57,11 @@ same-length c = search needs
 
 returns : tie.Need-returns
 returns c =
-    let s = c .before .before .before .before .before .before .before .before .before .before in
+    let s = c .before .before .before .before .before .before .before .before .before .before .before in
     let job : Job = jobOf (s .args .startup) (s .args .speeds .now) (s .args .weights .now) in
-    let y = c .before .before .before .before .probe-in .ensures in
-    let e = sym (c .enum-told .given .1) ∙ y .0 in
-    (e, fit-written (s .pre .0 .valid) (s .args .bound) _ (fits-outcome job (s .args .bound) (sym e)) (y .1))
+    let y = c .before .before .before .before .before .probe-in .ensures in
+    let e = sym (c .before .answer .given .1) ∙ y .0 in
+    (e, fit-written (s .pre .0 .valid) (s .args .bound) _ (fits-outcome job (s .args .bound) (sym e) .0) (y .1))
 
 same-length-2 : tie.Need-same-length-2
 same-length-2 c = search needs
@@ -70,7 +70,7 @@ returns-2 : tie.Need-returns-2
 returns-2 c =
     let s = c .before .before .before .before .before .before .before .before .before .before .before .before .before .before .before in
     let y = c .before .before .before .before .before .before .before .before .before .probe-in .ensures in (
-      sym (c .before .before .before .before .before .answer .given .1) ∙ y .0,
+      sym (c .before .before .before .before .before .answer2 .given .1) ∙ y .0,
       reach-stored (s .pre .0 .valid) (s .args .bound) (s .args .separators .now) (s .pre .1 .1) (y .1) (omega arith) (c .before .before .index .ensures)
           (omega (arith, c .narrow .ensures, c .before .part-end .ensures)),
     )
@@ -80,8 +80,8 @@ walked-in-spec =
     tie.close
     (tie.spec
     probe-in-requires
-    enum-told
     enum-known-answer
+    enum-known-answer-2
     sub-last
     mul-index
     slice-read-index
