@@ -61,8 +61,8 @@ pub const CONTESTS: [Contest; 11] = [
         halved: false,
     },
     Contest {
-        name: "Nicol by the trial",
-        sides: [("planner_nicol", sides::planner_nicol), ("plain_nicoltrial", sides::plain_nicoltrial)],
+        name: "Nicol by the walk",
+        sides: [("planner_nicol", sides::planner_nicol), ("plain_nicolwalk", sides::plain_nicolwalk)],
         answers: 5,
         jobs: 12,
         halved: false,

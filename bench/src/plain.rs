@@ -69,7 +69,7 @@ pub enum Method {
     BiddingResumed,
     Bisection,
     Nicol,
-    NicolByTrial,
+    NicolByWalk,
 }
 
 /// What a plan file is beside its job.
@@ -223,16 +223,9 @@ fn started_bound(tiles: Tiles, a: usize, b: usize, speed: u32) -> Bound {
     }
 }
 
-/// Writes N to the separators from one on. Kept out of line: in line it made the walk slower.
-#[cold]
-#[inline(never)]
-fn fill(separators: &mut [u32], from: usize, n: usize) {
-    separators[from..].fill(n as u32);
-}
-
 /// One walk at the bound from machine `first` on, whose part begins at separators[first]; `best` is the least bid before it.
-/// Writes the separators behind it; what they hold before is a hint, most often the walk before. Once every tile is placed it ends
-/// and fills the separators that are left with N, so a machine that bids has a tile more to bid for.
+/// Writes the separators behind it; what they hold before is a hint, most often the walk before. It ends once every tile is placed and
+/// leaves the separators from there on, so a machine that bids has a tile more to bid for. Filling is apart: here it made the walk slower.
 fn walk(
     speeds: &[u32],
     tiles: Tiles,
@@ -246,33 +239,38 @@ fn walk(
     let separators = &mut separators[..=speeds.len()];
     let mut a = separators[first] as usize;
     if a == n {
-        fill(separators, first, n);
         return Outcome::Fits(first);
     }
     for (p, (&speed, end)) in (first + 1..).zip(speeds[first..last].iter().zip(&mut separators[first + 1..])) {
         let Some(b) = part_end(tiles, a, speed, bound, *end as usize) else {
-            fill(separators, p, n);
             return Outcome::Fits(p);
         };
         best = best.lesser(started_bound(tiles, a, b + 1, speed));
         *end = b as u32;
         a = b;
     }
-    separators[last + 1] = n as u32;
     let rest = started_bound(tiles, a, n, speeds[last]);
     if rest.at_most(bound) { Outcome::Fits(last + 1) } else { Outcome::Fails(best.lesser(rest)) }
 }
 
 /// The walk of all machines.
-fn trial(speeds: &[u32], tiles: Tiles, bound: Bound, separators: &mut [u32]) -> Outcome {
+fn whole_walk(speeds: &[u32], tiles: Tiles, bound: Bound, separators: &mut [u32]) -> Outcome {
     separators[0] = 0;
     walk(speeds, tiles, bound, 0, Bound::ENDLESS, separators)
+}
+
+/// The same; then the separators that the walk left become N.
+fn trial(speeds: &[u32], tiles: Tiles, bound: Bound, separators: &mut [u32]) -> Outcome {
+    let outcome = whole_walk(speeds, tiles, bound, separators);
+    let from = if let Outcome::Fits(machines) = outcome { machines } else { speeds.len() };
+    separators[from..=speeds.len()].fill(tiles.sums.len() as u32 - 1);
+    outcome
 }
 
 fn bidding(speeds: &[u32], tiles: Tiles, separators: &mut [u32]) -> Found {
     let mut bound = ideal(speeds, tiles.sums);
     let mut count = 1;
-    while let Outcome::Fails(next) = trial(speeds, tiles, bound, separators) {
+    while let Outcome::Fails(next) = whole_walk(speeds, tiles, bound, separators) {
         bound = next;
         count += 1;
     }
@@ -369,7 +367,7 @@ fn bisection(speeds: &[u32], tiles: Tiles, separators: &mut [u32]) -> Found {
     Found { bound: low, count }
 }
 
-/// Whether the walk of all machines fits: a walk without bids and filling, which Nicol's search does not ask for. There is a tile.
+/// Whether the walk of all machines fits: a walk without bids, which Nicol's search does not ask for. There is a tile.
 fn fits(speeds: &[u32], tiles: Tiles, bound: Bound, separators: &mut [u32]) -> bool {
     let n = tiles.sums.len() - 1;
     let last = speeds.len() - 1;
@@ -484,7 +482,7 @@ fn allowance(method: Method, second: bool, startup: u32, speeds: &[u32], weights
             let slowest = speeds.iter().copied().min().unwrap_or(1) as u64;
             1 + (64 - (heaviest * (fastest * fastest) / slowest).leading_zeros())
         }
-        Method::Nicol | Method::NicolByTrial => (speeds.len() - 1) as u32 * (usize::BITS - weights.len().leading_zeros()),
+        Method::Nicol | Method::NicolByWalk => (speeds.len() - 1) as u32 * (usize::BITS - weights.len().leading_zeros()),
     }
 }
 
@@ -520,7 +518,7 @@ pub fn plan(
         Method::BiddingResumed => bidding_resumed(speeds, tiles, separators),
         Method::Bisection => bisection(speeds, tiles, separators),
         Method::Nicol => nicol(speeds, tiles, separators, fits),
-        Method::NicolByTrial => nicol(speeds, tiles, separators, |e, s, b, to| matches!(trial(e, s, b, to), Outcome::Fits(_))),
+        Method::NicolByWalk => nicol(speeds, tiles, separators, |e, s, b, to| matches!(whole_walk(e, s, b, to), Outcome::Fits(_))),
     };
     trial(speeds, tiles, found.bound, separators);
     let bottleneck = bottleneck(speeds, tiles, separators);

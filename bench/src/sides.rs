@@ -289,8 +289,8 @@ pub fn plain_nicol(job: &Job, room: &mut Room) -> u32 {
 
 #[no_mangle]
 #[inline(never)]
-pub fn plain_nicoltrial(job: &Job, room: &mut Room) -> u32 {
-    plain_plan(Method::NicolByTrial, job, room)
+pub fn plain_nicolwalk(job: &Job, room: &mut Room) -> u32 {
+    plain_plan(Method::NicolByWalk, job, room)
 }
 
 /// The bottleneck of a quick plan as the planner answers it.

@@ -36,7 +36,7 @@ const RATIOS: [(&str, &str, &str, Span); 11] = [
     ("Bidding, plain Rust in the same resumed form", "planner_bidding", "plain_resumed", ALL),
     ("Bidding, plain Rust with every walk from machine 1", "planner_bidding", "plain_bidding", ALL),
     ("Bisection", "planner_bisection", "plain_bisection", ALL),
-    ("Nicol's search, plain Rust by the same trial", "planner_nicol", "plain_nicoltrial", ALL),
+    ("Nicol's search, plain Rust by the same walk", "planner_nicol", "plain_nicolwalk", ALL),
     ("Nicol's search, plain Rust by a walk without bids", "planner_nicol", "plain_nicol", ALL),
     ("Quick plan", "planner_quick", "plain_quick", ALL),
     ("Halving, plain Rust level by level without branches", "planner_halving", "plain_halving", HALVED),
