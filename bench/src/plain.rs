@@ -183,8 +183,8 @@ impl<'a> Tiles<'a> {
     }
 }
 
-/// The greatest end of a part from a on that is within the bound on a machine of this speed, None where that is N: every tile that is
-/// left. A machine that cannot carry the start-up work takes no tile, and there is one.
+/// The greatest end of a part from a on that is within the bound on a machine of this speed, None where that is N. A tile is left; a
+/// machine that cannot carry the start-up work takes none.
 #[inline]
 fn part_end(tiles: Tiles, a: usize, speed: u32, bound: Bound, hint: usize) -> Option<usize> {
     let sums = tiles.sums;
