@@ -7,6 +7,8 @@ use std::time::{Duration, Instant};
 const BUDGET: Duration = Duration::from_millis(80);
 const LEAST: usize = 2;
 const MOST: usize = 30;
+/// The most rounds of the jobs of a short strip.
+const ROUNDS: usize = 1000;
 
 pub struct Contest {
     pub name: &'static str,
@@ -59,8 +61,8 @@ pub const CONTESTS: [Contest; 11] = [
         halved: false,
     },
     Contest {
-        name: "Nicol by the trial",
-        sides: [("planner_nicol", sides::planner_nicol), ("plain_nicoltrial", sides::plain_nicoltrial)],
+        name: "Nicol by the walk",
+        sides: [("planner_nicol", sides::planner_nicol), ("plain_nicolwalk", sides::plain_nicolwalk)],
         answers: 5,
         jobs: 12,
         halved: false,
@@ -149,6 +151,30 @@ impl Contest {
                     assert_eq!(std::hint::black_box(refused), 0);
                     least[side][j] = least[side][j].min(took);
                 }
+            }
+        }
+        least
+    }
+
+    /// The same for short strips, whose calls take little longer than a look at the clock: a side goes once round all jobs, then the
+    /// other one; the mean over the jobs, the least of the rounds.
+    pub fn time_rounds(&self, jobs: &[Job]) -> Vec<Vec<f64>> {
+        let mut rooms = [Room::new(), Room::new()];
+        let mut least = vec![vec![f64::INFINITY]; 2];
+        let start = Instant::now();
+        for round in 0..ROUNDS {
+            if round >= LEAST && start.elapsed() > BUDGET {
+                break;
+            }
+            for turn in 0..2 {
+                let side = (turn + round) % 2;
+                let call = self.sides[side].1;
+                let began = Instant::now();
+                for job in jobs {
+                    assert_eq!(std::hint::black_box(call(job, &mut rooms[side])), 0);
+                }
+                let took = began.elapsed().as_nanos() as f64 / jobs.len() as f64;
+                least[side][0] = least[side][0].min(took);
             }
         }
         least

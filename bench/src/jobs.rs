@@ -1,5 +1,6 @@
-//! The jobs that are measured: three families of weights, three ranges of speeds, with start-up work or without, from a seed.
-use crate::plain::{self, Bound, Method, MAX_WEIGHT};
+//! The jobs that are measured: three families of weights, three ranges of speeds, with start-up work or without, and short strips; from a
+//! seed.
+use crate::plain::{self, Bound, Method, MAX_PROCESSORS, MAX_WEIGHT};
 use crate::sides::{Job, Room};
 
 const SEED: u64 = 1;
@@ -37,13 +38,17 @@ impl Random {
     }
 }
 
-/// A family of weights.
+/// A family of weights; `Front` is for short strips alone: near-uniform at first, then 0.
 #[derive(Clone, Copy, Debug, PartialEq, Eq, Hash)]
 pub enum Family {
     Uniform,
     Lognormal,
     Heavy,
+    Front,
 }
+
+/// How many tiles of `Front` have weight.
+pub const FRONT: usize = 3;
 
 impl Family {
     pub const ALL: [Family; 3] = [Family::Uniform, Family::Lognormal, Family::Heavy];
@@ -53,16 +58,19 @@ impl Family {
             Family::Uniform => "near-uniform",
             Family::Lognormal => "lognormal",
             Family::Heavy => "heavy-tailed",
+            Family::Front => "front",
         }
     }
 
     pub fn named(name: &str) -> Option<Family> {
-        Family::ALL.into_iter().find(|family| family.name() == name)
+        Family::ALL.into_iter().chain([Family::Front]).find(|family| family.name() == name)
     }
 
-    fn weight(self, random: &mut Random) -> u32 {
+    /// The weight of the tile that has so many before it.
+    fn weight(self, tile: usize, random: &mut Random) -> u32 {
         let drawn = match self {
-            Family::Uniform => random.between(900, 1100) as f64,
+            Family::Front if tile >= FRONT => 0.0,
+            Family::Uniform | Family::Front => random.between(900, 1100) as f64,
             Family::Lognormal => 1000.0 * random.normal().exp(),
             Family::Heavy => 100.0 * random.unit().powf(-1.0 / 1.1),
         };
@@ -74,7 +82,7 @@ impl Family {
 pub type Size = (usize, usize);
 
 /// A shape of job: N tasks, P processors, speeds from 1 to `fastest`. Without start-up work it is of the first edition, with some of
-/// the second.
+/// the second. Of a short strip `machines` is how many machines its single trial comes to, else it is 0.
 #[derive(Clone, Copy, Debug, PartialEq, Eq, Hash)]
 pub struct Shape {
     pub family: Family,
@@ -82,6 +90,7 @@ pub struct Shape {
     pub processors: usize,
     pub fastest: u32,
     pub startup: u32,
+    pub machines: usize,
 }
 
 impl Shape {
@@ -91,7 +100,12 @@ impl Shape {
     }
 
     pub fn with_startup(family: Family, (tasks, processors): Size, fastest: u32, startup: u32) -> Shape {
-        Shape { family, tasks, processors, fastest, startup }
+        Shape { family, tasks, processors, fastest, startup, machines: 0 }
+    }
+
+    /// A short strip on the longest row, of equal machines.
+    pub fn short(family: Family, tasks: usize, machines: usize) -> Shape {
+        Shape { machines, ..Shape::new(family, (tasks, MAX_PROCESSORS), 1) }
     }
 
     pub fn size(&self) -> Size {
@@ -117,20 +131,32 @@ impl Shape {
     }
 
     /// A job, with a bound for its trial that lies near the least bottleneck: the ideal, the start-up work of every machine, and a
-    /// random part of the heaviest weight, over the mean speed. Some trials fit, some fail.
+    /// random part of the heaviest weight, over the mean speed. Some trials fit, some fail. Those of a short strip fit: the bound is the
+    /// least one at which the machines that are to be come to take all tiles.
     fn job(&self, random: &mut Random, best: bool) -> Job {
-        let weights: Vec<u32> = (0..self.tasks).map(|_| self.family.weight(random)).collect();
+        let weights: Vec<u32> = (0..self.tasks).map(|tile| self.family.weight(tile, random)).collect();
         let speeds: Vec<u32> = (0..self.processors).map(|_| random.between(1, self.fastest)).collect();
         let total: u64 = weights.iter().map(|&w| w as u64).sum();
         let heaviest = weights.iter().copied().max().unwrap_or(0) as u64;
         let speed: u64 = speeds.iter().map(|&e| e as u64).sum();
         let extra = heaviest * self.processors as u64 * random.between(0, 100) as u64 / 100;
         let startups = self.startup as u64 * self.processors as u64;
-        let trial = Bound { load: total + startups + extra, speed };
+        let trial = match self.machines {
+            0 => Bound { load: total + startups + extra, speed },
+            machines => least_bound(self.startup, &speeds[..machines], &weights),
+        };
         let mut job = Job { second: self.startup > 0, startup: self.startup, speeds, weights, trial, plan: Vec::new() };
         job.plan = plan_file(&job, best);
         job
     }
+}
+
+/// The least bottleneck, by plain Rust.
+fn least_bound(startup: u32, speeds: &[u32], weights: &[u32]) -> Bound {
+    let mut room = Room::new();
+    let (separators, scratch) = (&mut room.separators, &mut room.scratch);
+    let planned = plain::plan(Method::Bisection, startup > 0, startup, speeds, weights, separators, scratch);
+    planned.expect("no refusal").bottleneck
 }
 
 /// The plan file of the best plan or of the quick plan, by plain Rust.

@@ -18,6 +18,25 @@ pub const ROW_PROCESSORS: [usize; 5] = [4, 8, 16, 32, 64];
 /// The contests on these rows: the four methods and both quick plans.
 const ROW_CONTESTS: [&str; 7] =
     ["table", "bidding", "bisection", "Nicol", "quick plan", "halving", "halving by sides"];
+/// Short strips on the longest row, by their tiles and the machines that the single trial comes to; the last ones are long.
+const SHORT: [(Family, usize, usize); 14] = [
+    (Family::Uniform, 1, 1),
+    (Family::Uniform, 2, 2),
+    (Family::Uniform, 3, 3),
+    (Family::Uniform, 8, 8),
+    (Family::Uniform, 24, 1),
+    (Family::Uniform, 24, 2),
+    (Family::Uniform, 24, 3),
+    (Family::Uniform, 24, 6),
+    (Family::Uniform, 24, 12),
+    (Family::Uniform, 24, 24),
+    (Family::Uniform, MAX_PROCESSORS, MAX_PROCESSORS),
+    (Family::Front, MAX_TASKS, 1),
+    (Family::Front, MAX_TASKS, 3),
+    (Family::Uniform, MAX_TASKS, MAX_PROCESSORS),
+];
+/// The contests on those that have a tile for each machine come to, beside the single trial.
+const SHORT_CONTESTS: [&str; 2] = ["bidding", "bisection"];
 /// The size of the figures in microseconds: the largest job.
 pub const LARGEST: Size = (MAX_TASKS, MAX_PROCESSORS);
 /// The place of the code of this build, of so many (see build.rs).
@@ -67,6 +86,15 @@ pub fn second() -> Vec<Shape> {
     shapes
 }
 
+pub fn short_strips() -> Vec<Shape> {
+    SHORT.iter().map(|&(family, tasks, machines)| Shape::short(family, tasks, machines)).collect()
+}
+
+/// Those of them that are planned too: a tile for each machine come to.
+pub fn planned_strips() -> Vec<Shape> {
+    short_strips().into_iter().filter(|shape| shape.tasks == shape.machines).collect()
+}
+
 /// Every shape that is measured in all contests that take it, each once.
 fn shapes() -> Vec<Shape> {
     let mut shapes = Vec::new();
@@ -101,14 +129,23 @@ fn measured() -> Vec<(Shape, Vec<&'static Contest>)> {
     for shape in second() {
         measured.push((shape, CONTESTS.iter().filter(|contest| contest.halved == shape.halves()).collect()));
     }
+    let planned = planned_strips();
+    for shape in short_strips() {
+        let takes = |contest: &&Contest| {
+            contest.name == "trial" || (SHORT_CONTESTS.contains(&contest.name) && planned.contains(&shape))
+        };
+        measured.push((shape, CONTESTS.iter().filter(takes).collect()));
+    }
     measured
 }
 
-/// The shapes whose instructions are counted: those of the ratios.
+/// The shapes whose instructions are counted: those of the ratios, and short strips.
 pub fn print_shapes() {
     for (shape, _) in measured() {
-        if SIZES.contains(&shape.size()) || (shape.halves() && HALVED_SIZES.contains(&shape.size())) {
-            println!("{} {} {} {} {}", shape.family.name(), shape.tasks, shape.processors, shape.fastest, shape.startup);
+        let halved = shape.halves() && HALVED_SIZES.contains(&shape.size());
+        if SIZES.contains(&shape.size()) || halved || shape.machines > 0 {
+            let Shape { family, tasks, processors, fastest, startup, machines } = shape;
+            println!("{} {tasks} {processors} {fastest} {startup} {machines}", family.name());
         }
     }
 }
@@ -143,7 +180,7 @@ fn measure(shape: Shape, contests: &[&Contest]) {
     for contest in contests {
         let jobs = shape.jobs(contest.jobs);
         let answers = contest.compare(&jobs);
-        let times = contest.time(&jobs);
+        let times = if shape.machines > 0 { contest.time_rounds(&jobs) } else { contest.time(&jobs) };
         for (side, times) in contest.sides.iter().zip(&times) {
             records::write("time", side.0, shape, times);
         }
@@ -160,7 +197,11 @@ fn measure(shape: Shape, contests: &[&Contest]) {
                 fact("best", answers.iter().map(|a| (a[0] == BEST) as u32 as f64).collect());
                 continue;
             }
-            _ => continue,
+            _ => {
+                let meant = |answer: &Vec<u64>| answer[..2] == [1, shape.machines as u64];
+                assert!(shape.machines == 0 || answers.iter().all(meant), "trial: another number of machines");
+                continue;
+            }
         };
         let found = answers.iter().map(|a| Bound { load: a[bottleneck], speed: a[bottleneck + 1] });
         let parts: Vec<(&Job, Bound)> = jobs.iter().zip(found).collect();

@@ -40,6 +40,13 @@ impl Bound {
     }
 }
 
+/// The answer of a trial: it fits, with the number of machines that its walk came to, or it fails with the least next bid.
+#[derive(Clone, Copy, Debug, PartialEq)]
+pub enum Outcome {
+    Fits(usize),
+    Fails(Bound),
+}
+
 /// What a method ends with.
 pub struct Found {
     pub bound: Bound,
@@ -62,7 +69,7 @@ pub enum Method {
     BiddingResumed,
     Bisection,
     Nicol,
-    NicolByTrial,
+    NicolByWalk,
 }
 
 /// What a plan file is beside its job.
@@ -176,20 +183,20 @@ impl<'a> Tiles<'a> {
     }
 }
 
-/// The greatest end of a part from a on that is within the bound on a machine of this speed. A machine that cannot carry the start-up
-/// work takes no tile.
+/// The greatest end of a part from a on that is within the bound on a machine of this speed, None where that is N. A tile is left; a
+/// machine that cannot carry the start-up work takes none.
 #[inline]
-fn part_end(tiles: Tiles, a: usize, speed: u32, bound: Bound, hint: usize) -> usize {
+fn part_end(tiles: Tiles, a: usize, speed: u32, bound: Bound, hint: usize) -> Option<usize> {
     let sums = tiles.sums;
     let n = sums.len() - 1;
     let limit = bound.load * speed as u64 / bound.speed;
     let Some(weight) = limit.checked_sub(tiles.startup as u64) else {
-        return a;
+        return Some(a);
     };
     if (sums[n] - sums[a]) as u64 <= weight {
-        return n;
+        return None;
     }
-    last_from(sums, a, sums[a] + weight as u32, hint)
+    Some(last_from(sums, a, sums[a] + weight as u32, hint))
 }
 
 /// The load of the part from a to b: 0 where it has no tile.
@@ -207,9 +214,18 @@ fn part_bound(tiles: Tiles, a: usize, b: usize, speed: u32) -> Bound {
     }
 }
 
+/// The same where the part has a tile.
+#[inline]
+fn started_bound(tiles: Tiles, a: usize, b: usize, speed: u32) -> Bound {
+    Bound {
+        load: (tiles.startup + (tiles.sums[b] - tiles.sums[a])) as u64,
+        speed: speed as u64,
+    }
+}
+
 /// One walk at the bound from machine `first` on, whose part begins at separators[first]; `best` is the least bid before it.
-/// Writes the separators behind it; what they hold before is a hint, most often the walk before. None where it fits, else the
-/// least next bid.
+/// Writes the separators behind it; what they hold before is a hint, most often the walk before. It ends once every tile is placed and
+/// leaves the separators from there on, so a machine that bids has a tile more to bid for. Filling is apart: here it made the walk slower.
 fn walk(
     speeds: &[u32],
     tiles: Tiles,
@@ -217,45 +233,57 @@ fn walk(
     first: usize,
     mut best: Bound,
     separators: &mut [u32],
-) -> Option<Bound> {
+) -> Outcome {
     let n = tiles.sums.len() - 1;
     let last = speeds.len() - 1;
     let separators = &mut separators[..=speeds.len()];
     let mut a = separators[first] as usize;
-    for (&speed, end) in speeds[first..last].iter().zip(&mut separators[first + 1..]) {
-        let b = part_end(tiles, a, speed, bound, *end as usize);
-        best = best.lesser(part_bound(tiles, a, (b + 1).min(n), speed));
+    if a == n {
+        return Outcome::Fits(first);
+    }
+    for (p, (&speed, end)) in (first + 1..).zip(speeds[first..last].iter().zip(&mut separators[first + 1..])) {
+        let Some(b) = part_end(tiles, a, speed, bound, *end as usize) else {
+            return Outcome::Fits(p);
+        };
+        best = best.lesser(started_bound(tiles, a, b + 1, speed));
         *end = b as u32;
         a = b;
     }
-    separators[last + 1] = n as u32;
-    let rest = part_bound(tiles, a, n, speeds[last]);
-    if rest.at_most(bound) { None } else { Some(best.lesser(rest)) }
+    let rest = started_bound(tiles, a, n, speeds[last]);
+    if rest.at_most(bound) { Outcome::Fits(last + 1) } else { Outcome::Fails(best.lesser(rest)) }
 }
 
 /// The walk of all machines.
-fn trial(speeds: &[u32], tiles: Tiles, bound: Bound, separators: &mut [u32]) -> Option<Bound> {
+fn whole_walk(speeds: &[u32], tiles: Tiles, bound: Bound, separators: &mut [u32]) -> Outcome {
     separators[0] = 0;
     walk(speeds, tiles, bound, 0, Bound::ENDLESS, separators)
+}
+
+/// The same; then the separators that the walk left become N.
+fn trial(speeds: &[u32], tiles: Tiles, bound: Bound, separators: &mut [u32]) -> Outcome {
+    let outcome = whole_walk(speeds, tiles, bound, separators);
+    let from = if let Outcome::Fits(machines) = outcome { machines } else { speeds.len() };
+    separators[from..=speeds.len()].fill(tiles.sums.len() as u32 - 1);
+    outcome
 }
 
 fn bidding(speeds: &[u32], tiles: Tiles, separators: &mut [u32]) -> Found {
     let mut bound = ideal(speeds, tiles.sums);
     let mut count = 1;
-    while let Some(next) = trial(speeds, tiles, bound, separators) {
+    while let Outcome::Fails(next) = whole_walk(speeds, tiles, bound, separators) {
         bound = next;
         count += 1;
     }
     Found { bound, count }
 }
 
-/// The first machine whose bid is at most the bound, and the least bid before it; the last machine bids all that remains.
+/// The first machine of a failed walk whose bid is at most the bound, and the least bid before it; the last machine bids all that
+/// remains.
 fn first_bidder(speeds: &[u32], tiles: Tiles, separators: &[u32], bound: Bound) -> (usize, Bound) {
-    let n = tiles.sums.len() - 1;
     let last = speeds.len() - 1;
     let mut best = Bound::ENDLESS;
     for (p, (pair, &speed)) in separators.windows(2).zip(&speeds[..last]).enumerate() {
-        let bid = part_bound(tiles, pair[0] as usize, (pair[1] as usize + 1).min(n), speed);
+        let bid = started_bound(tiles, pair[0] as usize, pair[1] as usize + 1, speed);
         if bid.at_most(bound) {
             return (p, best);
         }
@@ -271,7 +299,7 @@ fn bidding_resumed(speeds: &[u32], tiles: Tiles, separators: &mut [u32]) -> Foun
     let mut first = 0;
     let mut best = Bound::ENDLESS;
     separators[0] = 0;
-    while let Some(next) = walk(speeds, tiles, bound, first, best, separators) {
+    while let Outcome::Fails(next) = walk(speeds, tiles, bound, first, best, separators) {
         bound = next;
         count += 1;
         (first, best) = first_bidder(speeds, tiles, separators, bound);
@@ -324,22 +352,22 @@ fn quick(speeds: &[u32], sums: &[u32], separators: &mut [u32]) {
 fn bisection(speeds: &[u32], tiles: Tiles, separators: &mut [u32]) -> Found {
     let bound = ideal(speeds, tiles.sums);
     let mut count = 1;
-    let Some(mut low) = trial(speeds, tiles, bound, separators) else {
+    let Outcome::Fails(mut low) = trial(speeds, tiles, bound, separators) else {
         return Found { bound, count };
     };
     quick(speeds, tiles.sums, separators);
     let mut high = bottleneck(speeds, tiles, separators);
     while !high.at_most(low) {
         match trial(speeds, tiles, low.midpoint(high), separators) {
-            None => high = bottleneck(speeds, tiles, separators),
-            Some(next) => low = next,
+            Outcome::Fits(_) => high = bottleneck(speeds, tiles, separators),
+            Outcome::Fails(next) => low = next,
         }
         count += 1;
     }
     Found { bound: low, count }
 }
 
-/// Whether the walk of all machines fits: a walk without bids, which Nicol's search does not ask for.
+/// Whether the walk of all machines fits: a walk without bids, which Nicol's search does not ask for. There is a tile.
 fn fits(speeds: &[u32], tiles: Tiles, bound: Bound, separators: &mut [u32]) -> bool {
     let n = tiles.sums.len() - 1;
     let last = speeds.len() - 1;
@@ -347,12 +375,13 @@ fn fits(speeds: &[u32], tiles: Tiles, bound: Bound, separators: &mut [u32]) -> b
     let mut a = 0;
     separators[0] = 0;
     for (&speed, end) in speeds[..last].iter().zip(&mut separators[1..]) {
-        let b = part_end(tiles, a, speed, bound, *end as usize);
+        let Some(b) = part_end(tiles, a, speed, bound, *end as usize) else {
+            return true;
+        };
         *end = b as u32;
         a = b;
     }
-    separators[last + 1] = n as u32;
-    part_bound(tiles, a, n, speeds[last]).at_most(bound)
+    started_bound(tiles, a, n, speeds[last]).at_most(bound)
 }
 
 /// Nicol's search: for each machine but the last the smallest end of its part at whose bound the whole job fits, by halving.
@@ -453,7 +482,7 @@ fn allowance(method: Method, second: bool, startup: u32, speeds: &[u32], weights
             let slowest = speeds.iter().copied().min().unwrap_or(1) as u64;
             1 + (64 - (heaviest * (fastest * fastest) / slowest).leading_zeros())
         }
-        Method::Nicol | Method::NicolByTrial => (speeds.len() - 1) as u32 * (usize::BITS - weights.len().leading_zeros()),
+        Method::Nicol | Method::NicolByWalk => (speeds.len() - 1) as u32 * (usize::BITS - weights.len().leading_zeros()),
     }
 }
 
@@ -489,7 +518,7 @@ pub fn plan(
         Method::BiddingResumed => bidding_resumed(speeds, tiles, separators),
         Method::Bisection => bisection(speeds, tiles, separators),
         Method::Nicol => nicol(speeds, tiles, separators, fits),
-        Method::NicolByTrial => nicol(speeds, tiles, separators, |e, s, b, to| trial(e, s, b, to).is_none()),
+        Method::NicolByWalk => nicol(speeds, tiles, separators, |e, s, b, to| matches!(whole_walk(e, s, b, to), Outcome::Fits(_))),
     };
     trial(speeds, tiles, found.bound, separators);
     let bottleneck = bottleneck(speeds, tiles, separators);
@@ -631,8 +660,7 @@ pub fn halving_by_sides(
     })
 }
 
-/// The trial at a lent bound: None where it fits, else the least next bid. It writes the separators in both cases, as the last one how
-/// far the last machine reaches.
+/// The trial at a lent bound. It writes the separators whether it fits or fails, as the last one how far the last machine reaches.
 pub fn probe(
     second: bool,
     startup: u32,
@@ -640,7 +668,7 @@ pub fn probe(
     weights: &[u32],
     bound: Bound,
     separators: &mut [u32],
-) -> Result<Option<Bound>, u32> {
+) -> Result<Outcome, u32> {
     test_job(second, startup, speeds, weights)?;
     if separators.len() <= speeds.len() {
         return Err(9);
@@ -650,13 +678,13 @@ pub fn probe(
     }
     let mut room = [0; MAX_TASKS + 1];
     let tiles = Tiles::new(effective(second, startup), weights, &mut room);
-    let next = trial(speeds, tiles, bound, separators);
-    if next.is_some() {
+    let outcome = trial(speeds, tiles, bound, separators);
+    if let Outcome::Fails(_) = outcome {
         let last = speeds.len() - 1;
         let a = separators[last] as usize;
-        separators[last + 1] = part_end(tiles, a, speeds[last], bound, a) as u32;
+        separators[last + 1] = part_end(tiles, a, speeds[last], bound, a).unwrap_or(weights.len()) as u32;
     }
-    Ok(next)
+    Ok(outcome)
 }
 
 /// The four fields of a record of a plan file: the separators before and behind its part, the part's load, the machine's speed.

@@ -1,6 +1,6 @@
 //! The two sides of the comparison behind one signature each: the planner's archive and plain Rust. Every function is kept
 //! whole, under a name of its own, so that callgrind can count inside it.
-use crate::plain::{self, Bound, Grade, Method};
+use crate::plain::{self, Bound, Grade, Method, Outcome};
 
 extern "C" {
     fn exported_heuristic(
@@ -289,8 +289,8 @@ pub fn plain_nicol(job: &Job, room: &mut Room) -> u32 {
 
 #[no_mangle]
 #[inline(never)]
-pub fn plain_nicoltrial(job: &Job, room: &mut Room) -> u32 {
-    plain_plan(Method::NicolByTrial, job, room)
+pub fn plain_nicolwalk(job: &Job, room: &mut Room) -> u32 {
+    plain_plan(Method::NicolByWalk, job, room)
 }
 
 /// The bottleneck of a quick plan as the planner answers it.
@@ -332,11 +332,12 @@ pub fn plain_halvingsides(job: &Job, room: &mut Room) -> u32 {
 pub fn plain_trial(job: &Job, room: &mut Room) -> u32 {
     match plain::probe(job.second, job.startup, &job.speeds, &job.weights, job.trial, &mut room.separators) {
         Err(number) => number,
-        Ok(None) => {
+        Ok(Outcome::Fits(machines)) => {
             room.answer[0] = 1;
+            room.answer[1] = machines as u64;
             0
         }
-        Ok(Some(next)) => {
+        Ok(Outcome::Fails(next)) => {
             room.answer[0] = 0;
             room.answer[1] = next.load;
             room.answer[2] = next.speed;

@@ -1,8 +1,8 @@
 //! The tables of docs/BENCHMARKS.md and the further ones of target/benchmarks.md, from the records of a run.
-use crate::jobs::{Family, Shape, Size};
+use crate::jobs::{Family, Shape, Size, FRONT};
 use crate::measure::{
-    growth_with_processors, growth_with_tasks, long_row, short_row, FASTEST, HALVED_SIZES, LARGEST, PLACEMENTS, ROW_PROCESSORS, SECOND_FASTEST,
-    SIZES, STARTUP,
+    growth_with_processors, growth_with_tasks, long_row, planned_strips, short_row, short_strips, FASTEST, HALVED_SIZES, LARGEST, PLACEMENTS,
+    ROW_PROCESSORS, SECOND_FASTEST, SIZES, STARTUP,
 };
 use crate::records::{self, Records};
 
@@ -36,7 +36,7 @@ const RATIOS: [(&str, &str, &str, Span); 11] = [
     ("Bidding, plain Rust in the same resumed form", "planner_bidding", "plain_resumed", ALL),
     ("Bidding, plain Rust with every walk from machine 1", "planner_bidding", "plain_bidding", ALL),
     ("Bisection", "planner_bisection", "plain_bisection", ALL),
-    ("Nicol's search, plain Rust by the same trial", "planner_nicol", "plain_nicoltrial", ALL),
+    ("Nicol's search, plain Rust by the same walk", "planner_nicol", "plain_nicolwalk", ALL),
     ("Nicol's search, plain Rust by a walk without bids", "planner_nicol", "plain_nicol", ALL),
     ("Quick plan", "planner_quick", "plain_quick", ALL),
     ("Halving, plain Rust level by level without branches", "planner_halving", "plain_halving", HALVED),
@@ -314,6 +314,41 @@ fn equal_rows(records: &Records, row_of: fn(Family, usize) -> Shape) {
     println!();
 }
 
+/// A contest on a short strip: times in microseconds, planner and plain Rust, and their ratio; the same of the instructions.
+fn short_cells(records: &Records, planner: &str, plain: &str, shape: Shape) -> Vec<String> {
+    let mut cells: Vec<String> = [planner, plain].map(|side| format!("{:.3}", records.get("time", side, shape) / 1000.0)).to_vec();
+    cells.push(format!("{:.2}", ratio(records, "ratio", planner, plain, shape)));
+    cells.extend([planner, plain].map(|side| format!("{:.0}", records.get("count", side, shape))));
+    cells.push(format!("{:.2}", ratio(records, "count", planner, plain, shape)));
+    cells
+}
+
+/// Single trials of short strips, then their plans.
+fn short(records: &Records) {
+    let cells = ["µs: planner", "plain Rust", "ratio", "instructions: planner", "plain Rust", "ratio"];
+    head(&texts(&[&["tiles", "machines come to"], &cells[..]].concat()));
+    for shape in short_strips() {
+        let tiles = match shape.family {
+            Family::Front => format!("{}, weight on the first {FRONT}", shape.tasks),
+            _ => shape.tasks.to_string(),
+        };
+        let mut line = vec![tiles, shape.machines.to_string()];
+        line.extend(short_cells(records, "planner_trial", "plain_trial", shape));
+        row(&line);
+    }
+    println!();
+    println!("Plans of those that have a tile for each machine come to.\n");
+    head(&texts(&[&["", "tiles"], &cells[..]].concat()));
+    for (title, planner, plain) in [("Bidding", "planner_bidding", "plain_resumed"), ("Bisection", "planner_bisection", "plain_bisection")] {
+        for shape in planned_strips() {
+            let mut line = vec![title.to_string(), shape.tasks.to_string()];
+            line.extend(short_cells(records, planner, plain, shape));
+            row(&line);
+        }
+    }
+    println!();
+}
+
 /// On how many jobs it holds.
 fn count_of(these: &[f64], those: &[f64], holds: fn(f64, f64) -> bool) -> String {
     these.iter().zip(those).filter(|&(&a, &b)| holds(a, b)).count().to_string()
@@ -375,6 +410,9 @@ pub fn print_summary(files: &[String]) {
     println!("64 jobs; on how many of the 64 a quick plan's bottleneck is the best plan's, and on how many it is smaller than the other one's;");
     println!("the planner's time in microseconds, the mean of the first {TIMED} jobs.\n");
     equal_rows(&records, long_row);
+    println!("Short strips on long rows: single trials that fit, on {} equal machines, near-uniform weights; the last three strips are long. The times are", LARGEST.1);
+    println!("the least ones of the run, the mean of 64 jobs; the ratio is the median of the passes.\n");
+    short(&records);
 }
 
 /// All the others.
