@@ -12,7 +12,7 @@ use borrow.Author.Tests.{lt-ltb, le-ltb}
 use Rattle.bound.specs.declared.Bound.{Bound}
 use Rattle.bound.specs.Order.{_≼_, _≺_, pick, Real, Finite}
 use Rattle.bound.proofs.Order.{finite-below, le-or-lt, lt-le-trans, not-both, least-cases, least-le, least-same}
-use Rattle.chain.specs.Job.{Job, tasks, last, within, offer}
+use Rattle.chain.specs.Job.{Job, tasks, last, offer}
 use Rattle.chain.specs.Probe.{separator, fits, bid, leastBidTo, nextBid}
 use Rattle.chain.proofs.Parts.{Proper, Plannable}
 use Rattle.chain.proofs.Within.{within-shrink, within-offer, past-offer, offer-real}

@@ -10,9 +10,9 @@ use native.Mathlib.Nat.{mul-le-mul-right, le-trans}
 use lib.Dec.{ltb}
 use lib.ListN.{length, take, drop, length-take, length-drop}
 use borrow.Author.Tests.{ltb-true, ltb-false}
-use lib.Seq.{take-add, drop-drop, take-length, take-all}
+use lib.Seq.{take-add, drop-drop, take-length}
 use Rattle.bound.specs.declared.Bound.{Bound}
-use Rattle.bound.specs.Order.{over, _≼_, Real, Finite}
+use Rattle.bound.specs.Order.{_≼_, Real, Finite}
 use Rattle.bound.proofs.Order.{make-le, zero-load-le, finite-real}
 use Rattle.chain.specs.Lists.{sum, sumTo}
 use Rattle.chain.specs.Job.{Job, tasks, processors, speedOf, partOf, partWeight, loadOf, partLoad, totalWeight, partBound, Valid, at, Partition, busy}

@@ -1,6 +1,6 @@
 -- The processors that a walk comes to: the first of them at which every task is placed. No fewer can take all tasks within the bound.
 -- Assumes nothing.
-use Prim.Native.Nat.{ℕ, suc, _≤_, _<_}
+use Prim.Native.Nat.{ℕ, _≤_, _<_}
 use mathlib.Core.Path.{_≡_, sym, ap, subst, _∙_}
 use mathlib.Core.Bool.{not}
 use mathlib.Core.List.{List}
@@ -12,7 +12,7 @@ use Rattle.bound.specs.declared.Bound.{Bound}
 use Rattle.bound.specs.Order.{_≼_, Real}
 use Rattle.chain.specs.Lists.{isFirst}
 use Rattle.chain.specs.Job.{Job, tasks, processors, last, at}
-use Rattle.chain.specs.Probe.{separator, walk, walked, Begins, fits, visited}
+use Rattle.chain.specs.Probe.{separator, walk, Begins, fits, visited}
 use Rattle.chain.proofs.Tests.{T-of, T-not-of}
 use Rattle.chain.proofs.Parts.{Proper}
 use Rattle.chain.proofs.Indices.{first-holds, first-fails, first-of, first-exists, smallest-first}

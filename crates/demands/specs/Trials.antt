@@ -40,7 +40,7 @@ pub record TrialLeft (job : Job) (B : Bound) (s : List ℕ) : Type 0 where
   pub machines : (n : ℕ) → outcome ≡ Fits n → T (isFirst (λ p. eqb (at (front job (probeWrites job B s)) p) (tasks job)) n)
   -- Scope 3.12: "each separator behind is N"
   pub filled : (n p : ℕ) → outcome ≡ Fits n → n ≤ p → p ≤ processors job → at (front job (probeWrites job B s)) p ≡ tasks job
-  -- Scope 3.14: "No fewer machines, counted from the first, can take all tiles in order within the bound."
+  -- Scope 3.14: "No fewer machines than these, counted from the first, can take all tiles in order within the bound."
   pub fewest : (n p : ℕ) (t : List ℕ) → outcome ≡ Fits n → p ≤ processors job → Begins job B p t → at t p ≡ tasks job → n ≤ p
 
 pub record Trials : Type 0 where

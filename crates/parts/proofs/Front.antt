@@ -20,9 +20,6 @@ pub record Front (f : ℕ → ℕ) (n : ℕ) (xs ys : List ℕ) : Type 0 where
   pub done : (k : ℕ) → k < n → getD ys k 0 ≡ f k
   pub rest : (k : ℕ) → n ≤ k → getD ys k 0 ≡ getD xs k 0
 
-pub front-start : (f : ℕ → ℕ) (xs : List ℕ) → Front f 0 xs xs
-front-start f xs = record { same = refl; done = λ k h. absurd (let z : ⊥ = omega arith in z); rest = λ k h. refl }
-
 -- A store of the next value.
 pub front-store : {f : ℕ → ℕ} {n : ℕ} {xs ys : List ℕ} (v : ℕ) → Front f n xs ys → n < length xs → v ≡ f n → Front f (suc n) xs (set ys n v)
 front-store {f} {n} {xs} {ys} v w h e =

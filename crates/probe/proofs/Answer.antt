@@ -1,19 +1,19 @@
 -- What a caller reads off the probe's answer and off the list that it wrote.
 -- Assumes nothing.
 use Prim.Native.Nat.{ℕ, suc, _≤_, _<_}
-use mathlib.Core.Path.{_≡_, refl, sym, ap, subst, _∙_}
+use mathlib.Core.Path.{_≡_, refl, sym, ap, _∙_}
 use mathlib.Core.Bool.{Bool, true, false, not}
 use mathlib.Core.List.{List, _++_}
 use native.Mathlib.Omega.{arith}
 use lib.Dec.{T}
-use lib.ListN.{length, getD, take, drop, length-append, length-drop, List·getD-append}
-use lib.Seq.{take-at, drop-at}
+use lib.ListN.{length, getD, drop, length-append, length-drop, List·getD-append}
+use lib.Seq.{drop-at}
 use Rattle.bound.specs.declared.Bound.{Bound}
-use Rattle.chain.specs.Job.{Job, Valid, processors, at, Partition}
+use Rattle.chain.specs.Job.{Job, Valid, processors, at}
 use Rattle.chain.specs.Probe.{walk, fits, nextBid, visited, probe}
 use Rattle.chain.proofs.Parts.{valid-proper}
 use Rattle.chain.proofs.Bottleneck.{processors-last}
-use Rattle.chain.proofs.Walk.{walk-length, walk-partition}
+use Rattle.chain.proofs.Walk.{walk-length}
 use Rattle.chain.specs.declared.Outcome.{Outcome}
 use Rattle.chain.specs.declared.Outcome.the-variants.{Fits, Fails}
 
@@ -49,15 +49,9 @@ module _ {job : Job} (v : Valid job) (B : Bound) where
   pub walk-count : length (walk job B) ≡ suc (processors job)
   walk-count = walk-length job B ∙ ap suc (sym (processors-last (valid-proper v)))
 
-  -- Its first P + 1 entries are the walk,
-  pub written-take : (l : List ℕ) → take (suc (processors job)) (walk job B ++ l) ≡ walk job B
-  written-take l = take-at (walk job B) l (suc (processors job)) walk-count
-
+  -- Its first P + 1 entries are the walk's,
   pub written-at : (l : List ℕ) (p : ℕ) → p ≤ processors job → getD (walk job B ++ l) p 0 ≡ at (walk job B) p
   written-at l p h = List·getD-append (walk job B) l 0 p (omega (arith, walk-count))
-
-  pub written-partition : T (fits job B) → (l : List ℕ) → Partition job (take (suc (processors job)) (walk job B ++ l))
-  written-partition f l = subst (Partition job) (sym (written-take l)) (walk-partition (valid-proper v) B f)
 
   -- the others are what was there,
   pub written-drop : (l : List ℕ) → drop (suc (processors job)) (walk job B ++ l) ≡ l

@@ -2,7 +2,6 @@
 -- Assumes nothing.
 use Prim.Native.Nat.{_-_, _≤_}
 use native.Mathlib.Omega.{arith}
-use lib.ListN.{length}
 use Rattle.probe.proofs.Walked.{Filling, filling-start, filling-turn, filling-end}
 use Rattle.probe.proofs.fill.Statement.{statement}
 use Rattle.probe.proofs.fill.Tie as tie

@@ -1,6 +1,5 @@
 -- `probe_in` meets its contract: every walk reaches its first point, and is filled up from where it ended.
 -- Assumes nothing.
-use Prim.Native.Nat.{_+_, _≤_}
 use mathlib.Core.Path.{sym, subst, _∙_}
 use native.Mathlib.Omega.{arith}
 use borrow.Author.Needs.{needs}
@@ -8,7 +7,6 @@ use Rattle.chain.specs.Job.{Job, jobOf}
 use Rattle.chain.proofs.Parts.{valid-proper}
 use Rattle.chain.proofs.Visited.{visited-first, visited-fails}
 use Rattle.chain.proofs.Ranges.{index-fits}
-use Rattle.probe.specs.declared.Point.{Point}
 use Rattle.probe.specs.Walk.{Reached}
 use Rattle.probe.proofs.Answer.{fits-outcome, fails-outcome}
 use Rattle.probe.proofs.Walked.{reached-first, begun-length, begun-filled}
