@@ -12,7 +12,7 @@ use lib.Dec.{T, leb, eqb, leb→le, le→leb, eqb→eq, eqb-refl, lit≤}
 use lib.ListN.{length, getD}
 use Rattle.chain.specs.Limits.{maxTasks, maxWeight, maxStartup, maxProcessors, maxSpeed}
 use Rattle.chain.specs.Lists.{all}
-use Rattle.chain.specs.Job.{Job, tasks, processors, speedOf, partLoad, Valid, at, Partition}
+use Rattle.chain.specs.Job.{Job, tasks, processors, speedOf, keeps, partLoad, Valid, at, Partition, allKept}
 use Rattle.chain.specs.Refusal.{Test, between, eachBetween, methodTest, startupTest, speedsTest, weightsTest, processorsTest, tasksTest, rowTest, lengthTest, holdsTest, enoughTest, freeTest, boundTest, isPartition, partitionTest, PlanRecords, separatorsOf, planLengthTest, joined, joinedTest, trueAt, trueTest, firstRefusal, FirstFailing, jobTests, Inputs, planTests, callTests, refusal}
 use Rattle.chain.proofs.Tests.{T-of, and-left, and-right, and-both}
 use Rattle.chain.proofs.Indices.{all-at, all-of}
@@ -349,7 +349,7 @@ module _ {n : ℕ} (ts us : List Test) (tested : n ≡ firstRefusal ts) where
 
 -- The test of a list of separators passes exactly when it is a partition.
 pub partition-test : (job : Job) (s : List ℕ) → (T (isPartition job s) → Partition job s) × (Partition job s → T (isPartition job s))
-unfolding isPartition
+unfolding isPartition allKept
 partition-test job s = (from, to)
   where
     len : Bool
@@ -364,8 +364,12 @@ partition-test job s = (from, to)
     final : Bool
     final = eqb (at s (processors job)) (tasks job)
 
-    from : T (len && zeroth && grow && final) → Partition job s
-    from t =
+    keep : Bool
+    keep = all (λ p. keeps job p (at s p) (at s (suc p))) (processors job)
+
+    from : T (len && zeroth && grow && final && keep) → Partition job s
+    from t₀ =
+        let t : T (len && zeroth && grow && final) = and-left (len && zeroth && grow && final) keep t₀ in
         let u : T (len && zeroth && grow) = and-left (len && zeroth && grow) final t in
         let v : T (len && zeroth) = and-left (len && zeroth) grow u in
         record {
@@ -373,14 +377,17 @@ partition-test job s = (from, to)
           first = eqb→eq (at s 0) 0 (and-right len zeroth v);
           grows = λ p h. leb→le (at s p) (at s (suc p)) (all-at (λ p. leb (at s p) (at s (suc p))) (processors job) (and-right (len && zeroth) grow u) p h);
           end = eqb→eq (at s (processors job)) (tasks job) (and-right (len && zeroth && grow) final t);
+          kept = all-at (λ p. keeps job p (at s p) (at s (suc p))) (processors job) (and-right (len && zeroth && grow && final) keep t₀);
         }
 
-    to : Partition job s → T (len && zeroth && grow && final)
+    to : Partition job s → T (len && zeroth && grow && final && keep)
     to w =
-        and-both (len && zeroth && grow) final
+        and-both (len && zeroth && grow && final) keep
+        (and-both (len && zeroth && grow) final
         (and-both (len && zeroth) grow (and-both len zeroth (eq-test (length s) (suc (processors job)) (w .count)) (eq-test (at s 0) 0 (w .first)))
         (all-of (λ p. leb (at s p) (at s (suc p))) (processors job) (λ p h. le→leb (at s p) (at s (suc p)) (w .grows p h))))
-        (eq-test (at s (processors job)) (tasks job) (w .end))
+        (eq-test (at s (processors job)) (tasks job) (w .end)))
+        (all-of (λ p. keeps job p (at s p) (at s (suc p))) (processors job) (w .kept))
 
 -- What the tests of a plan file ask: the length; the separators of a division, where the records begin and end; true loads and speeds.
 pub record Told (job : Job) (plan : PlanRecords) : Type 0 where

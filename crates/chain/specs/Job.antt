@@ -2,12 +2,12 @@
 -- the scope's machine p + 1, and a part from a to b is the scope's tiles a + 1 to b.
 use Prim.Native.Nat.{ℕ, zero, suc, _+_, _-_, _≤_, _<_}
 use mathlib.Core.Path.{_≡_}
-use mathlib.Core.Bool.{Bool, true, false, not, cond, _&&_}
+use mathlib.Core.Bool.{Bool, true, false, not, cond, _&&_, _||_}
 use mathlib.Core.List.{List, [], _∷_}
-use lib.Dec.{T, eqb, ltb}
+use lib.Dec.{T, leb, eqb, ltb}
 use lib.ListN.{length, getD, take, drop, replicate}
 use Rattle.bound.specs.declared.Bound.{Bound}
-use Rattle.bound.specs.Order.{over, le, greater}
+use Rattle.bound.specs.Order.{over, infinite, le, pick, greater}
 use Rattle.chain.specs.Limits.{maxTasks, maxWeight, maxStartup, maxProcessors, maxSpeed}
 use Rattle.chain.specs.Lists.{sum, greatestOf, leastOf, sumTo, all, eachOf}
 
@@ -132,13 +132,18 @@ slowest job = slowestOf (job .speeds)
 unfoldable pub partBound : Job → ℕ → ℕ → ℕ → Bound
 partBound job p a b = over (partLoad job a b) (speedOf job p)
 
--- The part from a to b on processor p is within the bound B.
-unfoldable pub within : Job → ℕ → ℕ → ℕ → Bound → Bool
-within job p a b B = le (partBound job p a b) B
+-- The part from a to b keeps the hold of processor p: that has no limit, or the tasks are no more.
+unfoldable pub keeps : Job → ℕ → ℕ → ℕ → Bool
+keeps job p a b = let h = holdOf job p in eqb h 0 || leb (b - a) h
 
--- What a processor bids for the part from a to b, and what the table enters for it: the part's bound.
+-- The part from a to b on processor p is within the bound B, and keeps the hold.
+unfoldable pub within : Job → ℕ → ℕ → ℕ → Bound → Bool
+within job p a b B = le (partBound job p a b) B && keeps job p a b
+
+-- What a processor bids for the part from a to b, and what the table enters for it: the part's bound, or the infinite one, above all others, where
+-- the part does not keep the hold.
 unfoldable pub offer : Job → ℕ → ℕ → ℕ → Bound
-offer job p a b = partBound job p a b
+offer job p a b = pick (keeps job p a b) (partBound job p a b) infinite
 
 -- The separator at index p of a list.
 abbrev pub at : List ℕ → ℕ → ℕ
@@ -150,6 +155,11 @@ pub record Partition (job : Job) (s : List ℕ) : Type 0 where
   pub first : at s 0 ≡ 0
   pub grows : (p : ℕ) → p < processors job → at s p ≤ at s (suc p)
   pub end : at s (processors job) ≡ tasks job
+  pub kept : (p : ℕ) → p < processors job → T (keeps job p (at s p) (at s (suc p)))
+
+-- Every part keeps its processor's hold.
+unfoldable pub allKept : Job → List ℕ → Bool
+allKept job s = all (λ p. keeps job p (at s p) (at s (suc p))) (processors job)
 
 -- How many machines have tiles.
 unfoldable pub busy : Job → List ℕ → ℕ
@@ -172,6 +182,10 @@ bottleneck job s = bottleneckTo job s (last job)
 -- Scope 2.8: "The ideal is Wtot/Etot."
 unfoldable pub ideal : Job → Bound
 ideal job = over (totalWeight job) (totalSpeed job)
+
+-- All weight and the start-up work on the slowest processor: every part's bound is at most this.
+unfoldable pub widest : Job → Bound
+widest job = over (totalWeight job + job .startup) (slowest job)
 
 -- Every part of the partition is within the bound.
 pub record Within (job : Job) (s : List ℕ) (B : Bound) : Type 0 where

@@ -8,7 +8,7 @@ use lib.Dec.{T, leb, eqb}
 use Rattle.bound.specs.declared.Bound.{Bound}
 use Rattle.chain.specs.Limits.{maxTasks, maxWeight, maxStartup, maxProcessors, maxSpeed, maxBoundLoad, maxBoundSpeed}
 use Rattle.chain.specs.Lists.{tabulate, all, powerOfTwo}
-use Rattle.chain.specs.Job.{Job, tasks, processors, speedOf, held, enough, partLoad, at}
+use Rattle.chain.specs.Job.{Job, tasks, processors, speedOf, held, enough, partLoad, at, allKept}
 
 -- A test: the number of its refusal, and whether it passes.
 pub record Test : Type 0 where
@@ -84,7 +84,7 @@ boundTest B = test 10 (leb (B .load) maxBoundLoad && between 1 maxBoundSpeed (B 
 unfoldable pub isPartition : Job → List ℕ → Bool
 isPartition job s =
     eqb (length s) (suc (processors job)) && eqb (at s 0) 0 && all (λ p. leb (at s p) (at s (suc p))) (processors job)
-    && eqb (at s (processors job)) (tasks job)
+    && eqb (at s (processors job)) (tasks job) && allKept job s
 
 -- Refusal 11: "the first P + 1 entries are no division"
 unfoldable pub partitionTest : Job → List ℕ → Test
