@@ -1,5 +1,5 @@
 /* A scheduling host: plans job A of the documents by each method, prints the plan and its grade, grades a plan from elsewhere, plans
- * the same job with start-up work, then shows refusals. */
+ * the same job with start-up work and with a hold, then shows refusals. */
 #include <stdio.h>
 #include <string.h>
 
@@ -10,6 +10,12 @@ static size_t put(uint8_t *at, uint8_t kind, uint32_t value) {
     at[0] = kind;
     for (int i = 0; i < 4; i++) at[4 + i] = (uint8_t)(value >> (8 * i));
     return PELSHAQU_JOB_RECORD;
+}
+
+/* Gives a machine's record its hold, the most tiles that it can take; 0 is no limit. */
+static void put_hold(uint8_t *at, uint16_t hold) {
+    at[2] = (uint8_t)hold;
+    at[3] = (uint8_t)(hold >> 8);
 }
 
 static uint32_t field(const uint8_t *at) {
@@ -70,6 +76,20 @@ int main(void) {
     if (!print_plan(second, sizeof second, PELSHAQU_BISECTION, plan)) return 1;
     print_grade("its grade", second, sizeof second, plan, sizeof plan);
     print_grade("that plan without start-up work", job, n, plan, sizeof plan);
+    /* Job A where the second machine holds one tile: bytes 2 and 3 of its record. That is job S of the documents. */
+    uint8_t held[5 * PELSHAQU_JOB_RECORD];
+    memcpy(held, job, n);
+    put_hold(held + PELSHAQU_JOB_RECORD, 1);
+    printf("with hold 1 on machine 2:\n");
+    if (!print_plan(held, n, PELSHAQU_BISECTION, plan)) return 1;
+    print_grade("its grade", held, n, plan, sizeof plan);
+    if (plan_job(job, n, PELSHAQU_BISECTION, plan, sizeof plan) != 0) return 1;
+    print_grade("the plan without holds", held, n, plan, sizeof plan);
+    printf("by method 4: refused %u\n", plan_job(held, n, PELSHAQU_NICOL, plan, sizeof plan));
+    put_hold(held, 1);
+    printf("with hold 1 on both machines: refused %u\n", plan_job(held, n, PELSHAQU_TABLE, plan, sizeof plan));
+    held[1] = 1;
+    printf("with byte 1 not zero: refused %u\n", plan_job(held, n, PELSHAQU_TABLE, plan, sizeof plan));
     put(second, PELSHAQU_STARTUP, PELSHAQU_MAX_STARTUP + 1);
     printf("start-up work out of range: refused %u\n", plan_job(second, sizeof second, PELSHAQU_TABLE, plan, sizeof plan));
     memcpy(second, job, n);
