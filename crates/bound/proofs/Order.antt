@@ -215,15 +215,16 @@ pub lesser-second : (B C : Bound) → le B C ≡ false → C ≡ lesser B C
 unfolding lesser
 lesser-second B C e = ap (λ (t : Bool). pick t B C) (sym e)
 
--- The infinite bound is above every bound with a speed, so the lesser of it and such a bound is that bound.
+-- The infinite bound is above every bound with a speed, so the lesser of it and such a bound, or itself, is that bound.
 pub infinite-real : Real infinite
 infinite-real = record { positive = omega arith }
 
 pub below-infinite : {B : Bound} → 1 ≤ B .speed → B ≺ infinite
 below-infinite h = make-lt (omega arith)
 
-pub lesser-infinite : (B : Bound) → 1 ≤ B .speed → lesser infinite B ≡ B
-lesser-infinite B h = sym (lesser-second infinite B (le-false {B = infinite} {C = B} (below-infinite h)))
+pub lesser-infinite : (B : Bound) → (1 ≤ B .speed) ⊎ (B ≡ infinite) → lesser infinite B ≡ B
+lesser-infinite B (inl h) = sym (lesser-second infinite B (le-false {B = infinite} {C = B} (below-infinite h)))
+lesser-infinite B (inr e) = lesser-cases (λ C. C ≡ B) infinite B (sym e) refl
 
 -- The least of several: a property of each is the least's,
 pub least-cases : (Q : Bound → Type 0) (f : ℕ → Bound) (n : ℕ) → ((p : ℕ) → p ≤ n → Q (f p)) → Q (leastTo f n)
@@ -249,8 +250,8 @@ unfolding leastTo
 least-same zero h = h 0 (omega arith)
 least-same (suc n) h = ap₂ lesser (least-same n (λ p l. h p (omega arith))) (h (suc n) (omega arith))
 
--- and one with a speed is counted in by `lesser`, the first of them too.
-pub least-next : (f : ℕ → Bound) (n : ℕ) → 1 ≤ (f n) .speed → lesser (leastBelow f n) (f n) ≡ leastTo f n
+-- and one with a speed, or the infinite one, is counted in by `lesser`, the first of them too.
+pub least-next : (f : ℕ → Bound) (n : ℕ) → (1 ≤ (f n) .speed) ⊎ (f n ≡ infinite) → lesser (leastBelow f n) (f n) ≡ leastTo f n
 unfolding leastTo leastBelow
 least-next f zero h = lesser-infinite (f 0) h
 least-next f (suc n) h = refl

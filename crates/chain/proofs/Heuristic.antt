@@ -141,12 +141,15 @@ module _ {job : Job} (ok : Proper job) where
             (nearest-le job p)
       ]
 
+  pub heuristic-count : length (heuristic job) ≡ suc (processors job)
+  heuristic-count = heuristic-length job ∙ ap suc (sym (processors-last ok))
+
   -- Without holds the heuristic gives a partition.
   pub heuristic-partition : Free job → Partition job (heuristic job)
   unfolding heuristic
   heuristic-partition free =
       record {
-        count = heuristic-length job ∙ ap suc (sym (processors-last ok));
+        count = heuristic-count;
         first = refl;
         grows = grows;
         end = heuristic-end;

@@ -48,6 +48,14 @@ tasks-fit = lit< tt
 pub index-fits : {job : Job} {i : ℕ} → Valid job → i ≤ tasks job → i < 2 ^ 32
 index-fits v h = lt-of-le-of-lt (le-trans h (v .tasks-limit)) tasks-fit
 
+-- and processors,
+processors-fit : maxProcessors < 2 ^ 32
+unfolding maxProcessors
+processors-fit = lit< tt
+
+pub processor-fits : {job : Job} {p : ℕ} → Valid job → p ≤ processors job → p < 2 ^ 32
+processor-fits v h = lt-of-le-of-lt (le-trans h (v .processors-limit)) processors-fit
+
 -- and speeds,
 pub speeds-fit : maxSpeed < 2 ^ 32
 unfolding maxSpeed
@@ -242,6 +250,10 @@ small-fits s = (lt-of-le-of-lt (s .load-small) loads-fit, lt-of-le-of-lt (s .spe
 pub lendable-fits : {B : Bound} → Lendable B → (B .load < 2 ^ 64) × (B .speed < 2 ^ 64)
 lendable-fits s = (lt-of-le-of-lt (s .load-lent) lent-load-fits, lt-of-le-of-lt (s .speed-lent) lent-speed-fits)
 
+-- A lent bound is a number.
+pub lent-finite : {B : Bound} → Lendable B → Finite B
+lent-finite l = record { speed-positive = l .speed-positive }
+
 -- A small bound can be lent.
 pub small-lendable : {B : Bound} → Small B → Lendable B
 small-lendable s =
@@ -265,23 +277,32 @@ middle-lendable s t =
       speed-lent = le-trans (mul-le-mul-left 2 (mul-le-mul (s .speed-small) (t .speed-small))) middle-speed-lendable;
     }
 
--- The products of a comparison of a small bound with one that can be lent.
+-- The products of a comparison of a small bound, and of any offer, with one that can be lent.
 pub probe-products : {B C : Bound} → Small B → Lendable C → (B .load * C .speed < 2 ^ 64) × (C .load * B .speed < 2 ^ 64)
 probe-products s t = (
   lt-of-le-of-lt (mul-le-mul (s .load-small) (t .speed-lent)) load-by-lent-speed,
   lt-of-le-of-lt (mul-le-mul (t .load-lent) (s .speed-small)) lent-load-by-speed,
 )
 
+pub offer-products : {job : Job} {B : Bound} → Valid job → (p a b : ℕ) → Lendable B
+    → (offer job p a b .load * B .speed < 2 ^ 64) × (B .load * offer job p a b .speed < 2 ^ 64)
+offer-products {job} {B} v p a b l =
+    offer-cases job (λ C. (C .load * B .speed < 2 ^ 64) × (B .load * C .speed < 2 ^ 64)) p a b (λ t. probe-products (part-small v p a b) l)
+    (λ t. (omega (arith, lendable-fits l .1), omega arith))
+
 -- The products of a comparison of two small bounds.
 pub small-products : {B C : Bound} → Small B → Small C → (B .load * C .speed < 2 ^ 64) × (C .load * B .speed < 2 ^ 64)
 small-products s t = probe-products s (small-lendable t)
 
--- A small bound is narrow, and so are the infinite one and the lesser of two narrow ones.
+-- A small bound is narrow, and so are the infinite one, every offer and the lesser of two narrow ones.
 pub small-narrow : {B : Bound} → Small B → Narrow B
 small-narrow s = record { load-fits = small-fits s .0; speed-fits = small-fits s .1 }
 
 pub infinite-narrow : Narrow infinite
 infinite-narrow = record { load-fits = lit< tt; speed-fits = lit< tt }
+
+pub offer-narrow : {job : Job} → Valid job → (p a b : ℕ) → Narrow (offer job p a b)
+offer-narrow {job} v p a b = offer-cases job Narrow p a b (λ t. small-narrow (part-small v p a b)) (λ t. infinite-narrow)
 
 pub lesser-narrow : {B C : Bound} → Narrow B → Narrow C → Narrow (lesser B C)
 lesser-narrow {B} {C} b c = lesser-cases Narrow B C b c

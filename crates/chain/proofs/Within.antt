@@ -15,7 +15,7 @@ use Rattle.bound.specs.Order.{infinite, le, _≼_, _≺_, pick, Real, Finite}
 use Rattle.bound.proofs.Order.{open-le, make-le, le-trans, le-or-lt, not-both, le-speedless, infinite-real, below-infinite}
 use Rattle.chain.specs.Lists.{eachOf}
 use Rattle.chain.specs.Job.{Job, processors, fastest, holdOf, held, partBound, keeps, within, offer, at, Partition, boundAt, Within}
-use Rattle.chain.proofs.Tests.{T-true, T-false, and-left, and-right, and-both}
+use Rattle.chain.proofs.Tests.{T-true, T-false, and-left, and-right, and-both, same-test}
 use Rattle.chain.proofs.Parts.{Proper, load-right, load-left, part-empty, part-right, part-left, part-real}
 use Rattle.chain.proofs.Extremes.{speed-fastest}
 
@@ -123,6 +123,10 @@ module _ (job : Job) where
   pub past-offer : (p a b : ℕ) {B : Bound} → Finite B → T (not (within job p a b B)) → B ≺ offer job p a b
   past-offer p a b {B} f t =
       elim (le-or-lt (offer job p a b) B) [ inl h ↦ absurd (T-not (within job p a b B) t (offer-within p a b f h)) | inr h ↦ h ]
+
+  pub offer-test : (p a b : ℕ) {B : Bound} → Finite B → le (offer job p a b) B ≡ within job p a b B
+  offer-test p a b {B} f =
+      same-test (le (offer job p a b) B) (within job p a b B) (λ t. offer-within p a b f (record { holds = t })) (λ t. within-offer p a b t .holds)
 
   -- The offer for an empty part is at most everything; it is no less for a longer part.
   pub offer-empty : (p a : ℕ) (B : Bound) → offer job p a a ≼ B

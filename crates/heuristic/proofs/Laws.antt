@@ -20,7 +20,7 @@ use Rattle.chain.specs.Heuristic.{nearest, heuristic}
 use Rattle.chain.proofs.Parts.{Proper, valid-proper, weight-all}
 use Rattle.chain.proofs.Indices.{table-of}
 use Rattle.chain.proofs.Ideal.{total-speed-is}
-use Rattle.chain.proofs.Heuristic.{nearest-le, nearest-first, nearest-grows, heuristic-at, heuristic-end, heuristic-partition}
+use Rattle.chain.proofs.Heuristic.{nearest-le, nearest-first, nearest-grows, heuristic-at, heuristic-end, heuristic-count}
 use Rattle.chain.proofs.Ranges.{speeds-to-limit, index-fits, total-speed-positive, total-speed-fits, heuristic-products}
 use Rattle.parts.specs.Prefix.{Prefix, Ready}
 use Rattle.parts.specs.Rising.{Rising, LastAtMost}
@@ -295,7 +295,7 @@ placed-end {job} xs {ys} {total} {weight} {p} {speed} {past} {s} {i} v room w h 
         (let e : suc p ≡ processors job = omega (arith, w .to, ok .some) in e) (w .front)) (w .room) (x ∙ sym (heuristic-end ok)))
 
     length-is : length (heuristic job) ≡ suc (processors job)
-    length-is = heuristic-partition ok .count
+    length-is = heuristic-count ok
 
     table : tabulate (at (heuristic job)) (suc (processors job)) ≡ heuristic job
     table = table-of (heuristic job) length-is

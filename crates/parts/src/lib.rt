@@ -7,7 +7,7 @@ ghost use lib.ListN.{length, getD, take, drop};
 ghost use Rattle.bound.specs.Order.{over};
 ghost use Rattle.chain.specs.Lists.{sum};
 ghost use Rattle.chain.specs.Ranges.{Narrow};
-ghost use Rattle.chain.specs.Job.{Job, jobOf, processors, Valid, holdOf, ideal, Partition, boundAt, bottleneck};
+ghost use Rattle.chain.specs.Job.{Job, jobOf, processors, Valid, holdOf, keeps, ideal, Partition, boundAt, bottleneck};
 ghost use Rattle.parts.specs.Prefix.{prefixes, weightBetween, loadBetween, Loadable, Ready};
 ghost use Rattle.parts.specs.Rising.{Rising, near, Spanned, LastAtMost};
 use bound::Bound;
@@ -155,6 +155,29 @@ pub fn hold_of(startup: u32, speeds: &[u32], holds: &[u16], weights: &[u32], p: 
     ensures { λ job r. ⌜ r < 2 ^ 16 ⌝ }
 {
     hold_count(holds[p])
+}
+
+// Inner. Whether the part from a to b keeps the hold of processor p.
+pub fn keeps_hold(
+    startup: u32,
+    speeds: &[u32],
+    holds: &[u16],
+    weights: &[u32],
+    p: usize,
+    a: usize,
+    b: usize,
+) -> bool
+    ghost { Job }
+    requires { λ job. ⌜ jobOf startup (now speeds) (now holds) (now weights) ≡ job ⌝ }
+    requires { λ job. ⌜ Valid job ⌝ }
+    requires { λ job. ⌜ (p < processors job) × (a ≤ b) ⌝ }
+    ensures { λ job r. ⌜ r ≡ keeps job p a b ⌝ }
+{
+    let hold = hold_of(startup, speeds, holds, weights, p);
+    if hold == 0 {
+        return true;
+    }
+    b - a <= hold
 }
 
 // Inner. The bound of processor p's part.

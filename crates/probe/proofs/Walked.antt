@@ -11,18 +11,18 @@ use lib.Dec.{T, ltb}
 use borrow.Author.Tests.{lt-ltb, le-ltb}
 use lib.ListN.{length, getD, set, drop}
 use Rattle.bound.specs.declared.Bound.{Bound}
-use Rattle.bound.specs.Order.{le, lesser, leastBelow}
+use Rattle.bound.specs.Order.{le, lesser, leastBelow, Finite}
 use Rattle.chain.specs.Lists.{tabulate}
 use Rattle.chain.specs.Job.{Job, Valid, tasks, processors, last, offer, at}
 use Rattle.chain.specs.Probe.{reach, separator, walk, walked, fits, visited, probe}
 use Rattle.chain.proofs.Parts.{valid-proper}
 use Rattle.chain.proofs.Bottleneck.{processors-last}
-use Rattle.chain.proofs.Within.{within-is, offer-part}
+use Rattle.chain.proofs.Within.{offer-test}
 use Rattle.chain.proofs.Tests.{T-true}
 use Rattle.chain.proofs.Walk.{reach-from, reach-to, separator-to, separator-left, walk-at, walked-walk, full-fits}
 use Rattle.chain.proofs.Visited.{visited-first, visited-full, visited-all, visited-rest}
-use Rattle.chain.specs.Ranges.{Small, Lendable, Narrow}
-use Rattle.chain.proofs.Ranges.{offer-small, probe-products, small-narrow, lesser-narrow, infinite-narrow}
+use Rattle.chain.specs.Ranges.{Lendable, Narrow}
+use Rattle.chain.proofs.Ranges.{offer-products, offer-narrow, lesser-narrow, infinite-narrow}
 use Rattle.chain.proofs.Indices.{table-of}
 use Rattle.parts.proofs.Front.{Front, front-store, front-next, front-end, front-of, front-kept}
 use Rattle.parts.specs.Kept.{KeptFrom}
@@ -35,7 +35,8 @@ use Rattle.probe.proofs.Answer.{outcome-fits, outcome-fails, walk-count
 -- The products of the test of the last part fit.
 pub rest-products : {job : Job} {B C : Bound} (p a b : ℕ) → Valid job → Lendable B → C ≡ offer job p a b
     → (C .load * B .speed < 2 ^ 64) × (B .load * C .speed < 2 ^ 64)
-rest-products p a b v l e = probe-products (subst Small (sym e) (offer-small v p a b)) l
+rest-products {job} {B} p a b v l e =
+    subst (λ (C : Bound). (C .load * B .speed < 2 ^ 64) × (B .load * C .speed < 2 ^ 64)) (sym e) (offer-products v p a b l)
 
 -- No part ends past the last task.
 pub end-to : (job : Job) {b : ℕ} (p a : ℕ) (B : Bound) → b ≡ reach job p a B → a ≤ tasks job → b ≤ tasks job
@@ -172,7 +173,7 @@ module _ {job : Job} (v : Valid job) {B : Bound} {xs ys : List ℕ} {p a : ℕ} 
             ∙ ap (λ (i : ℕ). lesser best (offer job p (separator job B p) (suc i))) (next f)
             ∙ ap (λ (D : Bound). lesser D (offer job p (separator job B p) (suc (separator job B (suc p))))) (w .least)
             ∙ least-turn v B p h;
-        small = subst Narrow (sym g) (lesser-narrow (w .small) (small-narrow (offer-small v p a (suc b))));
+        small = subst Narrow (sym g) (lesser-narrow (w .small) (offer-narrow v p a (suc b)));
         front = store e;
       })
     where
@@ -192,7 +193,7 @@ module _ {job : Job} (v : Valid job) {B : Bound} {xs ys : List ℕ} {p a : ℕ} 
         begun-end job B (store e) (omega (arith, processors-last (valid-proper v))) (came-to-all ∙ sym f)
 
     -- The last part, from where the walk stands, decides,
-    module _ {start : ℕ} (x : start ≡ a) {C : Bound} (e : C ≡ offer job p start (tasks job)) where
+    module _ (f : Finite B) {start : ℕ} (x : start ≡ a) {C : Bound} (e : C ≡ offer job p start (tasks job)) where
       rest-is : C ≡ offer job (last job) (separator job B (last job)) (tasks job)
       rest-is =
           e ∙ ap (λ (i : ℕ). offer job p i (tasks job)) (x ∙ w .reached)
@@ -201,8 +202,7 @@ module _ {job : Job} (v : Valid job) {B : Bound} {xs ys : List ℕ} {p a : ℕ} 
       fits-is : le C B ≡ fits job B
       unfolding fits
       fits-is =
-          ap (λ (D : Bound). le D B) (rest-is ∙ offer-part job (last job) (separator job B (last job)) (tasks job))
-          ∙ sym (within-is job (last job) (separator job B (last job)) (tasks job) B)
+          ap (λ (D : Bound). le D B) rest-is ∙ offer-test job (last job) (separator job B (last job)) (tasks job) f
 
       pub answer-fits : {m : ℕ} → le C B ≡ true → m ≡ processors job → Fits m ≡ probe job B
       answer-fits t g =
@@ -210,9 +210,9 @@ module _ {job : Job} (v : Valid job) {B : Bound} {xs ys : List ℕ} {p a : ℕ} 
 
       -- and is the last bid.
       pub answer-fails : {D : Bound} → le C B ≡ false → D ≡ lesser best C → Fails D ≡ probe job B
-      answer-fails {D} t f =
+      answer-fails {D} t g =
           ap Fails
-          (f ∙ ap (λ (E : Bound). lesser E C) (w .least ∙ ap (leastBefore job B) at-last) ∙ ap (lesser (leastBefore job B (last job))) rest-is
+          (g ∙ ap (λ (E : Bound). lesser E C) (w .least ∙ ap (leastBefore job B) at-last) ∙ ap (lesser (leastBefore job B (last job))) rest-is
           ∙ least-end v B)
           ∙ sym (outcome-fails job B (sym fits-is ∙ t))
 

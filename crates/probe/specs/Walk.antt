@@ -1,17 +1,28 @@
 -- A walk on its way: where it stands, and what it has seen; and what a failed one leaves.
-use Prim.Native.Nat.{ℕ, _≤_, _<_}
+use Prim.Native.Nat.{ℕ, suc, _+_, _-_, _≤_, _<_}
 use mathlib.Core.Path.{_≡_}
 use mathlib.Core.Bool.{not, cond}
 use mathlib.Core.List.{List, _++_}
-use lib.Dec.{T, ltb}
+use lib.Dec.{T, eqb, ltb}
 use lib.ListN.{getD, drop}
 use Rattle.bound.specs.declared.Bound.{Bound}
-use Rattle.bound.specs.Order.{infinite, leastBelow}
+use Rattle.bound.specs.Order.{infinite, _≼_, _≺_, leastBelow}
 use Rattle.chain.specs.Ranges.{Narrow}
 use Rattle.chain.specs.Lists.{tabulate}
-use Rattle.chain.specs.Job.{Job, tasks, last}
+use Rattle.chain.specs.Job.{Job, tasks, last, partBound}
 use Rattle.chain.specs.Probe.{separator, fits, bid, nextBid, visited}
 use Rattle.probe.specs.declared.Point.{Point}
+
+-- How far the part of processor p from a on goes by the bound alone: r is the greatest index from a to N whose part's bound is at most B.
+pub record EndsBy (job : Job) (p a : ℕ) (B : Bound) (r : ℕ) : Type 0 where
+  pub from : a ≤ r
+  pub to : r ≤ tasks job
+  pub below : partBound job p a r ≼ B
+  pub above : r < tasks job → B ≺ partBound job p a (suc r)
+
+-- The end of a part from a on that would go to b: there, or where the hold h ends it.
+unfoldable pub keptEnd : ℕ → ℕ → ℕ → ℕ
+keptEnd h a b = cond (eqb h 0) b (cond (ltb h (b - a)) (a + h) b)
 
 -- The least bid of the processors below p, infinite of none.
 abbrev pub leastBefore : Job → Bound → ℕ → Bound

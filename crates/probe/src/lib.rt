@@ -9,10 +9,12 @@ ghost use Rattle.chain.specs.Job.{Job, jobOf, tasks, processors, offer};
 ghost use Rattle.chain.specs.Probe.{reach, walk, walked, probe};
 ghost use Rattle.parts.specs.Prefix.{Ready};
 ghost use Rattle.parts.specs.Rising.{Rising, LastAtMost};
-ghost use Rattle.probe.specs.Walk.{filled, begun, firstPoint, Reached};
+ghost use Rattle.probe.specs.Walk.{EndsBy, keptEnd, filled, begun, firstPoint, Reached};
 use bound::Bound;
 use chain::Outcome;
+use parts::hold_of;
 use parts::index;
+use parts::keeps_hold;
 use parts::last_ahead;
 use parts::narrow;
 use parts::narrow_load;
@@ -64,11 +66,12 @@ pub fn raised(sum: u32, load: u64) -> u32
     sum + narrow_load(load)
 }
 
-// Inner. The greatest index from a to N whose part, from a on, is within the bound on processor p. The hint changes only the time:
-// the end in a walk at a lesser bound is a good one.
-pub fn part_end(
+// Inner. The greatest index from a to N whose part's bound, from a on, is at most the bound on processor p, whatever its hold. The hint
+// changes only the time: the end in a walk at a lesser bound is a good one.
+pub fn bound_end(
     startup: u32,
     speeds: &[u32],
+    holds: &[u16],
     weights: &[u32],
     sums: &[u32],
     p: usize,
@@ -77,11 +80,11 @@ pub fn part_end(
     hint: usize,
 ) -> usize
     ghost { Job }
-    requires { λ job. ⌜ jobOf startup (now speeds) (now weights) ≡ job ⌝ }
+    requires { λ job. ⌜ jobOf startup (now speeds) (now holds) (now weights) ≡ job ⌝ }
     requires { λ job. ⌜ Ready job (now sums) ⌝ }
     requires { λ job. ⌜ Lendable bound ⌝ }
     requires { λ job. ⌜ (p < processors job) × (a ≤ tasks job) ⌝ }
-    ensures { λ job r. ⌜ r ≡ reach job p a bound ⌝ }
+    ensures { λ job r. ⌜ EndsBy job p a bound r ⌝ }
 {
     let n = weights.len();
     let limit = most_load(bound, speeds[p]);
@@ -96,10 +99,50 @@ pub fn part_end(
     last_from(sums, a, n, raised(sums[a], room), hint)
 }
 
-// Inner. The bid of processor p: the bound of its part from a to end with one more task, which is there.
+// Inner. Where a part from a on ends that would go to `end`: there, or at the hold, 0 for no limit.
+pub fn kept_end(hold: usize, a: usize, end: usize) -> usize
+    requires { ⌜ a ≤ end ⌝ }
+    ensures { λ r. ⌜ r ≡ keptEnd hold a end ⌝ }
+{
+    if hold == 0 {
+        return end;
+    }
+    if hold < end - a {
+        return a + hold;
+    }
+    end
+}
+
+// Inner. The greatest index from a to N whose part, from a on, is within the bound on processor p: the lesser of what the search finds
+// and the hold.
+pub fn part_end(
+    startup: u32,
+    speeds: &[u32],
+    holds: &[u16],
+    weights: &[u32],
+    sums: &[u32],
+    p: usize,
+    a: usize,
+    bound: Bound,
+    hint: usize,
+) -> usize
+    ghost { Job }
+    requires { λ job. ⌜ jobOf startup (now speeds) (now holds) (now weights) ≡ job ⌝ }
+    requires { λ job. ⌜ Ready job (now sums) ⌝ }
+    requires { λ job. ⌜ Lendable bound ⌝ }
+    requires { λ job. ⌜ (p < processors job) × (a ≤ tasks job) ⌝ }
+    ensures { λ job r. ⌜ r ≡ reach job p a bound ⌝ }
+{
+    let end = bound_end(startup, speeds, holds, weights, sums, p, a, bound, hint);
+    kept_end(hold_of(startup, speeds, holds, weights, p), a, end)
+}
+
+// Inner. The bid of processor p: the bound of its part from a to end with one more task, which is there; none, 1/0, where the processor is at
+// its hold.
 pub fn bid_of(
     startup: u32,
     speeds: &[u32],
+    holds: &[u16],
     weights: &[u32],
     sums: &[u32],
     p: usize,
@@ -107,31 +150,38 @@ pub fn bid_of(
     end: usize,
 ) -> Bound
     ghost { Job }
-    requires { λ job. ⌜ jobOf startup (now speeds) (now weights) ≡ job ⌝ }
+    requires { λ job. ⌜ jobOf startup (now speeds) (now holds) (now weights) ≡ job ⌝ }
     requires { λ job. ⌜ Ready job (now sums) ⌝ }
     requires { λ job. ⌜ (p < processors job) × (a ≤ end) × (end < tasks job) ⌝ }
     ensures { λ job r. ⌜ r ≡ offer job p a (suc end) ⌝ }
     ensures { λ job r. ⌜ Narrow r ⌝ }
 {
+    if !keeps_hold(startup, speeds, holds, weights, p, a, end + 1) {
+        return Bound::INFINITE;
+    }
     started_bound(startup, speeds[p], sums, a, end + 1)
 }
 
-// Inner. The bound of all that remains from a on, on processor p.
+// Inner. The bound of all that remains from a on, on processor p; none, 1/0, where it does not hold that.
 pub fn rest_of(
     startup: u32,
     speeds: &[u32],
+    holds: &[u16],
     weights: &[u32],
     sums: &[u32],
     p: usize,
     a: usize,
 ) -> Bound
     ghost { Job }
-    requires { λ job. ⌜ jobOf startup (now speeds) (now weights) ≡ job ⌝ }
+    requires { λ job. ⌜ jobOf startup (now speeds) (now holds) (now weights) ≡ job ⌝ }
     requires { λ job. ⌜ Ready job (now sums) ⌝ }
     requires { λ job. ⌜ (p < processors job) × (a ≤ tasks job) ⌝ }
     ensures { λ job r. ⌜ r ≡ offer job p a (tasks job) ⌝ }
     ensures { λ job r. ⌜ Narrow r ⌝ }
 {
+    if !keeps_hold(startup, speeds, holds, weights, p, a, weights.len()) {
+        return Bound::INFINITE;
+    }
     part_bound(startup, speeds[p], sums, a, weights.len())
 }
 
@@ -160,6 +210,7 @@ pub fn fill(xs: &mut [u32], from: usize, to: usize, value: u32)
 pub fn walk_from(
     startup: u32,
     speeds: &[u32],
+    holds: &[u16],
     weights: &[u32],
     sums: &[u32],
     bound: Bound,
@@ -167,7 +218,7 @@ pub fn walk_from(
     separators: &mut [u32],
 ) -> Outcome
     ghost { Job }
-    requires { λ job. ⌜ jobOf startup (now speeds) (now weights) ≡ job ⌝ }
+    requires { λ job. ⌜ jobOf startup (now speeds) (now holds) (now weights) ≡ job ⌝ }
     requires { λ job. ⌜ Ready job (now sums) ⌝ }
     requires { λ job. ⌜ Lendable bound ⌝ }
     requires { λ job. ⌜ processors job < length (now separators) ⌝ }
@@ -187,16 +238,19 @@ pub fn walk_from(
     while p < last {
         let hint = index(separators[p + 1]);
         separators[p] = narrow(a);
-        let end = part_end(startup, speeds, weights, sums, p, a, bound, hint);
+        let end = part_end(startup, speeds, holds, weights, sums, p, a, bound, hint);
         if n <= end {
             return Outcome::Fits(p + 1);
         }
-        best = Bound::lesser(best, bid_of(startup, speeds, weights, sums, p, a, end));
+        best = Bound::lesser(
+            best,
+            bid_of(startup, speeds, holds, weights, sums, p, a, end),
+        );
         a = end;
         p += 1;
     }
     separators[p] = narrow(a);
-    let rest = rest_of(startup, speeds, weights, sums, p, a);
+    let rest = rest_of(startup, speeds, holds, weights, sums, p, a);
     if Bound::at_most(rest, bound) {
         return Outcome::Fits(count);
     }
@@ -218,13 +272,14 @@ pub fn first_point() -> Point
 pub fn probe_in(
     startup: u32,
     speeds: &[u32],
+    holds: &[u16],
     weights: &[u32],
     sums: &[u32],
     bound: Bound,
     separators: &mut [u32],
 ) -> Outcome
     ghost { Job }
-    requires { λ job. ⌜ jobOf startup (now speeds) (now weights) ≡ job ⌝ }
+    requires { λ job. ⌜ jobOf startup (now speeds) (now holds) (now weights) ≡ job ⌝ }
     requires { λ job. ⌜ Ready job (now sums) ⌝ }
     requires { λ job. ⌜ Lendable bound ⌝ }
     requires { λ job. ⌜ processors job < length (now separators) ⌝ }
@@ -234,7 +289,16 @@ pub fn probe_in(
     let count = speeds.len();
     let n = narrow(weights.len());
     let first = first_point();
-    let answer = walk_from(startup, speeds, weights, sums, bound, first, separators);
+    let answer = walk_from(
+        startup,
+        speeds,
+        holds,
+        weights,
+        sums,
+        bound,
+        first,
+        separators,
+    );
     match answer {
         Outcome::Fits(visited) => {
             fill(separators, visited, count + 1, n);
@@ -252,26 +316,27 @@ pub fn probe_in(
 pub fn walked_in(
     startup: u32,
     speeds: &[u32],
+    holds: &[u16],
     weights: &[u32],
     sums: &[u32],
     bound: Bound,
     separators: &mut [u32],
 ) -> Outcome
     ghost { Job }
-    requires { λ job. ⌜ jobOf startup (now speeds) (now weights) ≡ job ⌝ }
+    requires { λ job. ⌜ jobOf startup (now speeds) (now holds) (now weights) ≡ job ⌝ }
     requires { λ job. ⌜ Ready job (now sums) ⌝ }
     requires { λ job. ⌜ Lendable bound ⌝ }
     requires { λ job. ⌜ processors job < length (now separators) ⌝ }
     ensures { λ job r. ⌜ r ≡ probe job bound ⌝ }
     ensures { λ job r. ⌜ now (separators .exit) ≡ walked job bound ++ drop (suc (processors job)) (now (separators .entry)) ⌝ }
 {
-    let answer = probe_in(startup, speeds, weights, sums, bound, separators);
+    let answer = probe_in(startup, speeds, holds, weights, sums, bound, separators);
     match answer {
         Outcome::Fits(visited) => Outcome::Fits(visited),
         Outcome::Fails(next) => {
             let last = speeds.len() - 1;
             let a = index(separators[last]);
-            let end = part_end(startup, speeds, weights, sums, last, a, bound, a);
+            let end = part_end(startup, speeds, holds, weights, sums, last, a, bound, a);
             separators[last + 1] = narrow(end);
             Outcome::Fails(next)
         }

@@ -1,15 +1,28 @@
--- `bid_of` meets its contract: the bid's part goes one task further.
+-- `bid_of` meets its contract: the bid's part goes one task further, or there is no bid.
 -- Assumes nothing.
 use Prim.Native.Nat.{_+_}
 use mathlib.Core.Path.{_≡_, refl}
 use native.Mathlib.Omega.{arith}
 use lib.ListN.{getD}
 use Rattle.chain.specs.Job.{Job, jobOf, partBound}
+use Rattle.chain.proofs.Ranges.{infinite-narrow}
 use Rattle.parts.proofs.Laws.{loads-to, prefix-bound, started-some}
-use Rattle.probe.proofs.Bids.{bid-next}
+use Rattle.probe.proofs.Bids.{offered, not-offered, one-more}
 use borrow.Author.Needs.{needs}
 use Rattle.probe.proofs.bid_of.Statement.{statement}
 use Rattle.probe.proofs.bid_of.Tie as tie
+
+add-keeps-hold : tie.Need-add-keeps-hold
+add-keeps-hold c = search needs
+
+keeps-hold-requires : tie.Need-keeps-hold-requires
+keeps-hold-requires c κs = search needs
+
+returns : tie.Need-returns
+returns c =
+    let s = c .before .before .before .before .before .before in
+    let job : Job = jobOf (s .args .startup) (s .args .speeds .now) (s .args .holds .now) (s .args .weights .now) in
+    (one-more job (s .args .p) (s .args .a) (s .args .end) (not-offered job (s .args .p) (s .args .a) (s .args .end + 1) (c .before .keeps-hold .ensures) (c .if1 .taken)), infinite-narrow)
 
 mul-started-bound : tie.Need-mul-started-bound
 mul-started-bound c = search needs
@@ -22,25 +35,28 @@ add-started-bound c = search needs
 
 started-bound-requires : tie.Need-started-bound-requires
 started-bound-requires c κs =
-    let s = c .before .before .before .before in
+    let s = c .before .before .before .before .before .before .before in
     (loads-to (s .pre .0) (omega arith), omega (arith, s .pre .1 .1))
 
-returns : tie.Need-returns
-returns c =
-    let s = c .before .before .before .before .before in
-    let job : Job = jobOf (s .args .startup) (s .args .speeds .now) (s .args .weights .now) in
+returns-2 : tie.Need-returns-2
+returns-2 c =
+    let s = c .before .before .before .before .before .before .before .before in
+    let job : Job = jobOf (s .args .startup) (s .args .speeds .now) (s .args .holds .now) (s .args .weights .now) in
     let e : c .started-bound .result ≡ partBound job (s .args .p) (s .args .a) (s .args .end + 1) =
     prefix-bound (s .pre .0 .prefix) (s .args .p) (s .args .a) (s .args .end + 1) (s .pre .1 .0) (omega (arith, s .pre .1 .1)) (omega arith) refl
     (started-some (job .startup) (s .args .sums .now) (getD (job .speeds) (s .args .p) 0) (s .args .a) (s .args .end + 1) (omega (arith, s .pre .1 .1))
     (c .started-bound .ensures .0)) in
-    (bid-next job (s .args .p) (s .args .a) (s .args .end) e, c .started-bound .ensures .1)
+    (one-more job (s .args .p) (s .args .a) (s .args .end) (offered job (s .args .p) (s .args .a) (s .args .end + 1) (c .before .before .before .keeps-hold .ensures) (c .before .before .if1 .left) e), c .started-bound .ensures .1)
 
 pub bid-of-spec : {M : Type 1} → statement M
 bid-of-spec =
     tie.close
     (tie.spec
+    add-keeps-hold
+    keeps-hold-requires
+    returns
     mul-started-bound
     shared-slice-read-started-bound
     add-started-bound
     started-bound-requires
-    returns)
+    returns-2)
