@@ -10,12 +10,12 @@ use native.Mathlib.Nat.{lt-of-le-of-lt}
 use native.Mathlib.Decide.{decLe}
 use lib.Dec.{ltb, lit<}
 use borrow.Author.Tests.{lt-ltb, le-ltb, ltb-true, ltb-false}
-use lib.ListN.{length, getD, set, length-append, length-set, take, drop}
-use lib.Seq.{getD-set-same, drop-set-lt}
+use lib.ListN.{length, getD, set, length-append, length-set, length-take, take, drop}
+use lib.Seq.{getD-set-same, getD-take, drop-set-lt}
 use Rattle.bound.specs.declared.Bound.{Bound}
 use Rattle.bound.specs.Order.{over}
 use Rattle.chain.specs.Lists.{sum, sumTo, tabulate}
-use Rattle.chain.specs.Job.{Job, Valid, tasks, processors, speedOf, partOf, partWeight, partLoad, totalWeight, totalSpeed, partBound}
+use Rattle.chain.specs.Job.{Job, jobOf, Valid, tasks, processors, speedOf, holdOf, partOf, partWeight, partLoad, totalWeight, totalSpeed, partBound}
 use Rattle.chain.proofs.Sums.{sum-take, sum-is-sumTo, sum-grows}
 use Rattle.chain.proofs.Parts.{part-none, weight-split, weight-le-total, load-none, load-some}
 use Rattle.chain.proofs.Indices.{length-tabulate, at-tabulate}
@@ -59,6 +59,14 @@ started-some c xs e a b h f = f ∙ ap (λ (w : ℕ). over w e) (between-some c 
 pub speed-read : (job : Job) (p : ℕ) → p < processors job → getD (job .speeds) p 0 ≡ speedOf job p
 unfolding speedOf
 speed-read job p h = same-default (job .speeds) p 0 1 h
+
+-- The hold of a processor is read off the list of holds, which has one for each.
+pub holds-long : (c : ℕ) (es hs ws : List ℕ) → Valid (jobOf c es hs ws) → length es ≤ length hs
+holds-long c es hs ws v = omega (arith, v .holds-given, length-take (length es) hs)
+
+pub hold-read : (c : ℕ) (es hs ws : List ℕ) (p : ℕ) → p < length es → getD hs p 0 ≡ holdOf (jobOf c es hs ws) p
+unfolding holdOf
+hold-read c es hs ws p h = sym (getD-take (length es) hs p 0 h)
 
 module _ {job : Job} {xs : List ℕ} (r : Prefix job xs) where
   -- Prefix sums grow, and their difference is the weight of the part between.
