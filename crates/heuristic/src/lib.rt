@@ -84,12 +84,13 @@ pub fn nearest_in(sums: &[u32], s: usize, n: usize, past: usize, factor: u64, ta
 pub fn heuristic_in(
     startup: u32,
     speeds: &[u32],
+    holds: &[u16],
     weights: &[u32],
     sums: &[u32],
     separators: &mut [u32],
 )
     ghost { Job }
-    requires { λ job. ⌜ jobOf startup (now speeds) (now weights) ≡ job ⌝ }
+    requires { λ job. ⌜ jobOf startup (now speeds) (now holds) (now weights) ≡ job ⌝ }
     requires { λ job. ⌜ Ready job (now sums) ⌝ }
     requires { λ job. ⌜ processors job < length (now separators) ⌝ }
     ensures { λ job r. ⌜ now (separators .exit) ≡ heuristic job ++ drop (suc (processors job)) (now (separators .entry)) ⌝ }
