@@ -59,12 +59,13 @@ fn split_row(sums: &[u32], separators: &mut [u32], first: usize, last: usize, a:
 pub fn halving_in(
     startup: u32,
     speeds: &[u32],
+    holds: &[u16],
     weights: &[u32],
     sums: &[u32],
     separators: &mut [u32],
 )
     ghost { Job }
-    requires { λ job. ⌜ jobOf startup (now speeds) (now weights) ≡ job ⌝ }
+    requires { λ job. ⌜ jobOf startup (now speeds) (now holds) (now weights) ≡ job ⌝ }
     requires { λ job. ⌜ Ready job (now sums) ⌝ }
     requires { λ job. ⌜ Halvable (now speeds) ⌝ }
     requires { λ job. ⌜ processors job < length (now separators) ⌝ }
