@@ -69,6 +69,7 @@ pub fn raised(sum: u32, load: u64) -> u32
 pub fn part_end(
     startup: u32,
     speeds: &[u32],
+    holds: &[u16],
     weights: &[u32],
     sums: &[u32],
     p: usize,
@@ -77,7 +78,7 @@ pub fn part_end(
     hint: usize,
 ) -> usize
     ghost { Job }
-    requires { λ job. ⌜ jobOf startup (now speeds) (now weights) ≡ job ⌝ }
+    requires { λ job. ⌜ jobOf startup (now speeds) (now holds) (now weights) ≡ job ⌝ }
     requires { λ job. ⌜ Ready job (now sums) ⌝ }
     requires { λ job. ⌜ Lendable bound ⌝ }
     requires { λ job. ⌜ (p < processors job) × (a ≤ tasks job) ⌝ }
@@ -100,6 +101,7 @@ pub fn part_end(
 pub fn bid_of(
     startup: u32,
     speeds: &[u32],
+    holds: &[u16],
     weights: &[u32],
     sums: &[u32],
     p: usize,
@@ -107,7 +109,7 @@ pub fn bid_of(
     end: usize,
 ) -> Bound
     ghost { Job }
-    requires { λ job. ⌜ jobOf startup (now speeds) (now weights) ≡ job ⌝ }
+    requires { λ job. ⌜ jobOf startup (now speeds) (now holds) (now weights) ≡ job ⌝ }
     requires { λ job. ⌜ Ready job (now sums) ⌝ }
     requires { λ job. ⌜ (p < processors job) × (a ≤ end) × (end < tasks job) ⌝ }
     ensures { λ job r. ⌜ r ≡ offer job p a (suc end) ⌝ }
@@ -120,13 +122,14 @@ pub fn bid_of(
 pub fn rest_of(
     startup: u32,
     speeds: &[u32],
+    holds: &[u16],
     weights: &[u32],
     sums: &[u32],
     p: usize,
     a: usize,
 ) -> Bound
     ghost { Job }
-    requires { λ job. ⌜ jobOf startup (now speeds) (now weights) ≡ job ⌝ }
+    requires { λ job. ⌜ jobOf startup (now speeds) (now holds) (now weights) ≡ job ⌝ }
     requires { λ job. ⌜ Ready job (now sums) ⌝ }
     requires { λ job. ⌜ (p < processors job) × (a ≤ tasks job) ⌝ }
     ensures { λ job r. ⌜ r ≡ offer job p a (tasks job) ⌝ }
@@ -160,6 +163,7 @@ pub fn fill(xs: &mut [u32], from: usize, to: usize, value: u32)
 pub fn walk_from(
     startup: u32,
     speeds: &[u32],
+    holds: &[u16],
     weights: &[u32],
     sums: &[u32],
     bound: Bound,
@@ -167,7 +171,7 @@ pub fn walk_from(
     separators: &mut [u32],
 ) -> Outcome
     ghost { Job }
-    requires { λ job. ⌜ jobOf startup (now speeds) (now weights) ≡ job ⌝ }
+    requires { λ job. ⌜ jobOf startup (now speeds) (now holds) (now weights) ≡ job ⌝ }
     requires { λ job. ⌜ Ready job (now sums) ⌝ }
     requires { λ job. ⌜ Lendable bound ⌝ }
     requires { λ job. ⌜ processors job < length (now separators) ⌝ }
@@ -187,16 +191,19 @@ pub fn walk_from(
     while p < last {
         let hint = index(separators[p + 1]);
         separators[p] = narrow(a);
-        let end = part_end(startup, speeds, weights, sums, p, a, bound, hint);
+        let end = part_end(startup, speeds, holds, weights, sums, p, a, bound, hint);
         if n <= end {
             return Outcome::Fits(p + 1);
         }
-        best = Bound::lesser(best, bid_of(startup, speeds, weights, sums, p, a, end));
+        best = Bound::lesser(
+            best,
+            bid_of(startup, speeds, holds, weights, sums, p, a, end),
+        );
         a = end;
         p += 1;
     }
     separators[p] = narrow(a);
-    let rest = rest_of(startup, speeds, weights, sums, p, a);
+    let rest = rest_of(startup, speeds, holds, weights, sums, p, a);
     if Bound::at_most(rest, bound) {
         return Outcome::Fits(count);
     }
@@ -218,13 +225,14 @@ pub fn first_point() -> Point
 pub fn probe_in(
     startup: u32,
     speeds: &[u32],
+    holds: &[u16],
     weights: &[u32],
     sums: &[u32],
     bound: Bound,
     separators: &mut [u32],
 ) -> Outcome
     ghost { Job }
-    requires { λ job. ⌜ jobOf startup (now speeds) (now weights) ≡ job ⌝ }
+    requires { λ job. ⌜ jobOf startup (now speeds) (now holds) (now weights) ≡ job ⌝ }
     requires { λ job. ⌜ Ready job (now sums) ⌝ }
     requires { λ job. ⌜ Lendable bound ⌝ }
     requires { λ job. ⌜ processors job < length (now separators) ⌝ }
@@ -234,7 +242,16 @@ pub fn probe_in(
     let count = speeds.len();
     let n = narrow(weights.len());
     let first = first_point();
-    let answer = walk_from(startup, speeds, weights, sums, bound, first, separators);
+    let answer = walk_from(
+        startup,
+        speeds,
+        holds,
+        weights,
+        sums,
+        bound,
+        first,
+        separators,
+    );
     match answer {
         Outcome::Fits(visited) => {
             fill(separators, visited, count + 1, n);
@@ -252,26 +269,27 @@ pub fn probe_in(
 pub fn walked_in(
     startup: u32,
     speeds: &[u32],
+    holds: &[u16],
     weights: &[u32],
     sums: &[u32],
     bound: Bound,
     separators: &mut [u32],
 ) -> Outcome
     ghost { Job }
-    requires { λ job. ⌜ jobOf startup (now speeds) (now weights) ≡ job ⌝ }
+    requires { λ job. ⌜ jobOf startup (now speeds) (now holds) (now weights) ≡ job ⌝ }
     requires { λ job. ⌜ Ready job (now sums) ⌝ }
     requires { λ job. ⌜ Lendable bound ⌝ }
     requires { λ job. ⌜ processors job < length (now separators) ⌝ }
     ensures { λ job r. ⌜ r ≡ probe job bound ⌝ }
     ensures { λ job r. ⌜ now (separators .exit) ≡ walked job bound ++ drop (suc (processors job)) (now (separators .entry)) ⌝ }
 {
-    let answer = probe_in(startup, speeds, weights, sums, bound, separators);
+    let answer = probe_in(startup, speeds, holds, weights, sums, bound, separators);
     match answer {
         Outcome::Fits(visited) => Outcome::Fits(visited),
         Outcome::Fails(next) => {
             let last = speeds.len() - 1;
             let a = index(separators[last]);
-            let end = part_end(startup, speeds, weights, sums, last, a, bound, a);
+            let end = part_end(startup, speeds, holds, weights, sums, last, a, bound, a);
             separators[last + 1] = narrow(end);
             Outcome::Fails(next)
         }

@@ -22,13 +22,13 @@ add-started-bound c = search needs
 
 started-bound-requires : tie.Need-started-bound-requires
 started-bound-requires c κs =
-    let s = c .before .before .before .before in
+    let s = c .before .before .before .before .before in
     (loads-to (s .pre .0) (omega arith), omega (arith, s .pre .1 .1))
 
 returns : tie.Need-returns
 returns c =
-    let s = c .before .before .before .before .before in
-    let job : Job = jobOf (s .args .startup) (s .args .speeds .now) (s .args .weights .now) in
+    let s = c .before .before .before .before .before .before in
+    let job : Job = jobOf (s .args .startup) (s .args .speeds .now) (s .args .holds .now) (s .args .weights .now) in
     let e : c .started-bound .result ≡ partBound job (s .args .p) (s .args .a) (s .args .end + 1) =
     prefix-bound (s .pre .0 .prefix) (s .args .p) (s .args .a) (s .args .end + 1) (s .pre .1 .0) (omega (arith, s .pre .1 .1)) (omega arith) refl
     (started-some (job .startup) (s .args .sums .now) (getD (job .speeds) (s .args .p) 0) (s .args .a) (s .args .end + 1) (omega (arith, s .pre .1 .1))

@@ -18,7 +18,7 @@ shared-slice-read-most-load c = search needs
 
 most-load-requires : tie.Need-most-load-requires
 most-load-requires c κs =
-    let s = c .before .before .before .before in
+    let s = c .before .before .before .before .before in
     (limit-fits (s .pre .0 .valid) (s .pre .1 .0) (s .args .p) (s .pre .1 .1 .0), s .pre .1 .0 .speed-positive)
 
 wide-requires : tie.Need-wide-requires
@@ -26,13 +26,13 @@ wide-requires c κs = search needs
 
 returns : tie.Need-returns
 returns c =
-    let s = c .before .before .before .before .before .before .before in
+    let s = c .before .before .before .before .before .before .before .before in
     end-none (s .pre .0) (s .pre .1 .0) (s .args .p) (s .args .a) (s .pre .1 .1 .0) (s .pre .1 .1 .1) (c .before .before .most-load .ensures)
     (omega (arith, c .before .wide .ensures))
 
 part-weight-requires : tie.Need-part-weight-requires
 part-weight-requires c κs =
-    let s = c .before .before .before .before .before .before .before in
+    let s = c .before .before .before .before .before .before .before .before in
     (prefix-to (s .pre .0) (omega arith), s .pre .1 .1 .1)
 
 wide-requires-2 : tie.Need-wide-requires-2
@@ -40,7 +40,7 @@ wide-requires-2 c κs = search needs
 
 returns-2 : tie.Need-returns-2
 returns-2 c =
-    let s = c .before .before .before .before .before .before .before .before .before .before in
+    let s = c .before .before .before .before .before .before .before .before .before .before .before in
     end-all (s .pre .0) (s .pre .1 .0) (s .args .p) (s .args .a) (s .pre .1 .1 .0) (s .pre .1 .1 .1)
     (c .before .before .before .before .before .most-load .ensures)
     (omega (arith, c .before .before .before .before .wide .ensures)) (ap (λ (n : ℕ). c .before .before .before .before .before .most-load .result - n) (c .before .before .before .before .wide .ensures))
@@ -54,7 +54,7 @@ shared-slice-read-raised c = search needs
 
 raised-requires : tie.Need-raised-requires
 raised-requires c κs =
-    let s = c .before .before .before .before .before .before .before .before .before .before .before in
+    let s = c .before .before .before .before .before .before .before .before .before .before .before .before in
     cap-fits (s .pre .0) (s .pre .1 .0) (s .args .p) (s .args .a) (s .pre .1 .1 .0) (s .pre .1 .1 .1)
     (c .before .before .before .before .before .before .most-load .ensures)
     (omega (arith, c .before .before .before .before .before .wide .ensures)) (ap (λ (n : ℕ). c .before .before .before .before .before .before .most-load .result - n) (c .before .before .before .before .before .wide .ensures))
@@ -62,14 +62,14 @@ raised-requires c κs =
 
 last-from-requires : tie.Need-last-from-requires
 last-from-requires c κs =
-    let s = c .before .before .before .before .before .before .before .before .before .before .before .before in
+    let s = c .before .before .before .before .before .before .before .before .before .before .before .before .before in
     let w = c .before .before .before .before .part-weight .ensures in
     let l = between-before (s .args .sums .now) (s .args .a) (length (s .args .weights .now)) (s .pre .1 .1 .1) (omega (arith, c .before .before .before .wide2 .ensures, w)) in
     (prefix-rising (s .pre .0 .prefix), (l, omega (arith, c .raised .ensures)))
 
 returns-3 : tie.Need-returns-3
 returns-3 c =
-    let s = c .before .before .before .before .before .before .before .before .before .before .before .before .before in
+    let s = c .before .before .before .before .before .before .before .before .before .before .before .before .before .before in
     end-last (s .pre .0) (s .pre .1 .0) (s .args .p) (s .args .a) (s .pre .1 .1 .0) (s .pre .1 .1 .1)
     (c .before .before .before .before .before .before .before .before .most-load .ensures)
     (omega (arith, c .before .before .before .before .before .before .before .wide .ensures))

@@ -15,17 +15,17 @@ use Rattle.probe.proofs.probe_in.Tie as tie
 
 -- The job that the lists make.
 abbrev job-at : tie.Start → Job
-job-at s = jobOf (s .args .startup) (s .args .speeds .now) (s .args .weights .now)
+job-at s = jobOf (s .args .startup) (s .args .speeds .now) (s .args .holds .now) (s .args .weights .now)
 
 narrow-requires : tie.Need-narrow-requires
-narrow-requires c κs = index-fits (c .before .before .before .before .pre .0 .valid) (omega arith)
+narrow-requires c κs = index-fits (c .before .before .before .before .before .pre .0 .valid) (omega arith)
 
 first-point-requires : tie.Need-first-point-requires
 first-point-requires c κs = search needs
 
 walk-from-requires : tie.Need-walk-from-requires
 walk-from-requires c κs =
-    let s = c .before .before .before .before .before .before .before in
+    let s = c .before .before .before .before .before .before .before .before in
     (s .pre .0, (s .pre .1 .0, (s .pre .1 .1, subst (Reached (job-at s) (s .args .bound) _) (sym (c .before .first-point .ensures)) (reached-first (job-at s) (s .args .bound) _))))
 
 enum-known-answer : tie.Need-enum-known-answer
@@ -36,7 +36,7 @@ add-fill c = search needs
 
 fill-requires : tie.Need-fill-requires
 fill-requires c κs =
-    let s = c .before .before .before .before .before .before .before .before .before .before .before .before .before .before in
+    let s = c .before .before .before .before .before .before .before .before .before .before .before .before .before .before .before in
     let y = c .before .before .before .before .before .before .walk-from .ensures in
     let m = fits-outcome (job-at s) (s .args .bound) (sym (y .0) ∙ c .before .before .answer .given .1) in
     let f = m .1 in
@@ -58,7 +58,7 @@ same-length c = search needs
 
 returns : tie.Need-returns
 returns c =
-    let s = c .before .before .before .before .before .before .before .before .before .before .before .before .before .before .before .before .before in
+    let s = c .before .before .before .before .before .before .before .before .before .before .before .before .before .before .before .before .before .before in
     let y = c .before .before .before .before .before .before .before .before .before .walk-from .ensures in
     let e = sym (c .before .before .before .before .before .answer .given .1) ∙ y .0 in
     let m = fits-outcome (job-at s) (s .args .bound) (sym e) in
@@ -69,7 +69,7 @@ same-length-2 c = search needs
 
 returns-2 : tie.Need-returns-2
 returns-2 c =
-    let s = c .before .before .before .before .before .before .before .before .before .before .before .before .before .before .before .before .before in
+    let s = c .before .before .before .before .before .before .before .before .before .before .before .before .before .before .before .before .before .before in
     let y = c .before .before .before .before .before .before .before .before .before .walk-from .ensures in
     let e = sym (c .before .before .before .before .before .answer2 .given .1) ∙ y .0 in
     let m = fails-outcome (job-at s) (s .args .bound) (sym e) in

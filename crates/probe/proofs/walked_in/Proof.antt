@@ -33,13 +33,13 @@ index-requires c κs = search needs
 
 part-end-requires : tie.Need-part-end-requires
 part-end-requires c κs =
-    let s = c .before .before .before .before .before .before .before .before .before .before .before .before .before in
+    let s = c .before .before .before .before .before .before .before .before .before .before .before .before .before .before in
     let h = start-inside (s .pre .0 .valid) (s .args .bound) (s .args .separators .now) (s .pre .1 .1) (c .before .before .before .before .before .before .before .probe-in .ensures .1) (omega arith) (c .index .ensures) in
     (s .pre .0, (s .pre .1 .0, (omega arith, omega (arith, h))))
 
 narrow-requires : tie.Need-narrow-requires
 narrow-requires c κs =
-    let s = c .before .before .before .before .before .before .before .before .before .before .before .before .before .before in
+    let s = c .before .before .before .before .before .before .before .before .before .before .before .before .before .before .before in
     let h = start-inside (s .pre .0 .valid) (s .args .bound) (s .args .separators .now) (s .pre .1 .1) (c .before .before .before .before .before .before .before .before .probe-in .ensures .1) (omega arith) (c .before .index .ensures) in
     index-fits (s .pre .0 .valid) (omega (arith, end-to _ _ _ (s .args .bound) (c .part-end .ensures) (omega (arith, h))))
 
@@ -57,8 +57,8 @@ same-length c = search needs
 
 returns : tie.Need-returns
 returns c =
-    let s = c .before .before .before .before .before .before .before .before .before .before .before in
-    let job : Job = jobOf (s .args .startup) (s .args .speeds .now) (s .args .weights .now) in
+    let s = c .before .before .before .before .before .before .before .before .before .before .before .before in
+    let job : Job = jobOf (s .args .startup) (s .args .speeds .now) (s .args .holds .now) (s .args .weights .now) in
     let y = c .before .before .before .before .before .probe-in .ensures in
     let e = sym (c .before .answer .given .1) ∙ y .0 in
     (e, fit-written (s .pre .0 .valid) (s .args .bound) _ (fits-outcome job (s .args .bound) (sym e) .0) (y .1))
@@ -68,7 +68,7 @@ same-length-2 c = search needs
 
 returns-2 : tie.Need-returns-2
 returns-2 c =
-    let s = c .before .before .before .before .before .before .before .before .before .before .before .before .before .before .before in
+    let s = c .before .before .before .before .before .before .before .before .before .before .before .before .before .before .before .before in
     let y = c .before .before .before .before .before .before .before .before .before .probe-in .ensures in (
       sym (c .before .before .before .before .before .answer2 .given .1) ∙ y .0,
       reach-stored (s .pre .0 .valid) (s .args .bound) (s .args .separators .now) (s .pre .1 .1) (y .1) (omega arith) (c .before .before .index .ensures)
