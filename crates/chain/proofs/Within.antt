@@ -2,7 +2,7 @@
 -- these and on the order of bounds, and open neither.
 -- Assumes nothing.
 use Prim.Native.Nat.{ℕ, zero, suc, _-_, _≤_, _<_}
-use mathlib.Core.Path.{_≡_, refl, sym, ap, subst}
+use mathlib.Core.Path.{_≡_, refl, sym, ap, subst, _∙_}
 use mathlib.Core.Bool.{Bool, true, false, not, _&&_, _||_}
 use mathlib.Core.List.{List, [], _∷_}
 use mathlib.Core.Logic.{_⊎_, inl, inr}
@@ -10,12 +10,13 @@ use native.Mathlib.Omega.{arith}
 use native.Mathlib.Nat.{mul-le-mul-right}
 use lib.Dec.{T, eqb, leb, eqb→eq, leb→le, le→leb, T-not, not-T}
 use lib.ListN.{getD}
+use borrow.Author.Tests.{not-true, not-false}
 use Rattle.bound.specs.declared.Bound.{Bound}
 use Rattle.bound.specs.Order.{infinite, le, _≼_, _≺_, pick, Real, Finite}
 use Rattle.bound.proofs.Order.{open-le, make-le, le-trans, le-or-lt, not-both, le-speedless, infinite-real, below-infinite}
 use Rattle.chain.specs.Lists.{eachOf}
 use Rattle.chain.specs.Job.{Job, processors, fastest, holdOf, held, partBound, keeps, within, offer, at, Partition, boundAt, Within}
-use Rattle.chain.proofs.Tests.{T-true, T-false, and-left, and-right, and-both, same-test}
+use Rattle.chain.proofs.Tests.{T-of, T-not-of, T-true, T-false, and-left, and-right, and-both, same-test}
 use Rattle.chain.proofs.Parts.{Proper, load-right, load-left, part-empty, part-right, part-left, part-real}
 use Rattle.chain.proofs.Extremes.{speed-fastest}
 
@@ -160,6 +161,14 @@ module _ (job : Job) where
   pub bounds-within : {s : List ℕ} {B : Bound} → Within job s B → (p : ℕ) → p < processors job → boundAt job s p ≼ B
   unfolding boundAt
   bounds-within {s} w p h = within-bound p (at s p) (at s (suc p)) (w .each p h)
+
+-- An offer, k being what the test of the hold says: the part's bound, or none.
+module _ (job : Job) (p a b : ℕ) {k : Bool} (tested : k ≡ keeps job p a b) where
+  pub offered : not k ≡ false → {C : Bound} → C ≡ partBound job p a b → C ≡ offer job p a b
+  offered h e = e ∙ sym (offer-part job p a b (T-of (sym tested ∙ not-false k h)))
+
+  pub not-offered : not k ≡ true → infinite ≡ offer job p a b
+  not-offered h = sym (offer-none job p a b (T-not-of (sym tested ∙ not-true k h)))
 
 -- A job without holds: no processor has a limit.
 pub record Free (job : Job) : Type 0 where

@@ -2,35 +2,51 @@
 -- Assumes nothing.
 use Prim.Native.Nat.{ℕ, zero, suc, _+_, _-_, _*_, _^_, _≤_, _<_}
 use mathlib.Core.Path.{_≡_, sym, ap, ap₂, subst, _∙_}
-use mathlib.Core.Bool.{Bool}
+use mathlib.Core.Bool.{Bool, cond}
+use mathlib.Core.Logic.{_≢_}
 use native.Mathlib.Omega.{arith}
 use native.Mathlib.Nat.{mul-le-mul}
-use lib.Dec.{lit<}
+use lib.Dec.{eqb, lit<}
+use borrow.Author.Tests.{eq-eqb, ne-eqb}
 use lib.ListN.{getD}
 use Rattle.bound.specs.declared.Bound.{Bound}
-use Rattle.bound.specs.Order.{le}
+use Rattle.bound.specs.Order.{le, Finite}
 use Rattle.bound.proofs.Order.{greater-cases}
 use Rattle.chain.specs.Limits.{maxTasks, maxProcessors}
 use Rattle.chain.specs.Lists.{sumTo}
-use Rattle.chain.specs.Job.{Job, Valid, tasks, processors, speedOf, offer}
-use Rattle.chain.specs.Dynamic.{candidate, tableValue, movesTo}
+use Rattle.chain.specs.Job.{Job, Valid, tasks, processors, speedOf, holdOf, offer}
+use Rattle.chain.specs.Dynamic.{startOf, candidate, tableValue, movesTo}
 use Rattle.chain.proofs.Parts.{valid-proper}
-use Rattle.chain.specs.Ranges.{Small}
-use Rattle.chain.proofs.Ranges.{offer-small}
+use Rattle.chain.specs.Ranges.{Small, Narrow}
+use Rattle.chain.proofs.Ranges.{offer-small, offer-narrow}
 use Rattle.chain.proofs.Table.{crossing-le, table-attained, moves-to-crossing}
 use Rattle.parts.proofs.Laws.{speed-read}
+use Rattle.dynamic.specs.Rows.{startFrom}
 
 -- What the code's test of two bounds says of the bounds that they are.
 pub tested : {B C X Y : Bound} {r t : Bool} → B ≡ X → C ≡ Y → r ≡ le B C → r ≡ t → le X Y ≡ t
 tested e f h k = sym (ap₂ le e f) ∙ sym h ∙ k
 
--- A bound that is small, by the bound that it is.
-pub small-same : {B C : Bound} → B ≡ C → Small C → Small B
-small-same e s = subst Small (sym e) s
+-- A bound that is narrow, by the bound that it is.
+pub narrow-same : {B C : Bound} → B ≡ C → Narrow C → Narrow B
+narrow-same e s = subst Narrow (sym e) s
 
 -- The speed that the code reads is that of the processor after p.
 pub next-speed : (job : Job) (p k : ℕ) {speed : ℕ} → speed ≡ getD (job .speeds) k 0 → k ≡ suc p → suc p < processors job → speed ≡ speedOf job (suc p)
 next-speed job p k e f h = e ∙ ap (λ (q : ℕ). getD (job .speeds) q 0) f ∙ speed-read job (suc p) h
+
+-- Where j begins, without a limit and with one; it is `startOf` of a processor with that hold.
+pub from-unlimited : (h i : ℕ) → h ≡ 0 → startFrom h i ≡ 0
+unfolding startFrom
+from-unlimited h i e = ap (λ (t : Bool). cond t 0 (i - h)) (eq-eqb h 0 e)
+
+pub from-limited : (h i : ℕ) → h ≢ 0 → startFrom h i ≡ i - h
+unfolding startFrom
+from-limited h i n = ap (λ (t : Bool). cond t 0 (i - h)) (ne-eqb h 0 n)
+
+pub from-is : (job : Job) (p i : ℕ) {h : ℕ} → h ≡ holdOf job p → startFrom h i ≡ startOf job p i
+unfolding startFrom startOf
+from-is job p i {h} e = ap (λ (n : ℕ). cond (eqb n 0) 0 (i - n)) e
 
 -- Pointers of all rows make no more moves than 32 bits count.
 moves-limit : maxProcessors * maxTasks < 2 ^ 32
@@ -38,16 +54,22 @@ unfolding maxProcessors maxTasks
 moves-limit = lit< tt
 
 module _ {job : Job} (v : Valid job) where
-  -- Every value of the table is small.
-  pub table-small : (p i : ℕ) → Small (tableValue job p i)
+  -- A property of every offer is one of every value of the table:
+  table-cases : (Q : Bound → Type 0) → ((p a b : ℕ) → Q (offer job p a b)) → (p i : ℕ) → Q (tableValue job p i)
   unfolding tableValue candidate
-  table-small zero i = offer-small v 0 0 i
-  table-small (suc p) i = go (table-small p) (table-attained (valid-proper v) p i)
+  table-cases Q h zero i = h 0 0 i
+  table-cases Q h (suc p) i = go (table-cases Q h p) (table-attained (valid-proper v) p i)
     where
-      go : ((j : ℕ) → Small (tableValue job p j)) → (j : ℕ) × (j ≤ i) × (tableValue job (suc p) i ≡ candidate job (tableValue job p) (suc p) i j)
-          → Small (tableValue job (suc p) i)
-      go row (j, l, e) =
-          subst Small (sym e) (greater-cases Small (tableValue job p j) (offer job (suc p) j i) (row j) (offer-small v (suc p) j i))
+      go : ((j : ℕ) → Q (tableValue job p j)) → (j : ℕ) × (j ≤ i) × (tableValue job (suc p) i ≡ candidate job (tableValue job p) (suc p) i j)
+          → Q (tableValue job (suc p) i)
+      go row (j, l, e) = subst Q (sym e) (greater-cases Q (tableValue job p j) (offer job (suc p) j i) (row j) (h (suc p) j i))
+
+  -- each is narrow, and small where it is a number.
+  pub table-narrow : (p i : ℕ) → Narrow (tableValue job p i)
+  table-narrow = table-cases Narrow (offer-narrow v)
+
+  pub table-small : (p i : ℕ) → Finite (tableValue job p i) → Small (tableValue job p i)
+  table-small = table-cases (λ B. Finite B → Small B) (offer-small v)
 
   -- The moves of the first p rows, and what one row more can add, fit 32 bits.
   moves-so-far : (p : ℕ) → sumTo (λ q. movesTo job q (tasks job)) p ≤ p * tasks job

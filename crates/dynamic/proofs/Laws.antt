@@ -6,28 +6,58 @@ use mathlib.Core.Bool.{true, false}
 use mathlib.Core.List.{List}
 use native.Mathlib.Omega.{arith}
 use native.Mathlib.Numerals.{add-one}
+use lib.Dec.{T}
 use lib.ListN.{length, getD}
 use lib.Seq.{getD-take}
 use Rattle.bound.specs.declared.Bound.{Bound}
 use Rattle.bound.specs.Order.{le}
 use Rattle.chain.specs.Lists.{sumTo}
-use Rattle.chain.specs.Job.{Job, Valid, tasks, processors, last, offer}
-use Rattle.chain.specs.Dynamic.{tableValue, crossing, movesTo, moves}
-use Rattle.chain.proofs.Parts.{valid-proper}
+use Rattle.chain.specs.Job.{Job, Valid, tasks, processors, last, enough, offer}
+use Rattle.chain.specs.Dynamic.{startOf, tableValue, crossing, movesTo, moves}
+use Rattle.chain.proofs.Parts.{valid-proper, valid-plannable}
 use Rattle.chain.specs.Ranges.{Small}
-use Rattle.chain.proofs.Table.{crossing-le, crossing-grows, moves-to-crossing, start-first, crossing-here, crossing-past}
+use Rattle.chain.proofs.Table.{crossing-is, crossing-le, crossing-grows, moves-to-crossing, crossing-here, crossing-past}
+use Rattle.chain.proofs.Demand.{table-least-bound}
 use Rattle.parts.specs.Prefix.{Ready}
-use Rattle.dynamic.specs.Rows.{entryAt, stored, RowAt, Kept, RowReady, Places, Advanced, Filled, FirstRow, Tabled}
-use Rattle.dynamic.proofs.Crossing.{small-same, table-small}
+use Rattle.dynamic.specs.Rows.{entryAt, stored, RowAt, Kept, RowReady, Places, Begun, Advanced, Filled, FirstRow, Tabled}
+use Rattle.dynamic.proofs.Crossing.{table-small}
 use Rattle.dynamic.proofs.Scratch.{kept-refl, kept-trans, kept-wider, kept-stored, kept-take, kept-drop, kept-ready, row-kept, row-none, row-stored, places-swap}
 
 -- The pointer on its way to the crossing of i.
 pub record Moving (job : Job) (p i from count at counted : ℕ) : Type 0 where
+  pub past : startOf job (suc p) i ≤ at
   pub to : at ≤ crossing job p i
   pub carried : counted + from ≡ count + at
 
-pub moving-start : {job : Job} {p i from count : ℕ} → from ≤ crossing job p i → Moving job p i from count from count
-moving-start h = record { to = h; carried = omega arith }
+pub moving-start : {job : Job} {p i from count : ℕ} → startOf job (suc p) i ≤ from → from ≤ crossing job p i → Moving job p i from count from count
+moving-start l h = record { past = l; to = h; carried = omega arith }
+
+-- The pointer on its way to where j begins.
+pub record Nearing (first from count at counted : ℕ) : Type 0 where
+  pub onward : from ≤ at
+  pub least : (k : ℕ) → first ≤ k → from ≤ k → at ≤ k
+  pub carried : counted + from ≡ count + at
+
+pub nearing-start : (first from count : ℕ) → Nearing first from count from count
+nearing-start first from count = record { onward = omega arith; least = λ k h l. l; carried = omega arith }
+
+pub nearing-turn : {first from count at counted at′ counted′ : ℕ} → Nearing first from count at counted → at < first → at′ ≡ at + 1 → counted′ ≡ counted + 1
+    → Nearing first from count at′ counted′
+nearing-turn w h e f =
+    record { onward = omega (arith, w .onward); least = λ k l m. omega arith; carried = omega (arith, w .carried) }
+
+pub nearing-stop : {first from count at counted : ℕ} → Nearing first from count at counted → first ≤ at → Begun first from count at counted
+nearing-stop w h = record { past = h; least = w .least; carried = w .carried }
+
+-- A pointer that was not past the crossing, from where j begins on: what it moves on from there.
+pub begun-to : (job : Job) (p i : ℕ) {first from count at counted : ℕ} → first ≡ startOf job (suc p) i → from ≤ crossing job p i → Begun first from count at counted
+    → (startOf job (suc p) i ≤ at) × (at ≤ crossing job p i)
+begun-to job p i e h w =
+    (omega (arith, w .past), w .least (crossing job p i) (omega (arith, crossing-is job p i .from)) h)
+
+pub begun-advanced : {job : Job} {p i first from count at counted at′ counted′ : ℕ} → Begun first from count at counted → Advanced job p i at counted at′ counted′
+    → Advanced job p i from count at′ counted′
+begun-advanced w a = record { arrived = a .arrived; carried = omega (arith, w .carried, a .carried) }
 
 -- A pointer that does not stop is before i.
 pub moving-before : {job : Job} {p i from count at counted : ℕ} → Valid job → Moving job p i from count at counted
@@ -40,11 +70,11 @@ pub moving-turn : {job : Job} {p i from count at counted at′ counted′ : ℕ}
     → le (offer job (suc p) at i) (tableValue job p at) ≡ false → at′ ≡ at + 1 → counted′ ≡ counted + 1
     → Moving job p i from count at′ counted′
 moving-turn {job} {p} {i} {from} {count} {at} {counted} w e f g =
-    record { to = omega (arith, crossing-past job p i at (w .to) e); carried = omega (arith, w .carried) }
+    record { past = omega (arith, w .past); to = omega (arith, crossing-past job p i at (w .to) e); carried = omega (arith, w .carried) }
 
 pub moving-stop : {job : Job} {p i from count at counted : ℕ} → Moving job p i from count at counted
     → le (offer job (suc p) at i) (tableValue job p at) ≡ true → Advanced job p i from count at counted
-moving-stop {job} {p} {i} {from} {count} {at} w e = record { arrived = crossing-here job p i at (omega (arith, start-first job (suc p) i)) (w .to) e; carried = w .carried }
+moving-stop {job} {p} {i} {from} {count} {at} w e = record { arrived = crossing-here job p i at (w .past) (w .to) e; carried = w .carried }
 
 -- A row that is being written from o on, with i entries so far.
 pub record Writing (job : Job) (xs ys : List ℕ) (o q i : ℕ) : Type 0 where
@@ -223,5 +253,6 @@ tabled-ready {job} {xs} {ys} w r =
     front i h =
         sym (getD-take (suc (tasks job)) ys i 0 h) ∙ ap (λ (l : List ℕ). getD l i 0) (w .sums) ∙ getD-take (suc (tasks job)) xs i 0 h
 
-pub tabled-small : {job : Job} {xs ys : List ℕ} {B : Bound} {count : ℕ} → Tabled job xs ys B count → Valid job → Small B
-tabled-small {job} w v = small-same (w .value) (table-small v (last job) (tasks job))
+pub tabled-small : {job : Job} {xs ys : List ℕ} {B : Bound} {count : ℕ} → Tabled job xs ys B count → Valid job → T (enough job) → Small B
+tabled-small {job} w v e =
+    subst Small (sym (w .value)) (table-small v (last job) (tasks job) (table-least-bound (valid-plannable v e) .finite))

@@ -1,7 +1,9 @@
 -- The scratch list of the table, and what the functions over it leave there.
-use Prim.Native.Nat.{ℕ, suc, _+_, _*_, _≤_, _<_}
+use Prim.Native.Nat.{ℕ, suc, _+_, _-_, _*_, _≤_, _<_}
 use mathlib.Core.Path.{_≡_}
+use mathlib.Core.Bool.{cond}
 use mathlib.Core.List.{List}
+use lib.Dec.{eqb}
 use lib.ListN.{length, getD, set, take, drop}
 use Rattle.bound.specs.declared.Bound.{Bound}
 use Rattle.bound.specs.Order.{over}
@@ -41,6 +43,16 @@ pub record Places (n a b size : ℕ) : Type 0 where
   pub b-high : b + 2 * n ≤ 5 * n
   pub apart : (k : ℕ) → a ≤ k → k < a + 2 * n → b ≤ k → k < b + 2 * n → ⊥
   pub enough : 5 * n ≤ size
+
+-- Where j begins at i, with the hold h: `startOf` of a processor with this hold.
+unfoldable pub startFrom : ℕ → ℕ → ℕ
+startFrom h i = cond (eqb h 0) 0 (i - h)
+
+-- The pointer has moved on to `first`, and no further; its moves are counted.
+pub record Begun (first from count at counted : ℕ) : Type 0 where
+  pub past : first ≤ at
+  pub least : (k : ℕ) → first ≤ k → from ≤ k → at ≤ k
+  pub carried : counted + from ≡ count + at
 
 -- The pointer stands at the crossing of i, and its moves are counted.
 pub record Advanced (job : Job) (p i from count at counted : ℕ) : Type 0 where

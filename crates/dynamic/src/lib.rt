@@ -3,12 +3,14 @@
 ghost use Prim.Native.Nat.{suc, _+_, _*_, _≤_, _<_, _^_};
 ghost use mathlib.Core.Path.{_≡_};
 ghost use lib.ListN.{length};
-ghost use Rattle.chain.specs.Job.{Job, jobOf, tasks, speedOf};
-ghost use Rattle.chain.specs.Dynamic.{tableValue, crossing};
+ghost use Rattle.chain.specs.Job.{Job, jobOf, tasks, speedOf, holdOf, offer};
+ghost use Rattle.chain.specs.Dynamic.{startOf, tableValue, crossing};
 ghost use Rattle.parts.specs.Prefix.{Ready};
-ghost use Rattle.dynamic.specs.Rows.{entryAt, stored, RowReady, Places, Advanced, Filled, FirstRow, Tabled};
+ghost use Rattle.dynamic.specs.Rows.{entryAt, stored, RowReady, Places, startFrom, Begun, Advanced, Filled, FirstRow, Tabled};
 use bound::Bound;
 use parts::Found;
+use parts::hold_of;
+use parts::keeps_hold;
 use parts::part_bound;
 use parts::started_bound;
 use parts::wide;
@@ -42,8 +44,35 @@ fn put(scratch: &mut [u32], row: usize, i: usize, value: Bound)
     scratch[at + 1] = value.speed as u32;
 }
 
-// Inner. The pointer moves on to the crossing of i in the row after row p, which begins at `before`. At i at the latest it
-// stops: the part is empty there.
+// Inner. Where j begins at i, with this hold, 0 for no limit.
+fn start_from(hold: usize, i: usize) -> usize
+    ensures { λ r. ⌜ r ≡ startFrom hold i ⌝ }
+{
+    if hold == 0 {
+        return 0;
+    }
+    if i <= hold {
+        return 0;
+    }
+    i - hold
+}
+
+// Inner. The pointer moves on to where j begins, if it is before that.
+fn begin(first: usize, start: Pointer) -> Pointer
+    requires { ⌜ start .moves + first < 2 ^ 32 + start .at ⌝ }
+    ensures { λ r. ⌜ Begun first (start .at) (start .moves) (r .at) (r .moves) ⌝ }
+{
+    let mut at = start.at;
+    let mut moves = start.moves;
+    while at < first {
+        at += 1;
+        moves += 1;
+    }
+    Pointer { at, moves }
+}
+
+// Inner. The pointer moves on to the crossing of i in the row after row p, which begins at `before`; it is at or past where j begins. At i at the
+// latest it stops: the part is empty there.
 fn move_on(
     startup: u32,
     speeds: &[u32],
@@ -60,6 +89,7 @@ fn move_on(
     requires { λ job. ⌜ jobOf startup (now speeds) (now holds) (now weights) ≡ job ⌝ }
     requires { λ job. ⌜ RowReady job (now scratch) before p ⌝ }
     requires { λ job. ⌜ speed ≡ speedOf job (suc p) ⌝ }
+    requires { λ job. ⌜ startOf job (suc p) i ≤ start .at ⌝ }
     requires { λ job. ⌜ (i ≤ tasks job) × (start .at ≤ crossing job p i) × (start .moves + i < 2 ^ 32 + start .at) ⌝ }
     ensures { λ job r. ⌜ Advanced job p i (start .at) (start .moves) (r .at) (r .moves) ⌝ }
 {
@@ -75,7 +105,8 @@ fn move_on(
     }
 }
 
-// Inner. The same. Without start-up work the loop is compiled for 0, and a load is a difference of two sums.
+// Inner. The pointer moves on to the crossing of i, by way of where j begins with this hold. Without start-up work the loop is compiled for 0,
+// and a load is a difference of two sums.
 fn advance(
     startup: u32,
     speeds: &[u32],
@@ -85,16 +116,18 @@ fn advance(
     before: usize,
     p: usize,
     speed: u32,
+    hold: usize,
     i: usize,
     start: Pointer,
 ) -> Pointer
     ghost { Job }
     requires { λ job. ⌜ jobOf startup (now speeds) (now holds) (now weights) ≡ job ⌝ }
     requires { λ job. ⌜ RowReady job (now scratch) before p ⌝ }
-    requires { λ job. ⌜ speed ≡ speedOf job (suc p) ⌝ }
+    requires { λ job. ⌜ (speed ≡ speedOf job (suc p)) × (hold ≡ holdOf job (suc p)) ⌝ }
     requires { λ job. ⌜ (i ≤ tasks job) × (start .at ≤ crossing job p i) × (start .moves + i < 2 ^ 32 + start .at) ⌝ }
     ensures { λ job r. ⌜ Advanced job p i (start .at) (start .moves) (r .at) (r .moves) ⌝ }
 {
+    let begun = begin(start_from(hold, i), start);
     if startup == 0 {
         return move_on(
             0,
@@ -106,7 +139,7 @@ fn advance(
             p,
             speed,
             i,
-            start,
+            begun,
         );
     }
     move_on(
@@ -119,7 +152,7 @@ fn advance(
         p,
         speed,
         i,
-        start,
+        begun,
     )
 }
 
@@ -134,25 +167,26 @@ fn value_at(
     before: usize,
     p: usize,
     speed: u32,
+    hold: usize,
     i: usize,
     at: usize,
 ) -> Bound
     ghost { Job }
     requires { λ job. ⌜ jobOf startup (now speeds) (now holds) (now weights) ≡ job ⌝ }
     requires { λ job. ⌜ RowReady job (now scratch) before p ⌝ }
-    requires { λ job. ⌜ speed ≡ speedOf job (suc p) ⌝ }
+    requires { λ job. ⌜ (speed ≡ speedOf job (suc p)) × (hold ≡ holdOf job (suc p)) ⌝ }
     requires { λ job. ⌜ (i ≤ tasks job) × (at ≡ crossing job p i) ⌝ }
     ensures { λ job r. ⌜ r ≡ tableValue job (suc p) i ⌝ }
 {
     let here = entry(scratch, before, at);
-    if at == 0 {
+    if at == start_from(hold, i) {
         return here;
     }
     let part = started_bound(startup, speed, scratch, at - 1, i);
     Bound::lesser(here, part)
 }
 
-// Inner. Fills the row after row p; the pointer starts at 0. The speed is read once, before the stores.
+// Inner. Fills the row after row p; the pointer starts at 0. Speed and hold are read once, before the stores.
 fn fill_row(
     startup: u32,
     speeds: &[u32],
@@ -172,6 +206,7 @@ fn fill_row(
     ensures { λ job r. ⌜ Filled job (now (scratch .entry)) (now (scratch .exit)) row p (start .moves) (r .moves) ⌝ }
 {
     let speed = speeds[p + 1];
+    let hold = hold_of(startup, speeds, holds, weights, p + 1);
     let mut pointer = start;
     let mut i = 0;
     while i <= weights.len() {
@@ -184,6 +219,7 @@ fn fill_row(
             before,
             p,
             speed,
+            hold,
             i,
             pointer,
         );
@@ -197,6 +233,7 @@ fn fill_row(
             before,
             p,
             speed,
+            hold,
             i,
             at,
         );
@@ -204,6 +241,27 @@ fn fill_row(
         i += 1;
     }
     pointer
+}
+
+// Inner. What the table enters for the first i tasks on processor 0: none, 1/0, where it does not hold them.
+fn first_offer(
+    startup: u32,
+    speeds: &[u32],
+    holds: &[u16],
+    weights: &[u32],
+    scratch: &[u32],
+    i: usize,
+) -> Bound
+    ghost { Job }
+    requires { λ job. ⌜ jobOf startup (now speeds) (now holds) (now weights) ≡ job ⌝ }
+    requires { λ job. ⌜ Ready job (now scratch) ⌝ }
+    requires { λ job. ⌜ i ≤ tasks job ⌝ }
+    ensures { λ job r. ⌜ r ≡ offer job 0 0 i ⌝ }
+{
+    if !keeps_hold(startup, speeds, holds, weights, 0, 0, i) {
+        return Bound::INFINITE;
+    }
+    part_bound(startup, speeds[0], scratch, 0, i)
 }
 
 // Inner. Fills the row of processor 0.
@@ -221,10 +279,9 @@ fn first_row(
     requires { λ job. ⌜ (suc (tasks job) ≤ row) × (row + 2 * suc (tasks job) ≤ length (now scratch)) ⌝ }
     ensures { λ job r. ⌜ FirstRow job (now (scratch .entry)) (now (scratch .exit)) row ⌝ }
 {
-    let speed = speeds[0];
     let mut i = 0;
     while i <= weights.len() {
-        let value = part_bound(startup, speed, scratch, 0, i);
+        let value = first_offer(startup, speeds, holds, weights, scratch, i);
         put(scratch, row, i, value);
         i += 1;
     }

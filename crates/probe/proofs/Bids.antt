@@ -2,29 +2,18 @@
 -- Assumes nothing.
 use Prim.Native.Nat.{ℕ, suc, _+_, _≤_, _<_}
 use mathlib.Core.Path.{_≡_, refl, sym, ap, subst, _∙_}
-use mathlib.Core.Bool.{Bool, true, false, not}
 use mathlib.Core.Logic.{_⊎_, inl, inr}
 use native.Mathlib.Numerals.{add-one}
-use borrow.Author.Tests.{not-true, not-false}
 use Rattle.bound.specs.declared.Bound.{Bound}
 use Rattle.bound.specs.Order.{infinite, lesser, leastBelow}
 use Rattle.bound.proofs.Order.{least-next}
-use Rattle.chain.specs.Job.{Job, Valid, tasks, last, partBound, keeps, offer}
+use Rattle.chain.specs.Job.{Job, Valid, tasks, last, partBound, offer}
 use Rattle.chain.specs.Probe.{separator, bid, nextBid}
-use Rattle.chain.proofs.Within.{offer-part, offer-none, offer-cases}
-use Rattle.chain.proofs.Tests.{T-of, T-not-of}
+use Rattle.chain.proofs.Within.{offer-cases}
 use Rattle.chain.proofs.NextBid.{bid-before, bid-last}
 use Rattle.chain.specs.Ranges.{Narrow}
 use Rattle.chain.proofs.Ranges.{part-small, small-narrow}
 use Rattle.probe.specs.Walk.{leastBefore}
-
--- An offer, k being what the test of the hold says: the part's bound, or none.
-module _ (job : Job) (p a b : ℕ) {k : Bool} (tested : k ≡ keeps job p a b) where
-  pub offered : not k ≡ false → {C : Bound} → C ≡ partBound job p a b → C ≡ offer job p a b
-  offered h e = e ∙ sym (offer-part job p a b (T-of (sym tested ∙ not-false k h)))
-
-  pub not-offered : not k ≡ true → infinite ≡ offer job p a b
-  not-offered h = sym (offer-none job p a b (T-not-of (sym tested ∙ not-true k h)))
 
 -- A bid is for one task more.
 pub one-more : (job : Job) (p a i : ℕ) {C : Bound} → C ≡ offer job p a (i + 1) → C ≡ offer job p a (suc i)

@@ -8,11 +8,11 @@ use native.Mathlib.Omega.{arith}
 use Rattle.chain.specs.Job.{Job, jobOf, offer}
 use Rattle.chain.specs.Dynamic.{tableValue}
 use Rattle.chain.proofs.Parts.{valid-proper}
-use Rattle.chain.proofs.Ranges.{offer-small, small-products}
-use Rattle.chain.proofs.Table.{stops, crossing-le}
+use Rattle.chain.proofs.Ranges.{offer-narrow, narrow-products}
+use Rattle.chain.proofs.Table.{stops, start-keeps, crossing-le}
 use Rattle.chain.proofs.Within.{offer-part}
 use Rattle.parts.proofs.Laws.{loads-to, speed-bound}
-use Rattle.dynamic.proofs.Crossing.{table-small, tested, small-same}
+use Rattle.dynamic.proofs.Crossing.{table-narrow, tested, narrow-same}
 use Rattle.dynamic.proofs.Laws.{Moving, moving-start, moving-before, moving-turn, moving-stop}
 use Rattle.dynamic.proofs.move_on.Statement.{statement}
 use Rattle.dynamic.proofs.move_on.Tie as tie
@@ -24,7 +24,7 @@ abbrev μ-loop : tie.MeasureT-loop
 μ-loop startup speeds holds weights scratch before p speed i at₀ moves₀ at moves = i - at
 
 loop-holds : tie.Need-loop-holds Inv-loop μ-loop
-loop-holds c = moving-start (c .before .before .before .before .pre .1 .1 .1)
+loop-holds c = let s = c .before .before .before .before in moving-start (s .pre .1 .1 .0) (s .pre .1 .1 .1 .1)
 
 -- The pointer is at most i.
 at-le : (c : tie.At-loop Inv-loop μ-loop) → c .loop .at ≤ c .before .before .before .before .before .args .i
@@ -35,7 +35,7 @@ at-le c =
 part-bound-requires : tie.Need-part-bound-requires Inv-loop μ-loop
 part-bound-requires c κs =
     let s = c .before .before .before .before .before in
-    (loads-to (s .pre .0 .ready) (s .pre .1 .1 .0), at-le c)
+    (loads-to (s .pre .0 .ready) (s .pre .1 .1 .1 .0), at-le c)
 
 entry-requires : tie.Need-entry-requires Inv-loop μ-loop
 entry-requires c κs = omega (arith, c .before .before .before .before .before .before .pre .0 .inside, at-le (c .before))
@@ -53,9 +53,9 @@ module _ (c : tie.After-entry Inv-loop μ-loop) where
 
   part-is : c .before .part-bound .result ≡ offer job (suc (start .args .p)) at (start .args .i)
   part-is =
-      speed-bound (start .pre .0 .ready .prefix) (suc (start .args .p)) at (start .args .i) (at-le (c .before .before)) (start .pre .1 .1 .0) (start .pre .1 .0)
+      speed-bound (start .pre .0 .ready .prefix) (suc (start .args .p)) at (start .args .i) (at-le (c .before .before)) (start .pre .1 .1 .1 .0) (start .pre .1 .0)
       (c .before .part-bound .ensures)
-      ∙ sym (offer-part job (suc (start .args .p)) at (start .args .i))
+      ∙ sym (offer-part job (suc (start .args .p)) at (start .args .i) (start-keeps job (suc (start .args .p)) (start .args .i) at (c .before .before .loop .inv .past)))
 
   value-is : c .entry .result ≡ tableValue job (start .args .p) at
   value-is = c .entry .ensures ∙ start .pre .0 .row .entries at (omega (arith, at-le (c .before .before)))
@@ -64,7 +64,7 @@ at-most-requires : tie.Need-at-most-requires Inv-loop μ-loop
 at-most-requires c κs =
     let s = start c in
     let v = s .pre .0 .ready .valid in
-    let h = small-products (small-same (part-is c) (offer-small v (suc (s .args .p)) (at c) (s .args .i))) (small-same (value-is c) (table-small v (s .args .p) (at c))) in
+    let h = narrow-products (narrow-same (part-is c) (offer-narrow v (suc (s .args .p)) (at c) (s .args .i))) (narrow-same (value-is c) (table-narrow v (s .args .p) (at c))) in
     search needs
 
 returns : tie.Need-returns Inv-loop μ-loop

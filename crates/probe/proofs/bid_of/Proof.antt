@@ -6,8 +6,9 @@ use native.Mathlib.Omega.{arith}
 use lib.ListN.{getD}
 use Rattle.chain.specs.Job.{Job, jobOf, partBound}
 use Rattle.chain.proofs.Ranges.{infinite-narrow}
+use Rattle.chain.proofs.Within.{offered, not-offered}
 use Rattle.parts.proofs.Laws.{loads-to, prefix-bound, started-some}
-use Rattle.probe.proofs.Bids.{offered, not-offered, one-more}
+use Rattle.probe.proofs.Bids.{one-more}
 use borrow.Author.Needs.{needs}
 use Rattle.probe.proofs.bid_of.Statement.{statement}
 use Rattle.probe.proofs.bid_of.Tie as tie

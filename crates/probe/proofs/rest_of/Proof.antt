@@ -4,8 +4,9 @@ use mathlib.Core.Path.{_≡_, refl}
 use native.Mathlib.Omega.{arith}
 use Rattle.chain.specs.Job.{Job, jobOf, tasks, partBound}
 use Rattle.chain.proofs.Ranges.{infinite-narrow}
+use Rattle.chain.proofs.Within.{offered, not-offered}
 use Rattle.parts.proofs.Laws.{loads-to, prefix-bound}
-use Rattle.probe.proofs.Bids.{offered, not-offered, part-narrow}
+use Rattle.probe.proofs.Bids.{part-narrow}
 use borrow.Author.Needs.{needs}
 use Rattle.probe.proofs.rest_of.Statement.{statement}
 use Rattle.probe.proofs.rest_of.Tie as tie
