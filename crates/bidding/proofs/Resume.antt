@@ -12,13 +12,13 @@ use lib.ListN.{length, getD}
 use Rattle.bound.specs.declared.Bound.{Bound}
 use Rattle.bound.specs.Order.{infinite, _≼_, _≺_, le, lesser, leastBelow, Real}
 use Rattle.bound.proofs.Order.{false-lt, lt-le, speed-real}
-use Rattle.chain.specs.Job.{Job, Valid, tasks, processors, last, offer}
+use Rattle.chain.specs.Job.{Job, Valid, tasks, processors, last, enough, offer}
 use Rattle.chain.specs.Probe.{separator, fits, bid, nextBid}
 use Rattle.chain.proofs.Parts.{valid-proper, valid-plannable}
 use Rattle.chain.proofs.Bottleneck.{processors-last}
 use Rattle.chain.proofs.Walk.{separator-grows}
 use Rattle.chain.proofs.Visited.{visited-fails}
-use Rattle.chain.proofs.NextBid.{bid-before, fails-before-end, next-above, separator-stays, least-stays}
+use Rattle.chain.proofs.NextBid.{bid-before, fails-before-end, next-above, next-finite, separator-stays, least-stays}
 use Rattle.chain.specs.Ranges.{Lendable, Narrow}
 use Rattle.chain.proofs.Ranges.{next-bid-small, narrow-products, small-narrow, lesser-narrow, infinite-narrow}
 use Rattle.probe.specs.Walk.{leastBefore, begun, Reached}
@@ -63,10 +63,10 @@ failed-written {job} {ys} xs {B} {C} v l t n h e =
 abbrev pub Scanned : Job → Bound → List ℕ → ℕ → ℕ → Bound → Type 0
 Scanned job C xs p a least = (f : FailedWalk job C xs) → Parted job (f .bound) C p a least
 
-module _ {job : Job} (v : Valid job) {C : Bound} {xs : List ℕ} (f : FailedWalk job C xs) where
+module _ {job : Job} (v : Valid job) (h : T (enough job)) {C : Bound} {xs : List ℕ} (f : FailedWalk job C xs) where
   -- The products of the comparison with the next bid fit.
   pub parting-products : {D : Bound} → Narrow D → (D .load * C .speed < 2 ^ 64) × (C .load * D .speed < 2 ^ 64)
-  parting-products n = narrow-products n (subst Narrow (sym (f .rejected .bids)) (small-narrow (next-bid-small v (f .bound))))
+  parting-products n = narrow-products n (subst Narrow (sym (f .rejected .bids)) (small-narrow (next-bid-small v (f .bound) (next-finite (valid-plannable v h) (f .bound) (f .rejected .failed)))))
 
   module _ {p a : ℕ} {least : Bound} (w : Parted job (f .bound) C p a least) where
     -- The next separator,
@@ -106,7 +106,7 @@ module _ {job : Job} (v : Valid job) {C : Bound} {xs : List ℕ} (f : FailedWalk
     real = speed-real (f .lendable .speed-positive)
 
     less : f .bound ≼ C
-    less = subst (λ (F : Bound). f .bound ≼ F) (sym (f .rejected .bids)) (lt-le (next-above (valid-plannable v) (f .bound) (f .rejected .failed)))
+    less = subst (λ (F : Bound). f .bound ≼ F) (sym (f .rejected .bids)) (lt-le (next-above (valid-plannable v h) (f .bound) (f .rejected .failed)))
 
     stays : (q : ℕ) → q ≤ p → separator job C q ≡ separator job (f .bound) q
     stays = separator-stays job real less p (w .to) (w .above)

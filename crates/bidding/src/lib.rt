@@ -6,7 +6,7 @@ ghost use lib.ListN.{length, drop};
 ghost use Rattle.chain.specs.Job.{Job, jobOf, processors};
 ghost use Rattle.chain.specs.Probe.{walk};
 ghost use Rattle.chain.specs.Plan.{BiddingEnds};
-ghost use Rattle.parts.specs.Prefix.{Ready};
+ghost use Rattle.parts.specs.Prefix.{ReadyKept};
 ghost use Rattle.probe.specs.Walk.{Reached};
 ghost use Rattle.bidding.specs.Failed.{FailedWalk};
 use bound::Bound;
@@ -34,7 +34,7 @@ fn parting(
 ) -> Point
     ghost { Job }
     requires { λ job. ⌜ jobOf startup (now speeds) (now holds) (now weights) ≡ job ⌝ }
-    requires { λ job. ⌜ Ready job (now sums) ⌝ }
+    requires { λ job. ⌜ ReadyKept job (now sums) ⌝ }
     requires { λ job. ⌜ FailedWalk job next (now separators) ⌝ }
     ensures { λ job r. ⌜ Reached job next (now (separators .entry)) r ⌝ }
 {
@@ -75,7 +75,7 @@ pub fn bidding_in(
 ) -> Found
     ghost { Job }
     requires { λ job. ⌜ jobOf startup (now speeds) (now holds) (now weights) ≡ job ⌝ }
-    requires { λ job. ⌜ Ready job (now sums) ⌝ }
+    requires { λ job. ⌜ ReadyKept job (now sums) ⌝ }
     requires { λ job. ⌜ processors job < length (now separators) ⌝ }
     ensures { λ job r. ⌜ BiddingEnds job (r .count) (r .bound) ⌝ }
     ensures { λ job r. ⌜ now (separators .exit) ≡ walk job (r .bound) ++ drop (suc (processors job)) (now (separators .entry)) ⌝ }

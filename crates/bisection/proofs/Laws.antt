@@ -7,12 +7,12 @@ use native.Mathlib.Omega.{arith}
 use native.Mathlib.Numerals.{add-one}
 use lib.Dec.{T, lit<}
 use Rattle.bound.specs.declared.Bound.{Bound}
-use Rattle.bound.specs.Order.{middle, le}
+use Rattle.bound.specs.Order.{middle, le, pick}
 use Rattle.bound.proofs.Order.{le-true}
 use Rattle.chain.specs.declared.Ends.{Ends}
 use Rattle.chain.specs.Ranges.{Small}
 use Rattle.chain.specs.Lists.{digits}
-use Rattle.chain.specs.Job.{Job, Valid, ideal, bottleneck}
+use Rattle.chain.specs.Job.{Job, Valid, held, enough, ideal, widest, bottleneck}
 use Rattle.chain.specs.Probe.{walk, fits, nextBid}
 use Rattle.chain.specs.Heuristic.{heuristic}
 use Rattle.chain.specs.Bisection.{firstEnds, nextEnds, ends, meet}
@@ -20,8 +20,9 @@ use Rattle.chain.specs.Plan.{BisectionEnds, at-once, after, difference}
 use Rattle.chain.proofs.Parts.{valid-plannable}
 use Rattle.chain.proofs.Indices.{first-of, below-next}
 use Rattle.chain.proofs.Bisection.{bracket-after, low-high, rounds-below}
-use Rattle.chain.proofs.Ranges.{bottleneck-small, next-bid-small}
-use Rattle.chain.proofs.Tests.{T-true, T-false}
+use Rattle.chain.proofs.Ranges.{bottleneck-small, widest-small, next-bid-small}
+use Rattle.chain.proofs.NextBid.{next-finite}
+use Rattle.chain.proofs.Tests.{T-not-of, T-true, T-false}
 use Rattle.chain.proofs.Counts.{digits-fit}
 
 -- A round where the trial at the middle fits, and one where it fails.
@@ -50,9 +51,10 @@ ends-fails job E t = ap turn (T-false (fits job (middle (E .low) (E .high))) t)
         ]
 
 -- A round keeps the ends small.
-ends-small : (job : Job) → Valid job → (E : Ends) → Small (E .low) → Small (E .high) → Small ((nextEnds job E) .low) × Small ((nextEnds job E) .high)
+ends-small : (job : Job) → Valid job → T (enough job) → (E : Ends) → Small (E .low) → Small (E .high)
+    → Small ((nextEnds job E) .low) × Small ((nextEnds job E) .high)
 unfolding nextEnds
-ends-small job v E l h = go (fits job (middle (E .low) (E .high)))
+ends-small job v e E l h = go (fits job (middle (E .low) (E .high))) refl
   where
     turn : Bool → Ends
     turn x =
@@ -61,9 +63,12 @@ ends-small job v E l h = go (fits job (middle (E .low) (E .high)))
           | false ↦ record { low = nextBid job (middle (E .low) (E .high)); high = E .high }
         ]
 
-    go : (x : Bool) → Small ((turn x) .low) × Small ((turn x) .high)
-    go true = (l, bottleneck-small v (walk job (middle (E .low) (E .high))))
-    go false = (next-bid-small v (middle (E .low) (E .high)), h)
+    M : Bound
+    M = middle (E .low) (E .high)
+
+    go : (x : Bool) → fits job M ≡ x → Small ((turn x) .low) × Small ((turn x) .high)
+    go true f = (l, bottleneck-small v (walk job M))
+    go false f = (next-bid-small v M (next-finite (valid-plannable v e) M (T-not-of f)), h)
 
 -- Bisection after k rounds: the two ends, and the count of trials, the first included.
 pub record Halved (job : Job) (low high : Bound) (rounds : ℕ) : Type 0 where
@@ -74,26 +79,35 @@ pub record Halved (job : Job) (low high : Bound) (rounds : ℕ) : Type 0 where
   pub low-small : Small low
   pub high-small : Small high
 
-pub halved-start : {job : Job} {low high : Bound} → Valid job → T (not (fits job (ideal job))) → low ≡ nextBid job (ideal job)
-    → high ≡ bottleneck job (heuristic job) → Halved job low high 0
+-- The high end that bisection starts with is small.
+high-small : {job : Job} → Valid job → Small (firstEnds job .high)
+unfolding firstEnds
+high-small {job} v = go (held job)
+  where
+    go : (x : Bool) → Small (pick x (widest job) (bottleneck job (heuristic job)))
+    go true = widest-small v
+    go false = bottleneck-small v (heuristic job)
+
+pub halved-start : {job : Job} {low high : Bound} → Valid job → T (enough job) → T (not (fits job (ideal job))) → low ≡ nextBid job (ideal job)
+    → high ≡ firstEnds job .high → Halved job low high 0
 unfolding ends firstEnds
-halved-start {job} v t l h =
+halved-start {job} v e t l h =
     record {
       low-is = l;
       high-is = h;
       apart = λ j x. absurd (let z : ⊥ = omega arith in z);
       failed = t;
-      low-small = subst Small (sym l) (next-bid-small v (ideal job));
-      high-small = subst Small (sym h) (bottleneck-small v (heuristic job));
+      low-small = subst Small (sym l) (next-bid-small v (ideal job) (next-finite (valid-plannable v e) (ideal job) t));
+      high-small = subst Small (sym h) (high-small v);
     }
 
-module _ {job : Job} (v : Valid job) {low high : Bound} {k : ℕ} (w : Halved job low high k) where
+module _ {job : Job} (v : Valid job) (enough-holds : T (enough job)) {low high : Bound} {k : ℕ} (w : Halved job low high k) where
   -- The test of the code: high is at most low. That is whether the ends meet.
   pub meets : meet (ends job k) ≡ le high low
   unfolding meet
   meets =
       ap (λ (t : Bool). t && le ((ends job k) .high) ((ends job k) .low))
-      (le-true (low-high (bracket-after (valid-plannable v) (w .failed) k)))
+      (le-true (low-high (bracket-after (valid-plannable v enough-holds) (w .failed) k)))
       ∙ ap₂ le (sym (w .high-is)) (sym (w .low-is))
 
   not-met : le high low ≡ false → T (not (meet (ends job k)))
@@ -101,7 +115,7 @@ module _ {job : Job} (v : Valid job) {low high : Bound} {k : ℕ} (w : Halved jo
 
   -- One more round is below digits(D).
   pub halved-room : le high low ≡ false → k < digits (difference job)
-  halved-room e = rounds-below (valid-plannable v) (w .failed) k (not-met e)
+  halved-room e = rounds-below (valid-plannable v enough-holds) (w .failed) k (not-met e)
 
   -- The ends after one more round.
   pub halved-next : (E : Ends) → le high low ≡ false → E ≡ nextEnds job (record { low = low; high = high }) → Halved job (E .low) (E .high) (k + 1)
@@ -113,8 +127,8 @@ module _ {job : Job} (v : Valid job) {low high : Bound} {k : ℕ} (w : Halved jo
         high-is = ap (λ (F : Ends). F .high) step;
         apart = below-next {Q = λ j. T (not (meet (ends job j)))} (w .apart) (not-met e);
         failed = w .failed;
-        low-small = subst (λ (F : Ends). Small (F .low)) (sym n) ((ends-small job v (record { low = low; high = high }) (w .low-small) (w .high-small)) .0);
-        high-small = subst (λ (F : Ends). Small (F .high)) (sym n) ((ends-small job v (record { low = low; high = high }) (w .low-small) (w .high-small)) .1);
+        low-small = subst (λ (F : Ends). Small (F .low)) (sym n) ((ends-small job v enough-holds (record { low = low; high = high }) (w .low-small) (w .high-small)) .0);
+        high-small = subst (λ (F : Ends). Small (F .high)) (sym n) ((ends-small job v enough-holds (record { low = low; high = high }) (w .low-small) (w .high-small)) .1);
       })
     where
       step : E ≡ nextEnds job (ends job k)
@@ -126,10 +140,10 @@ module _ {job : Job} (v : Valid job) {low high : Bound} {k : ℕ} (w : Halved jo
       after k (w .failed) (first-of (λ j. meet (ends job j)) k (subst T (sym (meets ∙ e)) tt) (w .apart)) t (w .low-is)
 
 -- The count of rounds, and one more, fits 32 bits.
-pub rounds-fit : {job : Job} {low high : Bound} (k : ℕ) → Valid job → Halved job low high k → k + 1 < 2 ^ 32
-rounds-fit zero v w = lit< tt
-rounds-fit (suc k) v w =
-    omega (arith, rounds-below (valid-plannable v) (w .failed) k (w .apart k (omega arith)), digits-fit v)
+pub rounds-fit : {job : Job} {low high : Bound} (k : ℕ) → Valid job → T (enough job) → Halved job low high k → k + 1 < 2 ^ 32
+rounds-fit zero v e w = lit< tt
+rounds-fit (suc k) v e w =
+    omega (arith, rounds-below (valid-plannable v e) (w .failed) k (w .apart k (omega arith)), digits-fit v)
 
 -- The trial at the ideal fits: bisection ends at once.
 pub ended-at-once : {job : Job} {bound : Bound} → bound ≡ ideal job → T (fits job bound) → BisectionEnds job 1 bound

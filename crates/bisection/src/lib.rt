@@ -3,11 +3,11 @@ ghost use Prim.Native.Nat.{suc, _<_};
 ghost use mathlib.Core.Path.{_≡_};
 ghost use lib.ListN.{length};
 ghost use Rattle.chain.specs.Ranges.{Small, Lendable};
-ghost use Rattle.chain.specs.Job.{Job, jobOf, processors, ideal};
-ghost use Rattle.chain.specs.Bisection.{nextEnds};
+ghost use Rattle.chain.specs.Job.{Job, jobOf, processors, ideal, widest};
+ghost use Rattle.chain.specs.Bisection.{firstEnds, nextEnds};
 ghost use Rattle.chain.specs.Plan.{BisectionEnds};
 ghost use Rattle.parts.specs.Kept.{KeptFrom};
-ghost use Rattle.parts.specs.Prefix.{Ready};
+ghost use Rattle.parts.specs.Prefix.{Ready, ReadyKept};
 ghost use Rattle.probe.specs.Walk.{Rejected};
 use bound::Bound;
 use chain::Ends;
@@ -16,7 +16,10 @@ use heuristic::heuristic_in;
 use parts::Found;
 use parts::ideal_of;
 use parts::measure_in;
+use parts::slowest_of;
+use parts::wide;
 use probe::probe_in;
+use refusals::any_hold;
 
 // Inner. One round of bisection: a trial at half the sum of the ends. A fit brings the high end to that partition's bottleneck,
 // a failure brings the low end to the next bid.
@@ -32,7 +35,7 @@ fn next_ends(
 ) -> Ends
     ghost { Job }
     requires { λ job. ⌜ jobOf startup (now speeds) (now holds) (now weights) ≡ job ⌝ }
-    requires { λ job. ⌜ Ready job (now sums) ⌝ }
+    requires { λ job. ⌜ ReadyKept job (now sums) ⌝ }
     requires { λ job. ⌜ processors job < length (now separators) ⌝ }
     requires { λ job. ⌜ Small low × Small high ⌝ }
     ensures { λ job r. ⌜ r ≡ nextEnds job (record { low = low; high = high }) ⌝ }
@@ -49,6 +52,43 @@ fn next_ends(
     }
 }
 
+// Inner. All weight and the start-up work over the slowest speed.
+fn widest_of(startup: u32, speeds: &[u32], holds: &[u16], weights: &[u32], sums: &[u32]) -> Bound
+    ghost { Job }
+    requires { λ job. ⌜ jobOf startup (now speeds) (now holds) (now weights) ≡ job ⌝ }
+    requires { λ job. ⌜ Ready job (now sums) ⌝ }
+    ensures { λ job r. ⌜ r ≡ widest job ⌝ }
+{
+    Bound {
+        load: wide(sums[weights.len()]) + wide(startup),
+        speed: wide(slowest_of(speeds)),
+    }
+}
+
+// Inner. The high end that bisection starts with: of a job with holds all weight and the start-up work over the slowest speed, else the bottleneck of
+// the heuristic, whose separators are then left in front of the list.
+fn first_high(
+    startup: u32,
+    speeds: &[u32],
+    holds: &[u16],
+    weights: &[u32],
+    sums: &[u32],
+    separators: &mut [u32],
+) -> Bound
+    ghost { Job }
+    requires { λ job. ⌜ jobOf startup (now speeds) (now holds) (now weights) ≡ job ⌝ }
+    requires { λ job. ⌜ Ready job (now sums) ⌝ }
+    requires { λ job. ⌜ processors job < length (now separators) ⌝ }
+    ensures { λ job r. ⌜ r ≡ firstEnds job .high ⌝ }
+    ensures { λ job r. ⌜ KeptFrom (suc (processors job)) (now (separators .entry)) (now (separators .exit)) ⌝ }
+{
+    if any_hold(startup, speeds, holds, weights) {
+        return widest_of(startup, speeds, holds, weights, sums);
+    }
+    heuristic_in(startup, speeds, holds, weights, sums, separators);
+    measure_in(startup, speeds, holds, weights, sums, separators)
+}
+
 // Inner. The rounds of bisection, once the trial at the ideal has failed with this next bid: until the two ends meet.
 fn bisect(
     startup: u32,
@@ -61,16 +101,15 @@ fn bisect(
 ) -> Found
     ghost { Job }
     requires { λ job. ⌜ jobOf startup (now speeds) (now holds) (now weights) ≡ job ⌝ }
-    requires { λ job. ⌜ Ready job (now sums) ⌝ }
+    requires { λ job. ⌜ ReadyKept job (now sums) ⌝ }
     requires { λ job. ⌜ processors job < length (now separators) ⌝ }
     requires { λ job. ⌜ Rejected job (ideal job) next ⌝ }
     ensures { λ job r. ⌜ BisectionEnds job (r .count) (r .bound) ⌝ }
     ensures { λ job r. ⌜ Lendable (r .bound) ⌝ }
     ensures { λ job r. ⌜ KeptFrom (suc (processors job)) (now (separators .entry)) (now (separators .exit)) ⌝ }
 {
-    heuristic_in(startup, speeds, holds, weights, sums, separators);
     let mut low = next;
-    let mut high = measure_in(startup, speeds, holds, weights, sums, separators);
+    let mut high = first_high(startup, speeds, holds, weights, sums, separators);
     let mut rounds = 0u32;
     let found = loop {
         if Bound::at_most(high, low) {
@@ -87,7 +126,7 @@ fn bisect(
     }
 }
 
-// Inner. Bisection: a trial at the ideal; if it fails, rounds between its next bid and the heuristic's bottleneck.
+// Inner. Bisection: a trial at the ideal; if it fails, rounds between its next bid and a bound that fits.
 pub fn bisection_in(
     startup: u32,
     speeds: &[u32],
@@ -98,7 +137,7 @@ pub fn bisection_in(
 ) -> Found
     ghost { Job }
     requires { λ job. ⌜ jobOf startup (now speeds) (now holds) (now weights) ≡ job ⌝ }
-    requires { λ job. ⌜ Ready job (now sums) ⌝ }
+    requires { λ job. ⌜ ReadyKept job (now sums) ⌝ }
     requires { λ job. ⌜ processors job < length (now separators) ⌝ }
     ensures { λ job r. ⌜ BisectionEnds job (r .count) (r .bound) ⌝ }
     ensures { λ job r. ⌜ Lendable (r .bound) ⌝ }

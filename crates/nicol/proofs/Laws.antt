@@ -3,7 +3,7 @@
 use Prim.Native.Nat.{ℕ, suc, _+_, _-_, _/_, _≤_, _<_, _^_}
 use mathlib.Core.Path.{_≡_, refl, sym, ap, ap₂, subst, _∙_}
 use mathlib.Core.Bool.{Bool, true, false, not}
-use mathlib.Core.Logic.{_≢_}
+use mathlib.Core.Logic.{_≢_, inl}
 use native.Mathlib.Omega.{arith}
 use lib.Dec.{T, eqb, not-T}
 use borrow.Author.Tests.{eq-eqb, ne-eqb}
@@ -13,12 +13,13 @@ use Rattle.bound.proofs.Order.{least-next}
 use Rattle.chain.specs.declared.Outcome.the-variants.{Fits, Fails}
 use Rattle.chain.specs.Ranges.{Small, Lendable, Narrow}
 use Rattle.chain.specs.Lists.{sumTo, isFirst, digits}
-use Rattle.chain.specs.Job.{First, Job, Valid, tasks, last, partBound}
+use Rattle.chain.specs.Job.{First, Job, Valid, tasks, last, held, partBound}
 use Rattle.chain.specs.Probe.{fits, probe}
 use Rattle.chain.specs.Nicol.{Range, fitsAt, firstFit, startOn, candidateOn, leastCandidate, emptyFits, Comes, nextRange, rangeAfter, single, settled}
 use Rattle.chain.specs.Plan.{TrialsTo, NicolEnds, early, whole, nicolTrials}
 use Rattle.chain.proofs.Tests.{T-of, T-not-of, T-true, T-false}
-use Rattle.chain.proofs.Parts.{valid-proper, valid-plannable}
+use Rattle.chain.proofs.Parts.{valid-proper}
+use Rattle.chain.proofs.Within.{free-of}
 use Rattle.chain.proofs.Indices.{all-of, first-of, first-unique, below-next}
 use Rattle.chain.proofs.Nicol.{comes-sooner, start-to, first-fit-to, first-fit-is, candidate-before, candidate-last, least-candidate-cases, empty-found, found-empty}
 use Rattle.chain.proofs.NicolTrials.{Ranged, ranged-at, unsettled-below, settled-found, trials-first, trials-allowed, trials-are}
@@ -47,9 +48,9 @@ pub halving-start : {job : Job} {p a n : ℕ} → a ≡ startOn job p → n ≡ 
 unfolding rangeAfter
 halving-start e f = record { low-is = e; high-is = f; apart = λ j h. absurd (let z : ⊥ = omega arith in z) }
 
-module _ {job : Job} (v : Valid job) {p low high k : ℕ} (l : p < last job) (c : Comes job p) (w : Halving job p low high k) where
+module _ {job : Job} (v : Valid job) (free : T (not (held job))) {p low high k : ℕ} (l : p < last job) (c : Comes job p) (w : Halving job p low high k) where
   ranged : Ranged job p (startOn job p) (2 ^ k) (rangeAfter job p (startOn job p) k)
-  ranged = ranged-at (valid-plannable v) p (omega arith) c k
+  ranged = ranged-at (valid-proper v) (free-of free) p (omega arith) c k
 
   -- It lies between the start and N.
   pub halving-from : startOn job p ≤ low
@@ -74,7 +75,7 @@ module _ {job : Job} (v : Valid job) {p low high k : ℕ} (l : p < last job) (c 
 
   -- A trial of a range with more than one index is within digits(N),
   pub halving-room : low < high → k < digits (tasks job)
-  halving-room h = unsettled-below (valid-plannable v) p (omega arith) c k (unsettled h)
+  halving-room h = unsettled-below (valid-proper v) (free-of free) p (omega arith) c k (unsettled h)
 
   -- and gives the next range.
   module _ {a m : ℕ} (x : a ≡ startOn job p) (h : low < high) (e : m ≡ (low + high) / 2) where
@@ -113,11 +114,11 @@ module _ {job : Job} (v : Valid job) {p low high k : ℕ} (l : p < last job) (c 
   pub halving-end : {a : ℕ} → a ≡ startOn job p → high ≤ low → (low ≡ firstFit job p a) × T (isFirst (settled job p) k)
   halving-end x h =
       let t : T (settled job p k) = T-of (settled-is ∙ eq-eqb low high (let e : low ≡ high = omega (arith, halving-ordered) in e)) in
-      (w .low-is ∙ settled-found (valid-plannable v) p (omega arith) c k t ∙ ap (firstFit job p) (sym x), first-of (settled job p) k t (w .apart))
+      (w .low-is ∙ settled-found (valid-proper v) (free-of free) p (omega arith) c k t ∙ ap (firstFit job p) (sym x), first-of (settled job p) k t (w .apart))
 
 -- The trials of a processor fit 32 bits.
-pub halving-count : {job : Job} {p low high k : ℕ} → Valid job → p < last job → Comes job p → Halving job p low high k → low < high → k + 1 < 2 ^ 32
-halving-count v l c w h = omega (arith, halving-room v l c w h, tasks-digits v)
+pub halving-count : {job : Job} {p low high k : ℕ} → Valid job → T (not (held job)) → p < last job → Comes job p → Halving job p low high k → low < high → k + 1 < 2 ^ 32
+halving-count v f l c w h = omega (arith, halving-room v f l c w h, tasks-digits v)
 
 -- The search at processor p: where its part starts, the trials until now and the least candidate until now.
 pub record Searching (job : Job) (p a count : ℕ) (least : Bound) : Type 0 where
@@ -140,7 +141,7 @@ searching-start job =
       small = infinite-narrow;
     }
 
-module _ {job : Job} (v : Valid job) {p a count : ℕ} {least : Bound} (w : Searching job p a count least) where
+module _ {job : Job} (v : Valid job) (free : T (not (held job))) {p a count : ℕ} {least : Bound} (w : Searching job p a count least) where
   pub searching-inside : a ≤ tasks job
   searching-inside = omega (arith, w .start-is, start-to job p)
 
@@ -158,7 +159,7 @@ module _ {job : Job} (v : Valid job) {p a count : ℕ} {least : Bound} (w : Sear
       trials : TrialsTo job (last job) count
       trials =
           subst (TrialsTo job (last job)) (sym (w .counted ∙ ap (sumTo (nicolTrials job)) here))
-          (trials-are (valid-plannable v) (last job) (omega arith) (λ q k. comes-sooner (omega (arith, k, h)) (w .comes)))
+          (trials-are (valid-proper v) (free-of free) (last job) (omega arith) (λ q k. comes-sooner (omega (arith, k, h)) (w .comes)))
 
       found : C ≡ leastCandidate job
       found =
@@ -166,7 +167,7 @@ module _ {job : Job} (v : Valid job) {p a count : ℕ} {least : Bound} (w : Sear
           ∙ ap (lesser least) (e ∙ ap (λ (i : ℕ). partBound job p i (tasks job)) (w .start-is) ∙ ap (λ (q : ℕ). partBound job q (startOn job q) (tasks job)) here ∙ sym (candidate-last job))
           ∙ ap (λ (D : Bound). lesser D (candidateOn job (last job))) (w .least-is ∙ ap (leastBelow (candidateOn job)) here)
           ∙ least-next (candidateOn job) (last job)
-          (subst (λ (D : Bound). 1 ≤ D .speed) (sym (candidate-last job)) (part-small v (last job) (startOn job (last job)) (tasks job) .speed-positive))
+          (inl (subst (λ (D : Bound). 1 ≤ D .speed) (sym (candidate-last job)) (part-small v (last job) (startOn job (last job)) (tasks job) .speed-positive)))
 
   -- What processor p, before the last, finds,
   module _ {end : ℕ} (l : p < last job) (e : end ≡ firstFit job p a) where
@@ -187,19 +188,19 @@ module _ {job : Job} (v : Valid job) {p a count : ℕ} {least : Bound} (w : Sear
           omega (
             arith,
             w .counted,
-            first-unique (settled job p) k (nicolTrials job p) t (trials-first (valid-plannable v) p (w .to) (w .comes)),
+            first-unique (settled job p) k (nicolTrials job p) t (trials-first (valid-proper v) (free-of free) p (w .to) (w .comes)),
           )
 
       trials-to : TrialsTo job (suc p) (count + k)
       trials-to =
           subst (TrialsTo job (suc p)) (sym total)
-          (trials-are (valid-plannable v) (suc p) l (λ q h. comes-sooner (omega arith) (w .comes)))
+          (trials-are (valid-proper v) (free-of free) (suc p) l (λ q h. comes-sooner (omega arith) (w .comes)))
 
       pub count-fits : count + k < 2 ^ 32
       count-fits =
           omega (
             arith,
-            trials-allowed (valid-plannable v) First (suc p) (count + k) l (λ q h. comes-sooner (omega arith) (w .comes)) trials-to,
+            trials-allowed (valid-proper v) (free-of free) First (suc p) (count + k) l (λ q h. comes-sooner (omega arith) (w .comes)) trials-to,
             nicol-fits First v,
           )
 
@@ -208,7 +209,7 @@ module _ {job : Job} (v : Valid job) {p a count : ℕ} {least : Bound} (w : Sear
       searching-early f = (
         early p l
             (first-of (emptyFits job) p
-            (found-empty (valid-plannable v) p (w .to) (w .comes) (sym end-is ∙ f ∙ w .start-is)) (w .comes .none)) trials-to refl,
+            (found-empty (valid-proper v) (free-of free) p (w .to) (w .comes) (sym end-is ∙ f ∙ w .start-is)) (w .comes .none)) trials-to refl,
         nought-lendable,
       )
 
@@ -229,7 +230,7 @@ module _ {job : Job} (v : Valid job) {p a count : ℕ} {least : Bound} (w : Sear
             counted = z ∙ total;
             least-is =
                 g ∙ ap (lesser least) is-candidate ∙ ap (λ (E : Bound). lesser E (candidateOn job p)) (w .least-is)
-                ∙ least-next (candidateOn job) p (subst (λ (E : Bound). 1 ≤ E .speed) (sym f ∙ is-candidate) (part-small v p a end .speed-positive));
+                ∙ least-next (candidateOn job) p (inl (subst (λ (E : Bound). 1 ≤ E .speed) (sym f ∙ is-candidate) (part-small v p a end .speed-positive)));
             small = subst Narrow (sym g) (lesser-narrow (w .small) (subst Narrow (sym f) (small-narrow (part-small v p a end))));
           })
         where

@@ -9,7 +9,7 @@ ghost use Rattle.chain.specs.Job.{Job, jobOf, tasks, processors, last, partBoun
 ghost use Rattle.chain.specs.Nicol.{fitsAt, firstFit, startOn, Comes, settled};
 ghost use Rattle.chain.specs.Plan.{NicolEnds};
 ghost use Rattle.parts.specs.Kept.{KeptFrom};
-ghost use Rattle.parts.specs.Prefix.{Ready};
+ghost use Rattle.parts.specs.Prefix.{Ready, ReadyFree};
 use bound::Bound;
 use chain::Outcome;
 use parts::Found;
@@ -128,7 +128,7 @@ fn first_fit(
 ) -> FirstFit
     ghost { Job }
     requires { λ job. ⌜ jobOf startup (now speeds) (now holds) (now weights) ≡ job ⌝ }
-    requires { λ job. ⌜ Ready job (now sums) ⌝ }
+    requires { λ job. ⌜ ReadyFree job (now sums) ⌝ }
     requires { λ job. ⌜ processors job < length (now separators) ⌝ }
     requires { λ job. ⌜ (p < last job) × (a ≡ startOn job p) × Comes job p ⌝ }
     ensures { λ job r. ⌜ r .index ≡ firstFit job p a ⌝ }
@@ -172,7 +172,7 @@ pub fn nicol_in(
 ) -> Found
     ghost { Job }
     requires { λ job. ⌜ jobOf startup (now speeds) (now holds) (now weights) ≡ job ⌝ }
-    requires { λ job. ⌜ Ready job (now sums) ⌝ }
+    requires { λ job. ⌜ ReadyFree job (now sums) ⌝ }
     requires { λ job. ⌜ processors job < length (now separators) ⌝ }
     ensures { λ job r. ⌜ NicolEnds job (r .count) (r .bound) ⌝ }
     ensures { λ job r. ⌜ Lendable (r .bound) ⌝ }

@@ -2,3 +2,4 @@ pub mod Front
 pub mod Laws
 pub mod Search
 pub mod Measure
+pub mod Slowest

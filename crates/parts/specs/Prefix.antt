@@ -1,12 +1,12 @@
 -- Prefix sums, over which the walk, the heuristic, the table and measuring work.
 use Prim.Native.Nat.{ℕ, suc, _+_, _-_, _≤_, _<_, _^_}
 use mathlib.Core.Path.{_≡_}
-use mathlib.Core.Bool.{cond}
+use mathlib.Core.Bool.{not, cond}
 use mathlib.Core.List.{List}
-use lib.Dec.{ltb}
+use lib.Dec.{T, ltb}
 use lib.ListN.{length, getD, take}
 use Rattle.chain.specs.Lists.{sum, tabulate}
-use Rattle.chain.specs.Job.{Job, Valid, tasks, partWeight}
+use Rattle.chain.specs.Job.{Job, Valid, tasks, held, enough, partWeight}
 use Rattle.parts.specs.Rising.{Rising}
 
 -- The prefix sums of the weights: W(1,0), W(1,1), .. W(1,N).
@@ -35,3 +35,13 @@ pub record Prefix (job : Job) (xs : List ℕ) : Type 0 where
 pub record Ready (job : Job) (xs : List ℕ) : Type 0 where
   pub valid : Valid job
   pub prefix : Prefix job xs
+
+-- What those ask that divide the job: its holds are enough;
+pub record ReadyKept (job : Job) (xs : List ℕ) : Type 0 where
+  pub ready : Ready job xs
+  pub enough-holds : T (enough job)
+
+-- and those that take no job with holds.
+pub record ReadyFree (job : Job) (xs : List ℕ) : Type 0 where
+  pub ready : Ready job xs
+  pub free : T (not (held job))

@@ -7,7 +7,7 @@ ghost use lib.ListN.{length, getD, take, drop};
 ghost use Rattle.bound.specs.Order.{over};
 ghost use Rattle.chain.specs.Lists.{sum};
 ghost use Rattle.chain.specs.Ranges.{Narrow};
-ghost use Rattle.chain.specs.Job.{Job, jobOf, processors, Valid, holdOf, keeps, ideal, Partition, boundAt, bottleneck};
+ghost use Rattle.chain.specs.Job.{Job, jobOf, processors, Valid, holdOf, keeps, slowestOf, ideal, Partition, boundAt, bottleneck};
 ghost use Rattle.parts.specs.Prefix.{prefixes, weightBetween, loadBetween, Loadable, Ready};
 ghost use Rattle.parts.specs.Rising.{Rising, near, Spanned, LastAtMost};
 use bound::Bound;
@@ -68,6 +68,23 @@ pub fn total(values: &[u32]) -> u64
         i += 1;
     }
     sum
+}
+
+// Inner. The least of a list that is not empty.
+pub fn slowest_of(speeds: &[u32]) -> u32
+    requires { ⌜ 0 < length (now speeds) ⌝ }
+    ensures { λ r. ⌜ r ≡ slowestOf (now (speeds .entry)) ⌝ }
+{
+    let mut least = speeds[0];
+    let mut i = 1;
+    while i < speeds.len() {
+        let v = speeds[i];
+        if v < least {
+            least = v;
+        }
+        i += 1;
+    }
+    least
 }
 
 // Inner. Writes W(1,0) to W(1,N) to the front of the list.

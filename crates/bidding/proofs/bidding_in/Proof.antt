@@ -10,7 +10,7 @@ use Rattle.chain.specs.Limits.{maxProcessors}
 use Rattle.chain.specs.Plan.{allowance}
 use Rattle.chain.specs.Job.{Second, Job, jobOf}
 use Rattle.chain.specs.Probe.{walk}
-use Rattle.chain.proofs.Parts.{valid-proper}
+use Rattle.chain.proofs.Parts.{valid-proper, valid-plannable}
 use Rattle.chain.proofs.Visited.{visited-first}
 use Rattle.chain.proofs.Ranges.{index-fits}
 use Rattle.parts.specs.Kept.{KeptFrom}
@@ -43,7 +43,7 @@ first-point-requires c κs = search needs
 loop-holds : tie.Need-loop-holds Inv-loop μ-loop
 loop-holds c =
     let s = c .before .before .before .before .before .before .before in (
-      bidden-start (s .pre .0 .valid) (c .before .ideal-of .ensures),
+      bidden-start (s .pre .0 .ready .valid) (c .before .ideal-of .ensures),
       (
         kept-start (suc (length (s .args .speeds .now))) (s .args .separators .now),
         subst (Reached (job-at s) (c .before .ideal-of .result) (s .args .separators .now)) (sym (c .first-point .ensures)) (reached-first (job-at s) (c .before .ideal-of .result) (s .args .separators .now)),
@@ -54,7 +54,7 @@ walk-from-requires : tie.Need-walk-from-requires Inv-loop μ-loop
 walk-from-requires c κs =
     let l = c .before in
     let s = c .before .before .before .before .before .before .before .before .before in
-    (s .pre .0, (l .loop .inv .0 .lendable, (omega (arith, l .loop .inv .1 .0 .same, s .pre .1), l .loop .inv .1 .1)))
+    (s .pre .0 .ready, (l .loop .inv .0 .lendable, (omega (arith, l .loop .inv .1 .0 .same, s .pre .1), l .loop .inv .1 .1)))
 
 enum-known-answer : tie.Need-enum-known-answer Inv-loop μ-loop
 enum-known-answer c = search needs
@@ -63,22 +63,22 @@ add-fill : tie.Need-add-fill Inv-loop μ-loop
 unfolding maxProcessors
 add-fill c =
     let s = c .before .before .before .before .before .before .before .before .before .before .before .before .before .before .before .before in
-    omega (arith, s .pre .1, s .pre .0 .valid .processors-limit)
+    omega (arith, s .pre .1, s .pre .0 .ready .valid .processors-limit)
 
 narrow-requires : tie.Need-narrow-requires Inv-loop μ-loop
-narrow-requires c κs = index-fits (c .before .before .before .before .before .before .before .before .before .before .before .before .before .before .before .before .pre .0 .valid) (omega arith)
+narrow-requires c κs = index-fits (c .before .before .before .before .before .before .before .before .before .before .before .before .before .before .before .before .pre .0 .ready .valid) (omega arith)
 
 fill-requires : tie.Need-fill-requires Inv-loop μ-loop
 fill-requires c κs =
     let l = c .before .before .before .before .before .before .before .before .before in
     let s = c .before .before .before .before .before .before .before .before .before .before .before .before .before .before .before .before .before in
-    let v = s .pre .0 .valid in
+    let v = s .pre .0 .ready .valid in
     let y = c .before .before .before .before .before .before .before .walk-from .ensures in
     let m = fits-outcome (job-at s) (l .loop .bound) (sym (y .0) ∙ c .before .before .before .answer .given .1) in
     (omega (arith, m .1, visited-first (valid-proper v) (l .loop .bound) .0), omega (arith, begun-length v (l .loop .bound) (l .loop .separators) (omega (arith, l .loop .inv .1 .0 .same, s .pre .1)), l .loop .inv .1 .0 .same, s .pre .1))
 
 add-t20 : tie.Need-add-t20 Inv-loop μ-loop
-add-t20 c = omega (arith, bidden-fits (c .before .before .before .before .before .before .before .before .before .before .before .before .loop .failures) (c .before .before .before .before .before .before .before .before .before .before .before .before .before .before .before .before .before .before .before .before .pre .0 .valid) (c .before .before .before .before .before .before .before .before .before .before .before .before .loop .inv .0))
+add-t20 c = omega (arith, bidden-fits (c .before .before .before .before .before .before .before .before .before .before .before .before .loop .failures) (c .before .before .before .before .before .before .before .before .before .before .before .before .before .before .before .before .before .before .before .before .pre .0 .ready .valid) (c .before .before .before .before .before .before .before .before .before .before .before .before .before .before .before .before .before .before .before .before .pre .0 .enough-holds) (c .before .before .before .before .before .before .before .before .before .before .before .before .loop .inv .0))
 
 same-length : tie.Need-same-length Inv-loop μ-loop
 same-length c = let h = c .before .before .before .before .before .before .before .before .before .before .before .before .loop .inv .1 .0 .same in search (needs, h)
@@ -88,7 +88,7 @@ returns c =
     let l = c .before .before .before .before .before .before .before .before .before .before .before .before in
     let s = c .before .before .before .before .before .before .before .before .before .before .before .before .before .before .before .before .before .before .before .before in
     let job : Job = job-at s in
-    let v = s .pre .0 .valid in
+    let v = s .pre .0 .ready .valid in
     let y = c .before .before .before .before .before .before .before .before .before .before .walk-from .ensures in
     let m = fits-outcome job (l .loop .bound) (sym (y .0) ∙ c .before .before .before .before .before .before .answer .given .1) in (
       bidden-end (l .loop .inv .0) (m .0) (omega arith),
@@ -105,17 +105,17 @@ parting-requires c κs =
     let s = c .before .before .before .before .before .before .before .before .before .before .before .before .before .before .before .before in
     let y = c .before .before .before .before .before .before .walk-from .ensures in
     let f = fails-outcome (job-at s) (l .loop .bound) (sym (y .0) ∙ c .before .before .answer2 .given .1) in
-    (s .pre .0, failed-written (l .loop .separators) (s .pre .0 .valid) (l .loop .inv .0 .lendable) (f .0) (f .1) (omega (arith, l .loop .inv .1 .0 .same, s .pre .1)) (y .1))
+    (s .pre .0, failed-written (l .loop .separators) (s .pre .0 .ready .valid) (l .loop .inv .0 .lendable) (f .0) (f .1) (omega (arith, l .loop .inv .1 .0 .same, s .pre .1)) (y .1))
 
 add-failures : tie.Need-add-failures Inv-loop μ-loop
-add-failures c = omega (arith, bidden-fits (c .before .before .before .before .before .before .before .before .before .loop .failures) (c .before .before .before .before .before .before .before .before .before .before .before .before .before .before .before .before .before .pre .0 .valid) (c .before .before .before .before .before .before .before .before .before .loop .inv .0))
+add-failures c = omega (arith, bidden-fits (c .before .before .before .before .before .before .before .before .before .loop .failures) (c .before .before .before .before .before .before .before .before .before .before .before .before .before .before .before .before .before .pre .0 .ready .valid) (c .before .before .before .before .before .before .before .before .before .before .before .before .before .before .before .before .before .pre .0 .enough-holds) (c .before .before .before .before .before .before .before .before .before .loop .inv .0))
 
 loop-less : tie.Need-loop-less Inv-loop μ-loop
 loop-less c =
     let l = c .before .before .before .before .before .before .before .before .before in
     let s = c .before .before .before .before .before .before .before .before .before .before .before .before .before .before .before .before .before in
     let f = fails-outcome (job-at s) (l .loop .bound) (sym (c .before .before .before .before .before .before .before .walk-from .ensures .0) ∙ c .before .before .before .answer2 .given .1) in
-    omega (arith, bidden-room (s .pre .0 .valid) (l .loop .inv .0) (f .0))
+    omega (arith, bidden-room (valid-plannable (s .pre .0 .ready .valid) (s .pre .0 .enough-holds)) (l .loop .inv .0) (f .0))
 
 loop-again : tie.Need-loop-again Inv-loop μ-loop
 loop-again c =
@@ -123,9 +123,9 @@ loop-again c =
     let s = c .before .before .before .before .before .before .before .before .before .before .before .before .before .before .before .before .before in
     let y = c .before .before .before .before .before .before .before .walk-from .ensures in
     let f = fails-outcome (job-at s) (l .loop .bound) (sym (y .0) ∙ c .before .before .before .answer2 .given .1) in (
-      bidden-next (c .before .before .before .answer2 .given .0 .0) (s .pre .0 .valid) (l .loop .inv .0) (f .0) (f .1),
+      bidden-next (c .before .before .before .answer2 .given .0 .0) (s .pre .0 .ready .valid) (s .pre .0 .enough-holds) (l .loop .inv .0) (f .0) (f .1),
       (
-        kept-trans (l .loop .inv .1 .0) (begun-kept (s .pre .0 .valid) (l .loop .bound) (l .loop .separators) (omega (arith, l .loop .inv .1 .0 .same, s .pre .1)) (y .1)),
+        kept-trans (l .loop .inv .1 .0) (begun-kept (s .pre .0 .ready .valid) (l .loop .bound) (l .loop .separators) (omega (arith, l .loop .inv .1 .0 .same, s .pre .1)) (y .1)),
         c .parting .ensures,
       ),
     )

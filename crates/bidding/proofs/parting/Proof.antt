@@ -38,17 +38,17 @@ bid-of-requires : tie.Need-bid-of-requires Inv-loop μ-loop
 bid-of-requires c κs =
     let s = c .before .before .before .before .before .before .before .before .before in
     let w = c .before .before .before .loop .inv (s .pre .1) in
-    (s .pre .0, (omega arith, end-after (s .pre .0 .valid) (s .pre .1) w (omega arith) (c .index .ensures), end-before (s .pre .0 .valid) (s .pre .1) w (omega arith) (c .index .ensures)))
+    (s .pre .0 .ready, (omega arith, end-after (s .pre .0 .ready .valid) (s .pre .0 .enough-holds) (s .pre .1) w (omega arith) (c .index .ensures), end-before (s .pre .0 .ready .valid) (s .pre .0 .enough-holds) (s .pre .1) w (omega arith) (c .index .ensures)))
 
 at-most-requires : tie.Need-at-most-requires Inv-loop μ-loop
 at-most-requires c κs =
     let s = c .before .before .before .before .before .before .before .before .before .before in
-    parting-products (s .pre .0 .valid) (s .pre .1) (c .bid-of .ensures .1)
+    parting-products (s .pre .0 .ready .valid) (s .pre .0 .enough-holds) (s .pre .1) (c .bid-of .ensures .1)
 
 returns : tie.Need-returns Inv-loop μ-loop
 returns c =
     let s = c .before .before .before .before .before .before .before .before .before .before .before .before in
-    parted-reached (s .pre .0 .valid) (s .pre .1) (c .before .before .before .before .before .before .loop .inv (s .pre .1))
+    parted-reached (s .pre .0 .ready .valid) (s .pre .0 .enough-holds) (s .pre .1) (c .before .before .before .before .before .before .loop .inv (s .pre .1))
 
 lesser-requires : tie.Need-lesser-requires Inv-loop μ-loop
 lesser-requires c κs =
@@ -67,13 +67,13 @@ loop-again : tie.Need-loop-again Inv-loop μ-loop
 loop-again c =
     let s = c .before .before .before .before .before .before .before .before .before .before .before .before .before in
     λ f.
-    parted-turn (s .pre .0 .valid) f (c .before .before .before .before .before .before .before .loop .inv f) (omega arith) (c .before .before .before .before .index .ensures) (c .before .before .before .bid-of .ensures .0) (c .before .before .before .bid-of .ensures .1)
+    parted-turn (s .pre .0 .ready .valid) (s .pre .0 .enough-holds) f (c .before .before .before .before .before .before .before .loop .inv f) (omega arith) (c .before .before .before .before .index .ensures) (c .before .before .before .bid-of .ensures .0) (c .before .before .before .bid-of .ensures .1)
     (sym (c .before .before .at-most .ensures) ∙ c .before .if1 .left) (c .lesser .ensures)
 
 returns-2 : tie.Need-returns-2 Inv-loop μ-loop
 returns-2 c =
     let s = c .before .before .before .before .before .before .before in
-    parted-reached (s .pre .0 .valid) (s .pre .1) (c .before .loop .inv (s .pre .1))
+    parted-reached (s .pre .0 .ready .valid) (s .pre .0 .enough-holds) (s .pre .1) (c .before .loop .inv (s .pre .1))
 
 pub parting-spec : {M : Type 1} → statement M
 parting-spec =

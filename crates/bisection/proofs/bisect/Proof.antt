@@ -37,8 +37,8 @@ measure-in-requires : tie.Need-measure-in-requires Inv-loop μ-loop
 measure-in-requires c κs =
     let s = c .before .before .before .before .before .before .before .before .before .before in
     let job : Job = job-at s in (
-      s .pre .0,
-      front-partition (heuristic job) (drop (suc (length (s .args .speeds .now))) (s .args .separators .now)) (heuristic-partition (valid-proper (s .pre .0 .valid)))
+      s .pre .0 .ready,
+      front-partition (heuristic job) (drop (suc (length (s .args .speeds .now))) (s .args .separators .now)) (heuristic-partition (valid-proper (s .pre .0 .ready .valid)))
           (c .before .before .before .heuristic-in .ensures),
     )
 
@@ -46,15 +46,15 @@ loop-holds : tie.Need-loop-holds Inv-loop μ-loop
 loop-holds c =
     let s = c .before .before .before .before .before .before .before .before .before .before .before in
     let job : Job = job-at s in (
-      halved-start (s .pre .0 .valid) (s .pre .1 .1 .failed) (s .pre .1 .1 .bids)
+      halved-start (s .pre .0 .ready .valid) (s .pre .1 .1 .failed) (s .pre .1 .1 .bids)
           (front-bottleneck (heuristic job) (drop (suc (length (s .args .speeds .now))) (s .args .separators .now))
-          (heuristic-partition (valid-proper (s .pre .0 .valid))) (c .before .before .before .before .heuristic-in .ensures) (c .measure-in .ensures .1)),
+          (heuristic-partition (valid-proper (s .pre .0 .ready .valid))) (c .before .before .before .before .heuristic-in .ensures) (c .measure-in .ensures .1)),
       kept-start (suc (length (s .args .speeds .now))) _,
       omega (
         arith,
         s .pre .1 .0,
         kept-written (heuristic job) _ (kept-start (suc (length (s .args .speeds .now))) (s .args .separators .now)) (s .pre .1 .0)
-            (heuristic-partition (valid-proper (s .pre .0 .valid)) .count) (c .before .before .before .before .heuristic-in .ensures) .same,
+            (heuristic-partition (valid-proper (s .pre .0 .ready .valid)) .count) (c .before .before .before .before .heuristic-in .ensures) .same,
       ),
     )
 
@@ -65,24 +65,24 @@ next-ends-requires : tie.Need-next-ends-requires Inv-loop μ-loop
 next-ends-requires c κs =
     let s = c .before .before .before .before .before .before .before .before .before .before .before .before .before .before .before in
     let l = c .before .before .before .loop in
-    (s .pre .0, (l .inv .2, (l .inv .0 .low-small, l .inv .0 .high-small)))
+    (s .pre .0 .ready, (l .inv .2, (l .inv .0 .low-small, l .inv .0 .high-small)))
 
 add-rounds : tie.Need-add-rounds Inv-loop μ-loop
-add-rounds c = omega (arith, rounds-fit (c .before .before .before .before .before .before .before .before .loop .rounds) (c .before .before .before .before .before .before .before .before .before .before .before .before .before .before .before .before .before .before .before .before .pre .0 .valid) (c .before .before .before .before .before .before .before .before .loop .inv .0))
+add-rounds c = omega (arith, rounds-fit (c .before .before .before .before .before .before .before .before .loop .rounds) (c .before .before .before .before .before .before .before .before .before .before .before .before .before .before .before .before .before .before .before .before .pre .0 .ready .valid) (c .before .before .before .before .before .before .before .before .loop .inv .0))
 
 loop-less : tie.Need-loop-less Inv-loop μ-loop
-loop-less c = omega (arith, halved-room (c .before .before .before .before .before .before .before .before .before .before .before .before .before .before .before .before .before .before .before .before .pre .0 .valid) (c .before .before .before .before .before .before .before .before .loop .inv .0) (sym (c .before .before .before .before .before .before .before .at-most .ensures) ∙ c .before .before .before .before .before .before .if1 .left))
+loop-less c = omega (arith, halved-room (c .before .before .before .before .before .before .before .before .before .before .before .before .before .before .before .before .before .before .before .before .pre .0 .ready .valid) (c .before .before .before .before .before .before .before .before .loop .inv .0) (sym (c .before .before .before .before .before .before .before .at-most .ensures) ∙ c .before .before .before .before .before .before .if1 .left))
 
 loop-again : tie.Need-loop-again Inv-loop μ-loop
 loop-again c =
     let r = c .before .before .before .before .next-ends in (
-      halved-next (c .before .before .before .before .before .before .before .before .before .before .before .before .before .before .before .before .before .before .before .before .pre .0 .valid) (c .before .before .before .before .before .before .before .before .loop .inv .0) (r .result) (sym (c .before .before .before .before .before .before .before .at-most .ensures) ∙ c .before .before .before .before .before .before .if1 .left) (r .ensures .0),
+      halved-next (c .before .before .before .before .before .before .before .before .before .before .before .before .before .before .before .before .before .before .before .before .pre .0 .ready .valid) (c .before .before .before .before .before .before .before .before .loop .inv .0) (r .result) (sym (c .before .before .before .before .before .before .before .at-most .ensures) ∙ c .before .before .before .before .before .before .if1 .left) (r .ensures .0),
       kept-trans (c .before .before .before .before .before .before .before .before .loop .inv .1) (r .ensures .1),
       omega (arith, c .before .before .before .before .before .before .before .before .loop .inv .2, r .ensures .1 .same),
     )
 
 add-t22 : tie.Need-add-t22 Inv-loop μ-loop
-add-t22 c = omega (arith, rounds-fit (c .before .before .loop .rounds) (c .before .before .before .before .before .before .before .before .before .before .before .before .before .before .pre .0 .valid) (c .before .before .loop .inv .0))
+add-t22 c = omega (arith, rounds-fit (c .before .before .loop .rounds) (c .before .before .before .before .before .before .before .before .before .before .before .before .before .before .pre .0 .ready .valid) (c .before .before .loop .inv .0))
 
 same-length : tie.Need-same-length Inv-loop μ-loop
 same-length c =
@@ -90,7 +90,7 @@ same-length c =
     let job : Job = job-at s in
     kept-trans
     (kept-written (heuristic job) _ (kept-start (suc (length (s .args .speeds .now))) (s .args .separators .now)) (s .pre .1 .0)
-    (heuristic-partition (valid-proper (s .pre .0 .valid)) .count) (c .before .before .before .before .before .before .before .heuristic-in .ensures)) (c .before .before .loop .inv .1)
+    (heuristic-partition (valid-proper (s .pre .0 .ready .valid)) .count) (c .before .before .before .before .before .before .before .heuristic-in .ensures)) (c .before .before .loop .inv .1)
     .same
 
 returns : tie.Need-returns Inv-loop μ-loop
@@ -98,12 +98,12 @@ returns c =
     let s = c .before .before .before .before .before .before .before .before .before .before .before .before .before .before in
     let job : Job = job-at s in
     let l = c .before .before .loop in (
-      halved-end (s .pre .0 .valid) (l .inv .0) (sym (c .before .at-most .ensures) ∙ c .if1 .taken) (omega arith),
+      halved-end (s .pre .0 .ready .valid) (l .inv .0) (sym (c .before .at-most .ensures) ∙ c .if1 .taken) (omega arith),
       (
         small-lendable (l .inv .0 .low-small),
         kept-trans
             (kept-written (heuristic job) _ (kept-start (suc (length (s .args .speeds .now))) (s .args .separators .now)) (s .pre .1 .0)
-            (heuristic-partition (valid-proper (s .pre .0 .valid)) .count) (c .before .before .before .before .before .before .before .heuristic-in .ensures)) (l .inv .1),
+            (heuristic-partition (valid-proper (s .pre .0 .ready .valid)) .count) (c .before .before .before .before .before .before .before .heuristic-in .ensures)) (l .inv .1),
       ),
     )
 

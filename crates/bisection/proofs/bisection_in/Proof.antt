@@ -28,7 +28,7 @@ ideal-of-requires c κs = search needs
 probe-in-requires : tie.Need-probe-in-requires
 probe-in-requires c κs =
     let s = c .before .before .before .before .before .before .before in
-    (s .pre .0, (subst Lendable (sym (c .before .ideal-of .ensures)) (ideal-lendable (s .pre .0 .valid)), s .pre .1))
+    (s .pre .0 .ready, (subst Lendable (sym (c .before .ideal-of .ensures)) (ideal-lendable (s .pre .0 .ready .valid)), s .pre .1))
 
 enum-known-answer : tie.Need-enum-known-answer
 enum-known-answer c = search needs
@@ -40,12 +40,12 @@ bisect-requires : tie.Need-bisect-requires
 bisect-requires c κs =
     let s = c .before .before .before .before .before .before .before .before .before .before .before .before .before .before in
     let job : Job = job-at s in
-    let v = s .pre .0 .valid in
+    let v = s .pre .0 .ready .valid in
     let b = kept-start (suc (length (s .args .speeds .now))) (s .args .separators .now) in
     let I : Bound = c .before .before .before .before .before .before .before .before .ideal-of .result in
     let y = c .before .before .before .before .before .before .probe-in .ensures in
     let f = fails-outcome job I (sym (y .0) ∙ c .before .before .answer2 .given .1) in (
-      s .pre .0,
+      s .pre .0 .ready,
       (
         omega (arith, s .pre .1, kept-written (walk job I) _ b (s .pre .1) (walk-count v I) (y .1) .same),
         record {
@@ -62,7 +62,7 @@ returns : tie.Need-returns
 returns c =
     let s = c .before .before .before .before .before .before .before .before .before .before .before .before .before in
     let job : Job = job-at s in
-    let v = s .pre .0 .valid in
+    let v = s .pre .0 .ready .valid in
     let b = kept-start (suc (length (s .args .speeds .now))) (s .args .separators .now) in
     let I : Bound = c .before .before .before .before .before .before .before .ideal-of .result in
     let y = c .before .before .before .before .before .probe-in .ensures in (
@@ -77,7 +77,7 @@ returns-2 : tie.Need-returns-2
 returns-2 c =
     let s = c .before .before .before .before .before .before .before .before .before .before .before .before .before .before .before .before .before in
     let job : Job = job-at s in
-    let v = s .pre .0 .valid in
+    let v = s .pre .0 .ready .valid in
     let b = kept-start (suc (length (s .args .speeds .now))) (s .args .separators .now) in
     let I : Bound = c .before .before .before .before .before .before .before .before .before .before .before .ideal-of .result in
     let r = c .before .before .bisect .ensures in

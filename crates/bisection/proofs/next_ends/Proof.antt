@@ -28,7 +28,7 @@ midpoint-requires c κs = middle-products (c .before .before .before .before .be
 probe-in-requires : tie.Need-probe-in-requires
 probe-in-requires c κs =
     let s = c .before .before .before .before .before .before .before in
-    (s .pre .0, (subst Lendable (sym (c .before .midpoint .ensures)) (middle-lendable (s .pre .1 .1 .0) (s .pre .1 .1 .1)), s .pre .1 .0))
+    (s .pre .0 .ready, (subst Lendable (sym (c .before .midpoint .ensures)) (middle-lendable (s .pre .1 .1 .0) (s .pre .1 .1 .1)), s .pre .1 .0))
 
 enum-known-answer : tie.Need-enum-known-answer
 enum-known-answer c = search needs
@@ -40,8 +40,8 @@ measure-in-requires c κs =
     let M : Bound = c .before .before .before .before .before .before .before .before .midpoint .result in
     let y = c .before .before .before .before .before .before .probe-in .ensures in
     let f = fits-outcome job M (sym (y .0) ∙ c .before .before .answer .given .1) .0 in (
-      s .pre .0,
-      front-partition (walk job M) (drop (suc (length (s .args .speeds .now))) (s .args .separators .now)) (walk-partition (valid-proper (s .pre .0 .valid)) M f)
+      s .pre .0 .ready,
+      front-partition (walk job M) (drop (suc (length (s .args .speeds .now))) (s .args .separators .now)) (walk-partition (valid-proper (s .pre .0 .ready .valid)) M f)
           (y .1),
     )
 
@@ -60,9 +60,9 @@ returns c =
     let y = c .before .before .before .before .before .before .before .probe-in .ensures in
     let f = fits-outcome job M (sym (y .0) ∙ c .before .before .before .answer .given .1) .0 in (
       round-fits job (s .args .low) (s .args .high) (c .before .before .before .before .before .before .before .before .before .midpoint .ensures) f
-          (front-bottleneck (walk job M) l (walk-partition (valid-proper (s .pre .0 .valid)) M f) (y .1) (c .measure-in .ensures .1)),
+          (front-bottleneck (walk job M) l (walk-partition (valid-proper (s .pre .0 .ready .valid)) M f) (y .1) (c .measure-in .ensures .1)),
       kept-written (walk job M) _ (kept-start (suc (length (s .args .speeds .now))) (s .args .separators .now)) (s .pre .1 .0)
-          (walk-count (s .pre .0 .valid) M) (y .1),
+          (walk-count (s .pre .0 .ready .valid) M) (y .1),
     )
 
 same-length-2 : tie.Need-same-length-2
@@ -77,7 +77,7 @@ returns-2 c =
     let f = fails-outcome job M (sym (y .0) ∙ c .before .answer2 .given .1) in (
       round-fails job (s .args .low) (s .args .high) (c .before .before .before .before .before .before .before .midpoint .ensures) (f .0) (f .1),
       kept-written (walk job M) _ (kept-start (suc (length (s .args .speeds .now))) (s .args .separators .now)) (s .pre .1 .0)
-          (walk-count (s .pre .0 .valid) M) (y .1),
+          (walk-count (s .pre .0 .ready .valid) M) (y .1),
     )
 
 pub next-ends-spec : {M : Type 1} → statement M

@@ -28,22 +28,22 @@ middle-of-requires : tie.Need-middle-of-requires Inv-loop μ-loop
 middle-of-requires c κs =
     let s = c .before .before .before .before .before .before .before in
     let l = c .before .loop in
-    let v = s .pre .0 .valid in
-    omega (arith, halving-to v (s .pre .1 .1 .0) (s .pre .1 .1 .2) (l .inv .0), index-fits v (halving-to v (s .pre .1 .1 .0) (s .pre .1 .1 .2) (l .inv .0)))
+    let v = s .pre .0 .ready .valid in
+    omega (arith, halving-to v (s .pre .0 .free) (s .pre .1 .1 .0) (s .pre .1 .1 .2) (l .inv .0), index-fits v (halving-to v (s .pre .0 .free) (s .pre .1 .1 .0) (s .pre .1 .1 .2) (l .inv .0)))
 
 add-trials : tie.Need-add-trials Inv-loop μ-loop
 add-trials c =
     let s = c .before .before .before .before .before .before .before .before in
-    omega (arith, halving-count (s .pre .0 .valid) (s .pre .1 .1 .0) (s .pre .1 .1 .2) (c .before .before .loop .inv .0) (omega arith))
+    omega (arith, halving-count (s .pre .0 .ready .valid) (s .pre .0 .free) (s .pre .1 .1 .0) (s .pre .1 .1 .2) (c .before .before .loop .inv .0) (omega arith))
 
 fits-at-requires : tie.Need-fits-at-requires Inv-loop μ-loop
 fits-at-requires c κs =
     let s = c .before .before .before .before .before .before .before .before .before in
     let l = c .before .before .before .loop in
-    let v = s .pre .0 .valid in
-    let from = halving-from v (s .pre .1 .1 .0) (s .pre .1 .1 .2) (l .inv .0) in
-    let to = halving-to v (s .pre .1 .1 .0) (s .pre .1 .1 .2) (l .inv .0) in (
-      s .pre .0,
+    let v = s .pre .0 .ready .valid in
+    let from = halving-from v (s .pre .0 .free) (s .pre .1 .1 .0) (s .pre .1 .1 .2) (l .inv .0) in
+    let to = halving-to v (s .pre .0 .free) (s .pre .1 .1 .0) (s .pre .1 .1 .2) (l .inv .0) in (
+      s .pre .0 .ready,
       (
         omega (arith, l .inv .1 .same, s .pre .1 .0),
         (omega (arith, s .pre .1 .1 .0), omega (arith, from, s .pre .1 .1 .1), omega (arith, to)),
@@ -58,7 +58,7 @@ loop-again c =
     let s = c .before .before .before .before .before .before .before .before .before .before .before .before .before in
     let l = c .before .before .before .before .before .before .before .loop in
     let r = c .before .before .before .fits-at in (
-      halving-fits (s .pre .0 .valid) (s .pre .1 .1 .0) (s .pre .1 .1 .2) (l .inv .0) (s .pre .1 .1 .1) (omega arith) (c .before .before .before .before .before .middle-of .ensures) (sym (c .if1 .taken) ∙ r .ensures .0) (omega arith),
+      halving-fits (s .pre .0 .ready .valid) (s .pre .0 .free) (s .pre .1 .1 .0) (s .pre .1 .1 .2) (l .inv .0) (s .pre .1 .1 .1) (omega arith) (c .before .before .before .before .before .middle-of .ensures) (sym (c .if1 .taken) ∙ r .ensures .0) (omega arith),
       kept-trans (l .inv .1) (r .ensures .1),
     )
 
@@ -66,8 +66,8 @@ add-low : tie.Need-add-low Inv-loop μ-loop
 add-low c =
     let s = c .before .before .before .before .before .before .before .before .before .before .before .before .before in
     let l = c .before .before .before .before .before .before .before .loop in
-    let v = s .pre .0 .valid in
-    omega (arith, index-fits v (halving-to v (s .pre .1 .1 .0) (s .pre .1 .1 .2) (l .inv .0)))
+    let v = s .pre .0 .ready .valid in
+    omega (arith, index-fits v (halving-to v (s .pre .0 .free) (s .pre .1 .1 .0) (s .pre .1 .1 .2) (l .inv .0)))
 
 loop-less-2 : tie.Need-loop-less-2 Inv-loop μ-loop
 loop-less-2 c = omega arith
@@ -77,7 +77,7 @@ loop-again-2 c =
     let s = c .before .before .before .before .before .before .before .before .before .before .before .before .before in
     let l = c .before .before .before .before .before .before .before .loop in
     let r = c .before .before .before .fits-at in (
-      halving-fails (s .pre .0 .valid) (s .pre .1 .1 .0) (s .pre .1 .1 .2) (l .inv .0) (s .pre .1 .1 .1) (omega arith) (c .before .before .before .before .before .middle-of .ensures) (sym (c .if1 .left) ∙ r .ensures .0) (omega arith) (omega arith),
+      halving-fails (s .pre .0 .ready .valid) (s .pre .0 .free) (s .pre .1 .1 .0) (s .pre .1 .1 .2) (l .inv .0) (s .pre .1 .1 .1) (omega arith) (c .before .before .before .before .before .middle-of .ensures) (sym (c .if1 .left) ∙ r .ensures .0) (omega arith) (omega arith),
       kept-trans (l .inv .1) (r .ensures .1),
     )
 
@@ -88,7 +88,7 @@ returns : tie.Need-returns Inv-loop μ-loop
 returns c =
     let s = c .before .before .before .before .before .before .before in
     let l = c .before .loop in
-    let e = halving-end (s .pre .0 .valid) (s .pre .1 .1 .0) (s .pre .1 .1 .2) (l .inv .0) (s .pre .1 .1 .1) (omega arith) in
+    let e = halving-end (s .pre .0 .ready .valid) (s .pre .0 .free) (s .pre .1 .1 .0) (s .pre .1 .1 .2) (l .inv .0) (s .pre .1 .1 .1) (omega arith) in
     (e .0, (e .1, l .inv .1))
 
 pub first-fit-spec : {M : Type 1} → statement M

@@ -24,7 +24,7 @@ abbrev job-at : tie.Start Inv-loop μ-loop → Job
 job-at s = jobOf (s .args .startup) (s .args .speeds .now) (s .args .holds .now) (s .args .weights .now)
 
 sub-last : tie.Need-sub-last Inv-loop μ-loop
-sub-last c = c .before .before .before .before .before .pre .0 .valid .some-processor
+sub-last c = c .before .before .before .before .before .pre .0 .ready .valid .some-processor
 
 loop-holds : tie.Need-loop-holds Inv-loop μ-loop
 loop-holds c =
@@ -41,7 +41,7 @@ add-count : tie.Need-add-count Inv-loop μ-loop
 add-count c =
     let s = c .before .before .before .before .before .before .before .before .before .before .before .before in
     let r = c .before .before .before .first-fit in
-    omega (arith, count-fits (s .pre .0 .valid) (c .before .before .before .before .before .before .loop .inv .0) (omega arith) (r .ensures .0) (r .result .trials) (r .ensures .1 .0))
+    omega (arith, count-fits (s .pre .0 .ready .valid) (s .pre .0 .free) (c .before .before .before .before .before .before .loop .inv .0) (omega arith) (r .ensures .0) (r .result .trials) (r .ensures .1 .0))
 
 same-length : tie.Need-same-length Inv-loop μ-loop
 same-length c =
@@ -52,7 +52,7 @@ returns c =
     let s = c .before .before .before .before .before .before .before .before .before .before .before .before .before in
     let l = c .before .before .before .before .before .before .before .loop in
     let r = c .before .before .before .before .first-fit in
-    let e = searching-early (s .pre .0 .valid) (l .inv .0) (omega arith) (r .ensures .0) (r .result .trials) (r .ensures .1 .0) (omega arith) in
+    let e = searching-early (s .pre .0 .ready .valid) (s .pre .0 .free) (l .inv .0) (omega arith) (r .ensures .0) (r .result .trials) (r .ensures .1 .0) (omega arith) in
     (e .0, (e .1, kept-trans (l .inv .1) (r .ensures .1 .1)))
 
 bound-to-requires : tie.Need-bound-to-requires Inv-loop μ-loop
@@ -60,8 +60,8 @@ bound-to-requires c κs =
     let s = c .before .before .before .before .before .before .before .before .before .before .before .before .before in
     let l = c .before .before .before .before .before .before .before .loop in
     let r = c .before .before .before .before .first-fit in
-    let v = s .pre .0 .valid in
-    (s .pre .0, (omega arith, end-after v (l .inv .0) (omega arith) (r .ensures .0), end-inside v (l .inv .0) (omega arith) (r .ensures .0)))
+    let v = s .pre .0 .ready .valid in
+    (s .pre .0 .ready, (omega arith, end-after v (s .pre .0 .free) (l .inv .0) (omega arith) (r .ensures .0), end-inside v (s .pre .0 .free) (l .inv .0) (omega arith) (r .ensures .0)))
 
 lesser-requires : tie.Need-lesser-requires Inv-loop μ-loop
 lesser-requires c κs =
@@ -72,11 +72,11 @@ sub-a c =
     let s = c .before .before .before .before .before .before .before .before .before .before .before .before .before .before .before in
     let l = c .before .before .before .before .before .before .before .before .before .loop in
     let r = c .before .before .before .before .before .before .first-fit in
-    omega (arith, c .before .before .if1 .left, end-after (s .pre .0 .valid) (l .inv .0) (c .before .before .before .before .before .before .before .before .loop-test .taken) (r .ensures .0))
+    omega (arith, c .before .before .if1 .left, end-after (s .pre .0 .ready .valid) (s .pre .0 .free) (l .inv .0) (c .before .before .before .before .before .before .before .before .loop-test .taken) (r .ensures .0))
 
 add-p : tie.Need-add-p Inv-loop μ-loop
 unfolding maxProcessors
-add-p c = omega (arith, c .before .before .before .before .before .before .before .before .loop-test .taken, c .before .before .before .before .before .before .before .before .before .before .before .before .before .before .before .pre .0 .valid .processors-limit)
+add-p c = omega (arith, c .before .before .before .before .before .before .before .before .loop-test .taken, c .before .before .before .before .before .before .before .before .before .before .before .before .before .before .before .pre .0 .ready .valid .processors-limit)
 
 loop-less : tie.Need-loop-less Inv-loop μ-loop
 loop-less c = omega arith
@@ -86,7 +86,7 @@ loop-again c =
     let s = c .before .before .before .before .before .before .before .before .before .before .before .before .before .before .before in
     let l = c .before .before .before .before .before .before .before .before .before .loop in
     let r = c .before .before .before .before .before .before .first-fit in (
-      searching-next (s .pre .0 .valid) (l .inv .0) (c .before .before .before .before .before .before .before .before .loop-test .taken) (r .ensures .0) (r .result .trials) (r .ensures .1 .0) (c .before .before .if1 .left)
+      searching-next (s .pre .0 .ready .valid) (s .pre .0 .free) (l .inv .0) (c .before .before .before .before .before .before .before .before .loop-test .taken) (r .ensures .0) (r .result .trials) (r .ensures .1 .0) (c .before .before .if1 .left)
           (c .before .bound-to .ensures .0) (c .lesser .ensures) (omega arith) (omega arith) (omega arith),
       kept-trans (l .inv .1) (r .ensures .1 .1),
     )
@@ -95,7 +95,7 @@ bound-to-requires-2 : tie.Need-bound-to-requires-2 Inv-loop μ-loop
 bound-to-requires-2 c κs =
     let s = c .before .before .before .before .before .before .before in
     let l = c .before .loop in
-    (s .pre .0, (omega (arith, l .inv .0 .to, s .pre .0 .valid .some-processor), searching-inside (s .pre .0 .valid) (l .inv .0), omega arith))
+    (s .pre .0 .ready, (omega (arith, l .inv .0 .to, s .pre .0 .ready .valid .some-processor), searching-inside (s .pre .0 .ready .valid) (s .pre .0 .free) (l .inv .0), omega arith))
 
 lesser-requires-2 : tie.Need-lesser-requires-2 Inv-loop μ-loop
 lesser-requires-2 c κs = search (narrow-products, c .before .before .loop .inv .0 .small, small-narrow (c .bound-to2 .ensures .1))
@@ -107,7 +107,7 @@ returns-2 : tie.Need-returns-2 Inv-loop μ-loop
 returns-2 c =
     let s = c .before .before .before .before .before .before .before .before .before in
     let l = c .before .before .before .loop in
-    let e = searching-end (s .pre .0 .valid) (l .inv .0) (omega arith) (c .before .bound-to2 .ensures .0) (c .lesser2 .ensures) in
+    let e = searching-end (s .pre .0 .ready .valid) (s .pre .0 .free) (l .inv .0) (omega arith) (c .before .bound-to2 .ensures .0) (c .lesser2 .ensures) in
     (e .0, (e .1, l .inv .1))
 
 pub nicol-in-spec : {M : Type 1} → statement M
