@@ -1,20 +1,25 @@
 -- The test of a division, as the code makes it: the first separator, each pair, the last.
 -- Assumes nothing.
 use Prim.Native.Nat.{ℕ, suc, _+_, _≤_, _<_}
-use mathlib.Core.Path.{_≡_, sym, subst, _∙_}
-use mathlib.Core.Bool.{Bool, false}
+use mathlib.Core.Path.{_≡_, sym, ap, subst, _∙_}
+use mathlib.Core.Bool.{Bool, false, not}
 use mathlib.Core.List.{List}
 use native.Mathlib.Omega.{arith}
 use native.Mathlib.Decide.{decLe}
 use native.Mathlib.Numerals.{add-one}
-use lib.Dec.{T, eqb, eqb→eq}
+use lib.Dec.{T, eqb, eqb→eq, T-not}
 use borrow.Author.Tests.{eq-eqb}
 use lib.ListN.{length, take}
 use lib.Seq.{length-take-le, getD-take}
-use Rattle.chain.specs.Job.{Job, tasks, processors, at, Partition}
+use Rattle.chain.specs.Job.{Job, tasks, processors, keeps, at, Partition}
 use Rattle.chain.specs.Refusal.{isPartition}
 use Rattle.chain.proofs.Refusals.{partition-test}
 use Rattle.chain.proofs.Tests.{same-test}
+
+-- A pair of separators as a division has them: the second no less, and the hold of the processor kept.
+pub record Good (job : Job) (s : List ℕ) (p : ℕ) : Type 0 where
+  pub grows : at s p ≤ at s (suc p)
+  pub keeps : T (keeps job p (at s p) (at s (suc p)))
 
 module _ (job : Job) (s : List ℕ) (long : processors job < length s) where
   front : List ℕ
@@ -31,7 +36,7 @@ module _ (job : Job) (s : List ℕ) (long : processors job < length s) where
   unfolding front
   refuted h = same-test false Passes (λ x. absurd x) (λ t. absurd (h ((partition-test job front) .0 t)))
 
-  -- The first separator is not 0; a separator is less than the one before it; or the test of the last one decides.
+  -- The first separator is not 0; a separator is less than the one before it; a hold is not kept; or the test of the last one decides.
   pub not-first : (at s 0 ≡ 0 → ⊥) → false ≡ Passes
   not-first h = refuted (λ pa. h (sym (at-front 0 (omega arith)) ∙ pa .first))
 
@@ -39,7 +44,15 @@ module _ (job : Job) (s : List ℕ) (long : processors job < length s) where
   not-grown p h l =
       refuted (λ pa. let x : at front p ≤ at front (suc p) = pa .grows p h in omega (arith, at-front p (omega arith), at-front (suc p) h))
 
-  pub end-decides : at s 0 ≡ 0 → ((p : ℕ) → p < processors job → at s p ≤ at s (suc p)) → eqb (at s (processors job)) (tasks job) ≡ Passes
+  pub not-kept : (p : ℕ) → p < processors job → T (not (keeps job p (at s p) (at s (suc p)))) → false ≡ Passes
+  not-kept p h l =
+      refuted
+      (λ pa.
+      T-not (keeps job p (at s p) (at s (suc p))) l
+      (subst (λ (b : ℕ). T (keeps job p (at s p) b)) (at-front (suc p) h)
+      (subst (λ (a : ℕ). T (keeps job p a (at front (suc p)))) (at-front p (omega arith)) (pa .kept p h))))
+
+  pub end-decides : at s 0 ≡ 0 → ((p : ℕ) → p < processors job → Good job s p) → eqb (at s (processors job)) (tasks job) ≡ Passes
   unfolding front
   end-decides f g =
       same-test (eqb (at s (processors job)) (tasks job)) Passes
@@ -48,7 +61,10 @@ module _ (job : Job) (s : List ℕ) (long : processors job < length s) where
       (record {
         count = length-take-le (suc (processors job)) s long;
         first = at-front 0 (omega arith) ∙ f;
-        grows = λ p h. omega (arith, g p h, at-front p (omega arith), at-front (suc p) h);
+        grows = λ p h. omega (arith, g p h .grows, at-front p (omega arith), at-front (suc p) h);
+        kept = λ p h.
+            subst (λ (a : ℕ). T (keeps job p a (at front (suc p)))) (sym (at-front p (omega arith)))
+            (subst (λ (b : ℕ). T (keeps job p (at s p) b)) (sym (at-front (suc p) h)) (g p h .keeps));
         end = at-front (processors job) (omega arith) ∙ eqb→eq _ _ t;
       }))
       (λ t.
@@ -56,10 +72,14 @@ module _ (job : Job) (s : List ℕ) (long : processors job < length s) where
       (sym (eq-eqb (at s (processors job)) (tasks job) (sym (at-front (processors job) (omega arith)) ∙ ((partition-test job front) .0 t) .end)))
       tt)
 
--- One separator more that is no less than the one before it.
-pub grown-more : (s : List ℕ) (p : ℕ) → ((k : ℕ) → k < p → at s k ≤ at s (suc k)) → at s p ≤ at s (p + 1) → (k : ℕ) → k < p + 1 → at s k ≤ at s (suc k)
-grown-more s p h l k m =
+-- One pair more, a and b being its separators.
+pub good-more : (job : Job) (s : List ℕ) (p : ℕ) {a b : ℕ} → ((k : ℕ) → k < p → Good job s k) → a ≡ at s p → b ≡ at s (p + 1) → a ≤ b → T (keeps job p a b)
+    → (k : ℕ) → k < p + 1 → Good job s k
+good-more job s p {a} {b} h e f l t k m =
     elim (decLe (suc k) p) [
       | yes x ↦ h k x
-      | no x ↦ subst (λ (i : ℕ). at s i ≤ at s (suc i)) (let e : p ≡ k = omega arith in e) (subst (λ (i : ℕ). at s p ≤ at s i) (add-one p) l)
+      | no x ↦ subst (Good job s) (let y : p ≡ k = omega arith in y) (record { grows = omega (arith, next); keeps = subst (λ (j : ℕ). T (keeps job p (at s p) j)) next (subst (λ (i : ℕ). T (keeps job p i b)) e t) })
     ]
+  where
+    next : b ≡ at s (suc p)
+    next = f ∙ ap (at s) (add-one p)

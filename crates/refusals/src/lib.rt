@@ -15,6 +15,8 @@ ghost use Rattle.refusals.specs.Methods.{chosenOf, numberOf};
 ghost use Rattle.refusals.specs.Inputs.{headRecords, listInputs, probeInputs, heuristicInputs, planLists, methodInputs, writeInputs, writePlanInputs};
 use bound::Bound;
 use chain::Method;
+use parts::index;
+use parts::keeps_hold;
 
 // The limits of a job.
 pub const MAX_TASKS: usize = 2048;
@@ -234,6 +236,7 @@ pub fn is_partition(
 ) -> bool
     ghost { Job }
     requires { λ job. ⌜ jobOf startup (now speeds) (now holds) (now weights) ≡ job ⌝ }
+    requires { λ job. ⌜ Valid job ⌝ }
     requires { λ job. ⌜ processors job < length (now separators) ⌝ }
     ensures { λ job r. ⌜ r ≡ isPartition job (take (suc (processors job)) (now (separators .entry))) ⌝ }
 {
@@ -242,12 +245,17 @@ pub fn is_partition(
     }
     let mut p = 0;
     while p < speeds.len() {
-        if separators[p + 1] < separators[p] {
+        let a = index(separators[p]);
+        let b = index(separators[p + 1]);
+        if b < a {
+            return false;
+        }
+        if !keeps_hold(startup, speeds, holds, weights, p, a, b) {
             return false;
         }
         p += 1;
     }
-    separators[p] as usize == weights.len()
+    index(separators[p]) == weights.len()
 }
 
 // Inner. The method with this number. No other number is a method's: refusal 1.
@@ -331,6 +339,7 @@ fn test_division(
 ) -> u32
     ghost { Job }
     requires { λ job. ⌜ jobOf startup (now speeds) (now holds) (now weights) ≡ job ⌝ }
+    requires { λ job. ⌜ Valid job ⌝ }
     requires { λ job. ⌜ processors job < length (now separators) ⌝ }
     ensures { λ job r. ⌜ r ≡ firstRefusal (partitionTest job (now (separators .entry)) ∷ []) ⌝ }
 {

@@ -13,7 +13,7 @@ returns : tie.Need-returns
 returns c = search measure-laws
 
 test-division-requires : tie.Need-test-division-requires
-test-division-requires c κs = (passed (c .before .test-separators .ensures) (c .if1 .left)) .lists .0
+test-division-requires c κs = let w = passed (c .before .test-separators .ensures) (c .if1 .left) in (w .valid, w .lists .0)
 
 returns-2 : tie.Need-returns-2
 returns-2 c = search measure-laws

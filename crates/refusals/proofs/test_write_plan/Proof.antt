@@ -34,7 +34,7 @@ test-length-requires : tie.Need-test-length-requires
 test-length-requires c κs = search needs
 
 test-division-requires : tie.Need-test-division-requires
-test-division-requires c κs = (tested (c .before)) .lists .0
+test-division-requires c κs = let w = tested (c .before) in (w .valid, w .lists .0)
 
 returns-2 : tie.Need-returns-2
 returns-2 c = search write-plan-laws
