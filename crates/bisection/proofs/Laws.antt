@@ -79,7 +79,16 @@ pub record Halved (job : Job) (low high : Bound) (rounds : ℕ) : Type 0 where
   pub low-small : Small low
   pub high-small : Small high
 
--- The high end that bisection starts with is small.
+-- The high end that bisection starts with, with holds and without.
+pub high-held : (job : Job) → held job ≡ true → firstEnds job .high ≡ widest job
+unfolding firstEnds
+high-held job e = ap (λ (t : Bool). pick t (widest job) (bottleneck job (heuristic job))) e
+
+pub high-free : (job : Job) → held job ≡ false → firstEnds job .high ≡ bottleneck job (heuristic job)
+unfolding firstEnds
+high-free job e = ap (λ (t : Bool). pick t (widest job) (bottleneck job (heuristic job))) e
+
+-- It is small.
 high-small : {job : Job} → Valid job → Small (firstEnds job .high)
 unfolding firstEnds
 high-small {job} v = go (held job)

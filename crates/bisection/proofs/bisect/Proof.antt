@@ -30,32 +30,15 @@ abbrev μ-loop : tie.MeasureT-loop
 abbrev job-at : tie.Start Inv-loop μ-loop → Job
 job-at s = jobOf (s .args .startup) (s .args .speeds .now) (s .args .holds .now) (s .args .weights .now)
 
-heuristic-in-requires : tie.Need-heuristic-in-requires Inv-loop μ-loop
-heuristic-in-requires c κs = search needs
-
-measure-in-requires : tie.Need-measure-in-requires Inv-loop μ-loop
-measure-in-requires c κs =
-    let s = c .before .before .before .before .before .before .before .before .before .before in
-    let job : Job = job-at s in (
-      s .pre .0 .ready,
-      front-partition (heuristic job) (drop (suc (length (s .args .speeds .now))) (s .args .separators .now)) (heuristic-partition (valid-proper (s .pre .0 .ready .valid)))
-          (c .before .before .before .heuristic-in .ensures),
-    )
+first-high-requires : tie.Need-first-high-requires Inv-loop μ-loop
+first-high-requires c κs = search needs
 
 loop-holds : tie.Need-loop-holds Inv-loop μ-loop
 loop-holds c =
-    let s = c .before .before .before .before .before .before .before .before .before .before .before in
-    let job : Job = job-at s in (
-      halved-start (s .pre .0 .ready .valid) (s .pre .1 .1 .failed) (s .pre .1 .1 .bids)
-          (front-bottleneck (heuristic job) (drop (suc (length (s .args .speeds .now))) (s .args .separators .now))
-          (heuristic-partition (valid-proper (s .pre .0 .ready .valid))) (c .before .before .before .before .heuristic-in .ensures) (c .measure-in .ensures .1)),
+    let s = c .before .before .before .before .before .before .before .before .before in (
+      halved-start (s .pre .0 .ready .valid) (s .pre .0 .enough-holds) (s .pre .1 .1 .failed) (s .pre .1 .1 .bids) (c .before .before .first-high .ensures .0),
       kept-start (suc (length (s .args .speeds .now))) _,
-      omega (
-        arith,
-        s .pre .1 .0,
-        kept-written (heuristic job) _ (kept-start (suc (length (s .args .speeds .now))) (s .args .separators .now)) (s .pre .1 .0)
-            (heuristic-partition (valid-proper (s .pre .0 .ready .valid)) .count) (c .before .before .before .before .heuristic-in .ensures) .same,
-      ),
+      omega (arith, s .pre .1 .0, c .before .before .first-high .ensures .1 .same),
     )
 
 at-most-requires : tie.Need-at-most-requires Inv-loop μ-loop
@@ -63,48 +46,36 @@ at-most-requires c κs = search (small-products, c .loop .inv .0 .high-small, c 
 
 next-ends-requires : tie.Need-next-ends-requires Inv-loop μ-loop
 next-ends-requires c κs =
-    let s = c .before .before .before .before .before .before .before .before .before .before .before .before .before .before .before in
+    let s = c .before .before .before .before .before .before .before .before .before .before .before .before .before in
     let l = c .before .before .before .loop in
-    (s .pre .0 .ready, (l .inv .2, (l .inv .0 .low-small, l .inv .0 .high-small)))
+    (s .pre .0, (l .inv .2, (l .inv .0 .low-small, l .inv .0 .high-small)))
 
 add-rounds : tie.Need-add-rounds Inv-loop μ-loop
-add-rounds c = omega (arith, rounds-fit (c .before .before .before .before .before .before .before .before .loop .rounds) (c .before .before .before .before .before .before .before .before .before .before .before .before .before .before .before .before .before .before .before .before .pre .0 .ready .valid) (c .before .before .before .before .before .before .before .before .loop .inv .0))
+add-rounds c = omega (arith, rounds-fit (c .before .before .before .before .before .before .before .before .loop .rounds) (c .before .before .before .before .before .before .before .before .before .before .before .before .before .before .before .before .before .before .pre .0 .ready .valid) (c .before .before .before .before .before .before .before .before .before .before .before .before .before .before .before .before .before .before .pre .0 .enough-holds) (c .before .before .before .before .before .before .before .before .loop .inv .0))
 
 loop-less : tie.Need-loop-less Inv-loop μ-loop
-loop-less c = omega (arith, halved-room (c .before .before .before .before .before .before .before .before .before .before .before .before .before .before .before .before .before .before .before .before .pre .0 .ready .valid) (c .before .before .before .before .before .before .before .before .loop .inv .0) (sym (c .before .before .before .before .before .before .before .at-most .ensures) ∙ c .before .before .before .before .before .before .if1 .left))
+loop-less c = omega (arith, halved-room (c .before .before .before .before .before .before .before .before .before .before .before .before .before .before .before .before .before .before .pre .0 .ready .valid) (c .before .before .before .before .before .before .before .before .before .before .before .before .before .before .before .before .before .before .pre .0 .enough-holds) (c .before .before .before .before .before .before .before .before .loop .inv .0) (sym (c .before .before .before .before .before .before .before .at-most .ensures) ∙ c .before .before .before .before .before .before .if1 .left))
 
 loop-again : tie.Need-loop-again Inv-loop μ-loop
 loop-again c =
     let r = c .before .before .before .before .next-ends in (
-      halved-next (c .before .before .before .before .before .before .before .before .before .before .before .before .before .before .before .before .before .before .before .before .pre .0 .ready .valid) (c .before .before .before .before .before .before .before .before .loop .inv .0) (r .result) (sym (c .before .before .before .before .before .before .before .at-most .ensures) ∙ c .before .before .before .before .before .before .if1 .left) (r .ensures .0),
+      halved-next (c .before .before .before .before .before .before .before .before .before .before .before .before .before .before .before .before .before .before .pre .0 .ready .valid) (c .before .before .before .before .before .before .before .before .before .before .before .before .before .before .before .before .before .before .pre .0 .enough-holds) (c .before .before .before .before .before .before .before .before .loop .inv .0) (r .result) (sym (c .before .before .before .before .before .before .before .at-most .ensures) ∙ c .before .before .before .before .before .before .if1 .left) (r .ensures .0),
       kept-trans (c .before .before .before .before .before .before .before .before .loop .inv .1) (r .ensures .1),
       omega (arith, c .before .before .before .before .before .before .before .before .loop .inv .2, r .ensures .1 .same),
     )
 
-add-t22 : tie.Need-add-t22 Inv-loop μ-loop
-add-t22 c = omega (arith, rounds-fit (c .before .before .loop .rounds) (c .before .before .before .before .before .before .before .before .before .before .before .before .before .before .pre .0 .ready .valid) (c .before .before .loop .inv .0))
+add-t19 : tie.Need-add-t19 Inv-loop μ-loop
+add-t19 c = omega (arith, rounds-fit (c .before .before .loop .rounds) (c .before .before .before .before .before .before .before .before .before .before .before .before .pre .0 .ready .valid) (c .before .before .before .before .before .before .before .before .before .before .before .before .pre .0 .enough-holds) (c .before .before .loop .inv .0))
 
 same-length : tie.Need-same-length Inv-loop μ-loop
-same-length c =
-    let s = c .before .before .before .before .before .before .before .before .before .before .before .before .before .before in
-    let job : Job = job-at s in
-    kept-trans
-    (kept-written (heuristic job) _ (kept-start (suc (length (s .args .speeds .now))) (s .args .separators .now)) (s .pre .1 .0)
-    (heuristic-partition (valid-proper (s .pre .0 .ready .valid)) .count) (c .before .before .before .before .before .before .before .heuristic-in .ensures)) (c .before .before .loop .inv .1)
-    .same
+same-length c = kept-trans (c .before .before .before .before .before .first-high .ensures .1) (c .before .before .loop .inv .1) .same
 
 returns : tie.Need-returns Inv-loop μ-loop
 returns c =
-    let s = c .before .before .before .before .before .before .before .before .before .before .before .before .before .before in
-    let job : Job = job-at s in
+    let s = c .before .before .before .before .before .before .before .before .before .before .before .before in
     let l = c .before .before .loop in (
-      halved-end (s .pre .0 .ready .valid) (l .inv .0) (sym (c .before .at-most .ensures) ∙ c .if1 .taken) (omega arith),
-      (
-        small-lendable (l .inv .0 .low-small),
-        kept-trans
-            (kept-written (heuristic job) _ (kept-start (suc (length (s .args .speeds .now))) (s .args .separators .now)) (s .pre .1 .0)
-            (heuristic-partition (valid-proper (s .pre .0 .ready .valid)) .count) (c .before .before .before .before .before .before .before .heuristic-in .ensures)) (l .inv .1),
-      ),
+      halved-end (s .pre .0 .ready .valid) (s .pre .0 .enough-holds) (l .inv .0) (sym (c .before .at-most .ensures) ∙ c .if1 .taken) (omega arith),
+      (small-lendable (l .inv .0 .low-small), kept-trans (c .before .before .before .before .before .first-high .ensures .1) (l .inv .1)),
     )
 
 pub bisect-spec : {M : Type 1} → statement M
@@ -113,14 +84,13 @@ bisect-spec =
     (tie.spec
     Inv-loop
     μ-loop
-    heuristic-in-requires
-    measure-in-requires
+    first-high-requires
     loop-holds
     at-most-requires
     next-ends-requires
     add-rounds
     loop-less
     loop-again
-    add-t22
+    add-t19
     same-length
     returns)

@@ -45,7 +45,7 @@ bisect-requires c κs =
     let I : Bound = c .before .before .before .before .before .before .before .before .ideal-of .result in
     let y = c .before .before .before .before .before .before .probe-in .ensures in
     let f = fails-outcome job I (sym (y .0) ∙ c .before .before .answer2 .given .1) in (
-      s .pre .0 .ready,
+      s .pre .0,
       (
         omega (arith, s .pre .1, kept-written (walk job I) _ b (s .pre .1) (walk-count v I) (y .1) .same),
         record {

@@ -88,8 +88,7 @@ loop-less c = omega arith
 loop-again : tie.Need-loop-again Inv-loop μ-loop
 loop-again c =
     let s = c .before .before .before .before .before .before .before .before .before .before .before .before .before .before .before in
-    let l = c .before .before .before .before .before .before .before .before .loop in
-    (
+    let l = c .before .before .before .before .before .before .before .before .loop in (
       omega arith,
       l .inv .1,
       good-more (job-at s) (s .args .separators .now) (l .p) (l .inv .2) (c .before .before .before .before .before .index .ensures) (c .before .before .before .index2 .ensures) (omega arith)
