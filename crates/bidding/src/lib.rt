@@ -26,13 +26,14 @@ use probe::walk_from;
 fn parting(
     startup: u32,
     speeds: &[u32],
+    holds: &[u16],
     weights: &[u32],
     sums: &[u32],
     next: Bound,
     separators: &[u32],
 ) -> Point
     ghost { Job }
-    requires { λ job. ⌜ jobOf startup (now speeds) (now weights) ≡ job ⌝ }
+    requires { λ job. ⌜ jobOf startup (now speeds) (now holds) (now weights) ≡ job ⌝ }
     requires { λ job. ⌜ Ready job (now sums) ⌝ }
     requires { λ job. ⌜ FailedWalk job next (now separators) ⌝ }
     ensures { λ job r. ⌜ Reached job next (now (separators .entry)) r ⌝ }
@@ -43,7 +44,7 @@ fn parting(
     let mut p = 0;
     while p < last {
         let end = index(separators[p + 1]);
-        let bid = bid_of(startup, speeds, weights, sums, p, a, end);
+        let bid = bid_of(startup, speeds, holds, weights, sums, p, a, end);
         if Bound::at_most(bid, next) {
             return Point {
                 processor: p,
@@ -67,22 +68,32 @@ fn parting(
 pub fn bidding_in(
     startup: u32,
     speeds: &[u32],
+    holds: &[u16],
     weights: &[u32],
     sums: &[u32],
     separators: &mut [u32],
 ) -> Found
     ghost { Job }
-    requires { λ job. ⌜ jobOf startup (now speeds) (now weights) ≡ job ⌝ }
+    requires { λ job. ⌜ jobOf startup (now speeds) (now holds) (now weights) ≡ job ⌝ }
     requires { λ job. ⌜ Ready job (now sums) ⌝ }
     requires { λ job. ⌜ processors job < length (now separators) ⌝ }
     ensures { λ job r. ⌜ BiddingEnds job (r .count) (r .bound) ⌝ }
     ensures { λ job r. ⌜ now (separators .exit) ≡ walk job (r .bound) ++ drop (suc (processors job)) (now (separators .entry)) ⌝ }
 {
-    let mut bound = ideal_of(startup, speeds, weights, sums);
+    let mut bound = ideal_of(startup, speeds, holds, weights, sums);
     let mut point = first_point();
     let mut failures = 0u32;
     loop {
-        let answer = walk_from(startup, speeds, weights, sums, bound, point, separators);
+        let answer = walk_from(
+            startup,
+            speeds,
+            holds,
+            weights,
+            sums,
+            bound,
+            point,
+            separators,
+        );
         match answer {
             Outcome::Fits(visited) => {
                 fill(separators, visited, speeds.len() + 1, narrow(weights.len()));
@@ -92,7 +103,7 @@ pub fn bidding_in(
                 };
             }
             Outcome::Fails(next) => {
-                point = parting(startup, speeds, weights, sums, next, separators);
+                point = parting(startup, speeds, holds, weights, sums, next, separators);
                 bound = next;
                 failures += 1;
             }

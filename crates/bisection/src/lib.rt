@@ -23,6 +23,7 @@ use probe::probe_in;
 fn next_ends(
     startup: u32,
     speeds: &[u32],
+    holds: &[u16],
     weights: &[u32],
     sums: &[u32],
     low: Bound,
@@ -30,7 +31,7 @@ fn next_ends(
     separators: &mut [u32],
 ) -> Ends
     ghost { Job }
-    requires { λ job. ⌜ jobOf startup (now speeds) (now weights) ≡ job ⌝ }
+    requires { λ job. ⌜ jobOf startup (now speeds) (now holds) (now weights) ≡ job ⌝ }
     requires { λ job. ⌜ Ready job (now sums) ⌝ }
     requires { λ job. ⌜ processors job < length (now separators) ⌝ }
     requires { λ job. ⌜ Small low × Small high ⌝ }
@@ -38,10 +39,10 @@ fn next_ends(
     ensures { λ job r. ⌜ KeptFrom (suc (processors job)) (now (separators .entry)) (now (separators .exit)) ⌝ }
 {
     let middle = Bound::midpoint(low, high);
-    let answer = probe_in(startup, speeds, weights, sums, middle, separators);
+    let answer = probe_in(startup, speeds, holds, weights, sums, middle, separators);
     match answer {
         Outcome::Fits(visited) => {
-            let least = measure_in(startup, speeds, weights, sums, separators);
+            let least = measure_in(startup, speeds, holds, weights, sums, separators);
             Ends { low, high: least }
         }
         Outcome::Fails(bid) => Ends { low: bid, high },
@@ -52,13 +53,14 @@ fn next_ends(
 fn bisect(
     startup: u32,
     speeds: &[u32],
+    holds: &[u16],
     weights: &[u32],
     sums: &[u32],
     next: Bound,
     separators: &mut [u32],
 ) -> Found
     ghost { Job }
-    requires { λ job. ⌜ jobOf startup (now speeds) (now weights) ≡ job ⌝ }
+    requires { λ job. ⌜ jobOf startup (now speeds) (now holds) (now weights) ≡ job ⌝ }
     requires { λ job. ⌜ Ready job (now sums) ⌝ }
     requires { λ job. ⌜ processors job < length (now separators) ⌝ }
     requires { λ job. ⌜ Rejected job (ideal job) next ⌝ }
@@ -66,15 +68,15 @@ fn bisect(
     ensures { λ job r. ⌜ Lendable (r .bound) ⌝ }
     ensures { λ job r. ⌜ KeptFrom (suc (processors job)) (now (separators .entry)) (now (separators .exit)) ⌝ }
 {
-    heuristic_in(startup, speeds, weights, sums, separators);
+    heuristic_in(startup, speeds, holds, weights, sums, separators);
     let mut low = next;
-    let mut high = measure_in(startup, speeds, weights, sums, separators);
+    let mut high = measure_in(startup, speeds, holds, weights, sums, separators);
     let mut rounds = 0u32;
     let found = loop {
         if Bound::at_most(high, low) {
             break low;
         }
-        let ends = next_ends(startup, speeds, weights, sums, low, high, separators);
+        let ends = next_ends(startup, speeds, holds, weights, sums, low, high, separators);
         low = ends.low;
         high = ends.high;
         rounds += 1;
@@ -89,22 +91,23 @@ fn bisect(
 pub fn bisection_in(
     startup: u32,
     speeds: &[u32],
+    holds: &[u16],
     weights: &[u32],
     sums: &[u32],
     separators: &mut [u32],
 ) -> Found
     ghost { Job }
-    requires { λ job. ⌜ jobOf startup (now speeds) (now weights) ≡ job ⌝ }
+    requires { λ job. ⌜ jobOf startup (now speeds) (now holds) (now weights) ≡ job ⌝ }
     requires { λ job. ⌜ Ready job (now sums) ⌝ }
     requires { λ job. ⌜ processors job < length (now separators) ⌝ }
     ensures { λ job r. ⌜ BisectionEnds job (r .count) (r .bound) ⌝ }
     ensures { λ job r. ⌜ Lendable (r .bound) ⌝ }
     ensures { λ job r. ⌜ KeptFrom (suc (processors job)) (now (separators .entry)) (now (separators .exit)) ⌝ }
 {
-    let bound = ideal_of(startup, speeds, weights, sums);
-    let answer = probe_in(startup, speeds, weights, sums, bound, separators);
+    let bound = ideal_of(startup, speeds, holds, weights, sums);
+    let answer = probe_in(startup, speeds, holds, weights, sums, bound, separators);
     match answer {
         Outcome::Fits(visited) => Found { bound, count: 1 },
-        Outcome::Fails(next) => bisect(startup, speeds, weights, sums, next, separators),
+        Outcome::Fails(next) => bisect(startup, speeds, holds, weights, sums, next, separators),
     }
 }

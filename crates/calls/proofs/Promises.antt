@@ -18,7 +18,7 @@ use Rattle.chain.specs.Probe.{walk, walked, fits, nextBid, visited, probe}
 use Rattle.chain.specs.Heuristic.{margin, heuristic}
 use Rattle.chain.specs.Halving.{Halvable, halving}
 use Rattle.chain.specs.Plan.{planOf}
-use Rattle.chain.specs.Refusal.{startupTest, speedsTest, weightsTest, processorsTest, tasksTest, rowTest, lengthTest, boundTest, partitionTest, FirstFailing, jobTests, Inputs, measureInputs, halvingInputs, callTests, refusal}
+use Rattle.chain.specs.Refusal.{startupTest, speedsTest, weightsTest, processorsTest, tasksTest, rowTest, lengthTest, holdsTest, enoughTest, freeTest, boundTest, partitionTest, FirstFailing, jobTests, Inputs, measureInputs, halvingInputs, callTests, refusal}
 use Rattle.chain.proofs.Tests.{T-true}
 use Rattle.chain.proofs.Refusals.{gives, given-number}
 use Rattle.chain.proofs.Parts.{Proper, valid-proper, valid-plannable}
@@ -68,7 +68,7 @@ module _ (job : Job) (s : List ℕ) where
 
   -- It is 0, 16, or one of 5 to 9 and 11;
   pub measure-numbers : List·Memᴰ ((measuredSaid (measureAnswer job s)) .number) (0 ∷ 16 ∷ 5 ∷ 6 ∷ 7 ∷ 8 ∷ 9 ∷ 11 ∷ [])
-  unfolding refusal callTests jobTests startupTest speedsTest weightsTest processorsTest tasksTest lengthTest partitionTest
+  unfolding refusal callTests jobTests startupTest speedsTest weightsTest processorsTest tasksTest lengthTest holdsTest partitionTest
   measure-numbers = given-number (16 ∷ 5 ∷ 6 ∷ 7 ∷ 8 ∷ 9 ∷ 11 ∷ []) (callTests job (measureInputs job s)) measure-number tt
 
   -- and that of the first test that fails.
@@ -119,10 +119,10 @@ module _ (job : Job) (s : List ℕ) where
   pub heuristic-number : (measuredSaid (heuristicAnswer job s)) .number ≡ refusal job (heuristicInputs job (length s))
   heuristic-number = number-of (boundValues (bottleneck job (heuristic job))) heuristic-said
 
-  -- 0, 16, or one of 5 to 9; that of the first test that fails.
-  pub heuristic-numbers : List·Memᴰ ((measuredSaid (heuristicAnswer job s)) .number) (0 ∷ 16 ∷ 5 ∷ 6 ∷ 7 ∷ 8 ∷ 9 ∷ [])
-  unfolding refusal callTests jobTests startupTest speedsTest weightsTest processorsTest tasksTest lengthTest
-  heuristic-numbers = given-number (16 ∷ 5 ∷ 6 ∷ 7 ∷ 8 ∷ 9 ∷ []) (callTests job (heuristicInputs job (length s))) heuristic-number tt
+  -- 0, 16, one of 5 to 9, or 18; that of the first test that fails.
+  pub heuristic-numbers : List·Memᴰ ((measuredSaid (heuristicAnswer job s)) .number) (0 ∷ 16 ∷ 5 ∷ 6 ∷ 7 ∷ 8 ∷ 9 ∷ 18 ∷ [])
+  unfolding refusal callTests jobTests startupTest speedsTest weightsTest processorsTest tasksTest lengthTest holdsTest freeTest
+  heuristic-numbers = given-number (16 ∷ 5 ∷ 6 ∷ 7 ∷ 8 ∷ 9 ∷ 18 ∷ []) (callTests job (heuristicInputs job (length s))) heuristic-number tt
 
   pub heuristic-gives : {n : ℕ} → n ≢ 0
       → ((measuredSaid (heuristicAnswer job s)) .number ≡ n) ↔ FirstFailing (callTests job (heuristicInputs job (length s))) n
@@ -170,10 +170,10 @@ module _ (job : Job) (s : List ℕ) where
   pub halving-number : (measuredSaid (halvingAnswer job s)) .number ≡ refusal job (halvingInputs job (length s))
   halving-number = number-of (boundValues (bottleneck job (halving job))) halving-said
 
-  -- 0, 16, or one of 5 to 9 and 14; that of the first test that fails.
-  pub halving-numbers : List·Memᴰ ((measuredSaid (halvingAnswer job s)) .number) (0 ∷ 16 ∷ 5 ∷ 6 ∷ 7 ∷ 8 ∷ 14 ∷ 9 ∷ [])
-  unfolding refusal callTests jobTests startupTest speedsTest weightsTest processorsTest tasksTest rowTest lengthTest
-  halving-numbers = given-number (16 ∷ 5 ∷ 6 ∷ 7 ∷ 8 ∷ 14 ∷ 9 ∷ []) (callTests job (halvingInputs job (length s))) halving-number tt
+  -- 0, 16, one of 5 to 9, 14 or 18; that of the first test that fails.
+  pub halving-numbers : List·Memᴰ ((measuredSaid (halvingAnswer job s)) .number) (0 ∷ 16 ∷ 5 ∷ 6 ∷ 7 ∷ 8 ∷ 14 ∷ 9 ∷ 18 ∷ [])
+  unfolding refusal callTests jobTests startupTest speedsTest weightsTest processorsTest tasksTest rowTest lengthTest holdsTest freeTest
+  halving-numbers = given-number (16 ∷ 5 ∷ 6 ∷ 7 ∷ 8 ∷ 14 ∷ 9 ∷ 18 ∷ []) (callTests job (halvingInputs job (length s))) halving-number tt
 
   pub halving-gives : {n : ℕ} → n ≢ 0
       → ((measuredSaid (halvingAnswer job s)) .number ≡ n) ↔ FirstFailing (callTests job (halvingInputs job (length s))) n
@@ -242,10 +242,10 @@ module _ (job : Job) (B : Bound) (s : List ℕ) where
   pub probe-number : (probedSaid (probeAnswer job B s)) .number ≡ refusal job (probeInputs job B (length s))
   probe-number = number-of (outcomeValues (probe job B)) probe-said
 
-  -- 0, 16, or one of 5 to 10; that of the first test that fails.
-  pub probe-numbers : List·Memᴰ ((probedSaid (probeAnswer job B s)) .number) (0 ∷ 16 ∷ 5 ∷ 6 ∷ 7 ∷ 8 ∷ 9 ∷ 10 ∷ [])
-  unfolding refusal callTests jobTests startupTest speedsTest weightsTest processorsTest tasksTest lengthTest boundTest
-  probe-numbers = given-number (16 ∷ 5 ∷ 6 ∷ 7 ∷ 8 ∷ 9 ∷ 10 ∷ []) (callTests job (probeInputs job B (length s))) probe-number tt
+  -- 0, 16, one of 5 to 9, 17 or 10; that of the first test that fails.
+  pub probe-numbers : List·Memᴰ ((probedSaid (probeAnswer job B s)) .number) (0 ∷ 16 ∷ 5 ∷ 6 ∷ 7 ∷ 8 ∷ 9 ∷ 17 ∷ 10 ∷ [])
+  unfolding refusal callTests jobTests startupTest speedsTest weightsTest processorsTest tasksTest lengthTest holdsTest enoughTest boundTest
+  probe-numbers = given-number (16 ∷ 5 ∷ 6 ∷ 7 ∷ 8 ∷ 9 ∷ 17 ∷ 10 ∷ []) (callTests job (probeInputs job B (length s))) probe-number tt
 
   pub probe-gives : {n : ℕ} → n ≢ 0
       → ((probedSaid (probeAnswer job B s)) .number ≡ n) ↔ FirstFailing (callTests job (probeInputs job B (length s))) n

@@ -40,29 +40,41 @@ pub enum Probed {
 }
 
 // Inner. The bottleneck of the partition in front of the list.
-fn measure_tested(startup: u32, speeds: &[u32], weights: &[u32], separators: &[u32]) -> Bound
+fn measure_tested(
+    startup: u32,
+    speeds: &[u32],
+    holds: &[u16],
+    weights: &[u32],
+    separators: &[u32],
+) -> Bound
     ghost { Job }
-    requires { λ job. ⌜ jobOf startup (now speeds) (now weights) ≡ job ⌝ }
+    requires { λ job. ⌜ jobOf startup (now speeds) (now holds) (now weights) ≡ job ⌝ }
     requires { λ job. ⌜ Valid job ⌝ }
     requires { λ job. ⌜ Partition job (take (suc (processors job)) (now separators)) ⌝ }
     ensures { λ job r. ⌜ r ≡ bottleneck job (take (suc (processors job)) (now (separators .entry))) ⌝ }
 {
     let mut sums = [0u32; MAX_TASKS + 1];
     prefix_sums(weights, &mut sums);
-    measure_in(startup, speeds, weights, &sums, separators)
+    measure_in(startup, speeds, holds, weights, &sums, separators)
 }
 
 // Inner. Measures a partition with the start-up work that counts.
-fn measure_with(startup: u32, speeds: &[u32], weights: &[u32], separators: &[u32]) -> Measured
+fn measure_with(
+    startup: u32,
+    speeds: &[u32],
+    holds: &[u16],
+    weights: &[u32],
+    separators: &[u32],
+) -> Measured
     ensures { λ r.
-        let job = jobOf startup (now (speeds .entry)) (now (weights .entry)) in
+        let job = jobOf startup (now (speeds .entry)) (now (holds .entry)) (now (weights .entry)) in
         ⌜ r ≡ measureAnswer job (now (separators .entry)) ⌝ }
 {
-    let number = test_measure(startup, speeds, weights, separators);
+    let number = test_measure(startup, speeds, holds, weights, separators);
     if number != 0 {
         return Measured::Refused(number);
     }
-    Measured::Bottleneck(measure_tested(startup, speeds, weights, separators))
+    Measured::Bottleneck(measure_tested(startup, speeds, holds, weights, separators))
 }
 
 // Measures a partition: its bottleneck, or the refusal: 16, 5, 6, 7, 8, 9 or 11, in this order. Entries past P + 1 are ignored.
@@ -70,26 +82,34 @@ pub fn measure(
     second: bool,
     startup: u32,
     speeds: &[u32],
+    holds: &[u16],
     weights: &[u32],
     separators: &[u32],
 ) -> Measured
     ensures { λ r.
-        let job = jobOf (counts.effective second startup) (now (speeds .entry)) (now (weights .entry)) in
+        let job = jobOf (counts.effective second startup) (now (speeds .entry)) (now (holds .entry)) (now (weights .entry)) in
         ⌜ r ≡ measureAnswer job (now (separators .entry)) ⌝ }
 {
-    measure_with(effective(second, startup), speeds, weights, separators)
+    measure_with(
+        effective(second, startup),
+        speeds,
+        holds,
+        weights,
+        separators,
+    )
 }
 
 // Inner. The probe at the bound: writes how far each processor gets, P + 1 separators, whether it fits or not.
 fn probe_tested(
     startup: u32,
     speeds: &[u32],
+    holds: &[u16],
     weights: &[u32],
     bound: Bound,
     separators: &mut [u32],
 ) -> Outcome
     ghost { Job }
-    requires { λ job. ⌜ jobOf startup (now speeds) (now weights) ≡ job ⌝ }
+    requires { λ job. ⌜ jobOf startup (now speeds) (now holds) (now weights) ≡ job ⌝ }
     requires { λ job. ⌜ Valid job ⌝ }
     requires { λ job. ⌜ Lendable bound ⌝ }
     requires { λ job. ⌜ processors job < length (now separators) ⌝ }
@@ -98,52 +118,55 @@ fn probe_tested(
 {
     let mut sums = [0u32; MAX_TASKS + 1];
     prefix_sums(weights, &mut sums);
-    walked_in(startup, speeds, weights, &sums, bound, separators)
+    walked_in(startup, speeds, holds, weights, &sums, bound, separators)
 }
 
 // Inner. The probe at a lent bound with the start-up work that counts.
 fn probe_with(
     startup: u32,
     speeds: &[u32],
+    holds: &[u16],
     weights: &[u32],
     bound: Bound,
     separators: &mut [u32],
 ) -> Probed
     ensures answer { λ r.
-        let job = jobOf startup (now (speeds .entry)) (now (weights .entry)) in
+        let job = jobOf startup (now (speeds .entry)) (now (holds .entry)) (now (weights .entry)) in
         ⌜ r ≡ probeAnswer job bound (now (separators .entry)) ⌝ }
     ensures separators { λ _.
-        let job = jobOf startup (now (speeds .entry)) (now (weights .entry)) in
+        let job = jobOf startup (now (speeds .entry)) (now (holds .entry)) (now (weights .entry)) in
         ⌜ now (separators .exit) ≡ probeWrites job bound (now (separators .entry)) ⌝ }
 {
-    let number = test_probe(startup, speeds, weights, bound, separators.len());
+    let number = test_probe(startup, speeds, holds, weights, bound, separators.len());
     if number != 0 {
         return Probed::Refused(number);
     }
-    Probed::Answered(probe_tested(startup, speeds, weights, bound, separators))
+    Probed::Answered(probe_tested(startup, speeds, holds, weights, bound, separators))
 }
 
 // The probe at a lent bound: it fits, with the number of processors that its walk came to, or fails, with the least next bid; or the
-// refusal: 16, 5, 6, 7, 8, 9 or 10, in this order. It writes the P + 1 separators, whether it fits or fails; a refusal writes nothing.
+// refusal: 16, 5, 6, 7, 8, 9, 17 or 10, in this order. It writes the P + 1 separators, whether it fits or fails; a refusal writes nothing.
 // Later entries stay.
 pub fn probe(
     second: bool,
     startup: u32,
     speeds: &[u32],
+    holds: &[u16],
     weights: &[u32],
     bound: Bound,
     separators: &mut [u32],
 ) -> Probed
     ensures answer { λ r.
-        let job = jobOf (counts.effective second startup) (now (speeds .entry)) (now (weights .entry)) in
+        let job = jobOf (counts.effective second startup) (now (speeds .entry)) (now (holds .entry)) (now (weights .entry)) in
         ⌜ r ≡ probeAnswer job bound (now (separators .entry)) ⌝ }
     ensures separators { λ _.
-        let job = jobOf (counts.effective second startup) (now (speeds .entry)) (now (weights .entry)) in
+        let job = jobOf (counts.effective second startup) (now (speeds .entry)) (now (holds .entry)) (now (weights .entry)) in
         ⌜ now (separators .exit) ≡ probeWrites job bound (now (separators .entry)) ⌝ }
 {
     probe_with(
         effective(second, startup),
         speeds,
+        holds,
         weights,
         bound,
         separators,
@@ -151,9 +174,15 @@ pub fn probe(
 }
 
 // Inner. Writes the heuristic's separators and gives their bottleneck.
-fn heuristic_tested(startup: u32, speeds: &[u32], weights: &[u32], separators: &mut [u32]) -> Bound
+fn heuristic_tested(
+    startup: u32,
+    speeds: &[u32],
+    holds: &[u16],
+    weights: &[u32],
+    separators: &mut [u32],
+) -> Bound
     ghost { Job }
-    requires { λ job. ⌜ jobOf startup (now speeds) (now weights) ≡ job ⌝ }
+    requires { λ job. ⌜ jobOf startup (now speeds) (now holds) (now weights) ≡ job ⌝ }
     requires { λ job. ⌜ Valid job ⌝ }
     requires { λ job. ⌜ processors job < length (now separators) ⌝ }
     ensures { λ job r. ⌜ r ≡ bottleneck job (quick.heuristic job) ⌝ }
@@ -161,49 +190,68 @@ fn heuristic_tested(startup: u32, speeds: &[u32], weights: &[u32], separators: &
 {
     let mut sums = [0u32; MAX_TASKS + 1];
     prefix_sums(weights, &mut sums);
-    heuristic_in(startup, speeds, weights, &sums, separators);
-    measure_in(startup, speeds, weights, &sums, separators)
+    heuristic_in(startup, speeds, holds, weights, &sums, separators);
+    measure_in(startup, speeds, holds, weights, &sums, separators)
 }
 
 // Inner. The heuristic with the start-up work that counts.
-fn heuristic_with(startup: u32, speeds: &[u32], weights: &[u32], separators: &mut [u32]) -> Measured
+fn heuristic_with(
+    startup: u32,
+    speeds: &[u32],
+    holds: &[u16],
+    weights: &[u32],
+    separators: &mut [u32],
+) -> Measured
     ensures answer { λ r.
-        let job = jobOf startup (now (speeds .entry)) (now (weights .entry)) in
+        let job = jobOf startup (now (speeds .entry)) (now (holds .entry)) (now (weights .entry)) in
         ⌜ r ≡ heuristicAnswer job (now (separators .entry)) ⌝ }
     ensures separators { λ _.
-        let job = jobOf startup (now (speeds .entry)) (now (weights .entry)) in
+        let job = jobOf startup (now (speeds .entry)) (now (holds .entry)) (now (weights .entry)) in
         ⌜ now (separators .exit) ≡ heuristicWrites job (now (separators .entry)) ⌝ }
 {
-    let number = test_heuristic(startup, speeds, weights, separators.len());
+    let number = test_heuristic(startup, speeds, holds, weights, separators.len());
     if number != 0 {
         return Measured::Refused(number);
     }
-    Measured::Bottleneck(heuristic_tested(startup, speeds, weights, separators))
+    Measured::Bottleneck(heuristic_tested(startup, speeds, holds, weights, separators))
 }
 
-// The heuristic: its bottleneck, or the refusal: 16, 5, 6, 7, 8 or 9, in this order. It writes the P + 1 separators, a refusal
+// The heuristic: its bottleneck, or the refusal: 16, 5, 6, 7, 8, 9 or 18, in this order. It writes the P + 1 separators, a refusal
 // writes nothing. Later entries stay.
 pub fn heuristic(
     second: bool,
     startup: u32,
     speeds: &[u32],
+    holds: &[u16],
     weights: &[u32],
     separators: &mut [u32],
 ) -> Measured
     ensures answer { λ r.
-        let job = jobOf (counts.effective second startup) (now (speeds .entry)) (now (weights .entry)) in
+        let job = jobOf (counts.effective second startup) (now (speeds .entry)) (now (holds .entry)) (now (weights .entry)) in
         ⌜ r ≡ heuristicAnswer job (now (separators .entry)) ⌝ }
     ensures separators { λ _.
-        let job = jobOf (counts.effective second startup) (now (speeds .entry)) (now (weights .entry)) in
+        let job = jobOf (counts.effective second startup) (now (speeds .entry)) (now (holds .entry)) (now (weights .entry)) in
         ⌜ now (separators .exit) ≡ heuristicWrites job (now (separators .entry)) ⌝ }
 {
-    heuristic_with(effective(second, startup), speeds, weights, separators)
+    heuristic_with(
+        effective(second, startup),
+        speeds,
+        holds,
+        weights,
+        separators,
+    )
 }
 
 // Inner. Writes the separators of the halved row and gives their bottleneck.
-fn halving_tested(startup: u32, speeds: &[u32], weights: &[u32], separators: &mut [u32]) -> Bound
+fn halving_tested(
+    startup: u32,
+    speeds: &[u32],
+    holds: &[u16],
+    weights: &[u32],
+    separators: &mut [u32],
+) -> Bound
     ghost { Job }
-    requires { λ job. ⌜ jobOf startup (now speeds) (now weights) ≡ job ⌝ }
+    requires { λ job. ⌜ jobOf startup (now speeds) (now holds) (now weights) ≡ job ⌝ }
     requires { λ job. ⌜ Valid job ⌝ }
     requires { λ job. ⌜ Halvable (now speeds) ⌝ }
     requires { λ job. ⌜ processors job < length (now separators) ⌝ }
@@ -212,41 +260,54 @@ fn halving_tested(startup: u32, speeds: &[u32], weights: &[u32], separators: &mu
 {
     let mut sums = [0u32; MAX_TASKS + 1];
     prefix_sums(weights, &mut sums);
-    halving_in(startup, speeds, weights, &sums, separators);
-    measure_in(startup, speeds, weights, &sums, separators)
+    halving_in(startup, speeds, holds, weights, &sums, separators);
+    measure_in(startup, speeds, holds, weights, &sums, separators)
 }
 
 // Inner. Halving the row with the start-up work that counts.
-fn halving_with(startup: u32, speeds: &[u32], weights: &[u32], separators: &mut [u32]) -> Measured
+fn halving_with(
+    startup: u32,
+    speeds: &[u32],
+    holds: &[u16],
+    weights: &[u32],
+    separators: &mut [u32],
+) -> Measured
     ensures answer { λ r.
-        let job = jobOf startup (now (speeds .entry)) (now (weights .entry)) in
+        let job = jobOf startup (now (speeds .entry)) (now (holds .entry)) (now (weights .entry)) in
         ⌜ r ≡ halvingAnswer job (now (separators .entry)) ⌝ }
     ensures separators { λ _.
-        let job = jobOf startup (now (speeds .entry)) (now (weights .entry)) in
+        let job = jobOf startup (now (speeds .entry)) (now (holds .entry)) (now (weights .entry)) in
         ⌜ now (separators .exit) ≡ halvingWrites job (now (separators .entry)) ⌝ }
 {
-    let number = test_halving(startup, speeds, weights, separators.len());
+    let number = test_halving(startup, speeds, holds, weights, separators.len());
     if number != 0 {
         return Measured::Refused(number);
     }
-    Measured::Bottleneck(halving_tested(startup, speeds, weights, separators))
+    Measured::Bottleneck(halving_tested(startup, speeds, holds, weights, separators))
 }
 
-// Halving the row: its bottleneck, or the refusal: 16, 5, 6, 7, 8, 14 or 9, in this order. It writes the P + 1 separators, a refusal
+// Halving the row: its bottleneck, or the refusal: 16, 5, 6, 7, 8, 14, 9 or 18, in this order. It writes the P + 1 separators, a refusal
 // writes nothing. Later entries stay.
 pub fn halving(
     second: bool,
     startup: u32,
     speeds: &[u32],
+    holds: &[u16],
     weights: &[u32],
     separators: &mut [u32],
 ) -> Measured
     ensures answer { λ r.
-        let job = jobOf (counts.effective second startup) (now (speeds .entry)) (now (weights .entry)) in
+        let job = jobOf (counts.effective second startup) (now (speeds .entry)) (now (holds .entry)) (now (weights .entry)) in
         ⌜ r ≡ halvingAnswer job (now (separators .entry)) ⌝ }
     ensures separators { λ _.
-        let job = jobOf (counts.effective second startup) (now (speeds .entry)) (now (weights .entry)) in
+        let job = jobOf (counts.effective second startup) (now (speeds .entry)) (now (holds .entry)) (now (weights .entry)) in
         ⌜ now (separators .exit) ≡ halvingWrites job (now (separators .entry)) ⌝ }
 {
-    halving_with(effective(second, startup), speeds, weights, separators)
+    halving_with(
+        effective(second, startup),
+        speeds,
+        holds,
+        weights,
+        separators,
+    )
 }

@@ -47,6 +47,7 @@ fn put(scratch: &mut [u32], row: usize, i: usize, value: Bound)
 fn move_on(
     startup: u32,
     speeds: &[u32],
+    holds: &[u16],
     weights: &[u32],
     scratch: &[u32],
     before: usize,
@@ -56,7 +57,7 @@ fn move_on(
     start: Pointer,
 ) -> Pointer
     ghost { Job }
-    requires { λ job. ⌜ jobOf startup (now speeds) (now weights) ≡ job ⌝ }
+    requires { λ job. ⌜ jobOf startup (now speeds) (now holds) (now weights) ≡ job ⌝ }
     requires { λ job. ⌜ RowReady job (now scratch) before p ⌝ }
     requires { λ job. ⌜ speed ≡ speedOf job (suc p) ⌝ }
     requires { λ job. ⌜ (i ≤ tasks job) × (start .at ≤ crossing job p i) × (start .moves + i < 2 ^ 32 + start .at) ⌝ }
@@ -78,6 +79,7 @@ fn move_on(
 fn advance(
     startup: u32,
     speeds: &[u32],
+    holds: &[u16],
     weights: &[u32],
     scratch: &[u32],
     before: usize,
@@ -87,18 +89,30 @@ fn advance(
     start: Pointer,
 ) -> Pointer
     ghost { Job }
-    requires { λ job. ⌜ jobOf startup (now speeds) (now weights) ≡ job ⌝ }
+    requires { λ job. ⌜ jobOf startup (now speeds) (now holds) (now weights) ≡ job ⌝ }
     requires { λ job. ⌜ RowReady job (now scratch) before p ⌝ }
     requires { λ job. ⌜ speed ≡ speedOf job (suc p) ⌝ }
     requires { λ job. ⌜ (i ≤ tasks job) × (start .at ≤ crossing job p i) × (start .moves + i < 2 ^ 32 + start .at) ⌝ }
     ensures { λ job r. ⌜ Advanced job p i (start .at) (start .moves) (r .at) (r .moves) ⌝ }
 {
     if startup == 0 {
-        return move_on(0, speeds, weights, scratch, before, p, speed, i, start);
+        return move_on(
+            0,
+            speeds,
+            holds,
+            weights,
+            scratch,
+            before,
+            p,
+            speed,
+            i,
+            start,
+        );
     }
     move_on(
         startup,
         speeds,
+        holds,
         weights,
         scratch,
         before,
@@ -114,6 +128,7 @@ fn advance(
 fn value_at(
     startup: u32,
     speeds: &[u32],
+    holds: &[u16],
     weights: &[u32],
     scratch: &[u32],
     before: usize,
@@ -123,7 +138,7 @@ fn value_at(
     at: usize,
 ) -> Bound
     ghost { Job }
-    requires { λ job. ⌜ jobOf startup (now speeds) (now weights) ≡ job ⌝ }
+    requires { λ job. ⌜ jobOf startup (now speeds) (now holds) (now weights) ≡ job ⌝ }
     requires { λ job. ⌜ RowReady job (now scratch) before p ⌝ }
     requires { λ job. ⌜ speed ≡ speedOf job (suc p) ⌝ }
     requires { λ job. ⌜ (i ≤ tasks job) × (at ≡ crossing job p i) ⌝ }
@@ -141,6 +156,7 @@ fn value_at(
 fn fill_row(
     startup: u32,
     speeds: &[u32],
+    holds: &[u16],
     weights: &[u32],
     scratch: &mut [u32],
     before: usize,
@@ -149,7 +165,7 @@ fn fill_row(
     start: Pointer,
 ) -> Pointer
     ghost { Job }
-    requires { λ job. ⌜ jobOf startup (now speeds) (now weights) ≡ job ⌝ }
+    requires { λ job. ⌜ jobOf startup (now speeds) (now holds) (now weights) ≡ job ⌝ }
     requires { λ job. ⌜ RowReady job (now scratch) before p ⌝ }
     requires { λ job. ⌜ Places (suc (tasks job)) before row (length (now scratch)) ⌝ }
     requires { λ job. ⌜ (start .at ≡ 0) × (start .moves + tasks job < 2 ^ 32) ⌝ }
@@ -162,6 +178,7 @@ fn fill_row(
         pointer = advance(
             startup,
             speeds,
+            holds,
             weights,
             scratch,
             before,
@@ -171,7 +188,18 @@ fn fill_row(
             pointer,
         );
         let at = pointer.at;
-        let value = value_at(startup, speeds, weights, scratch, before, p, speed, i, at);
+        let value = value_at(
+            startup,
+            speeds,
+            holds,
+            weights,
+            scratch,
+            before,
+            p,
+            speed,
+            i,
+            at,
+        );
         put(scratch, row, i, value);
         i += 1;
     }
@@ -179,9 +207,16 @@ fn fill_row(
 }
 
 // Inner. Fills the row of processor 0.
-fn first_row(startup: u32, speeds: &[u32], weights: &[u32], scratch: &mut [u32], row: usize)
+fn first_row(
+    startup: u32,
+    speeds: &[u32],
+    holds: &[u16],
+    weights: &[u32],
+    scratch: &mut [u32],
+    row: usize,
+)
     ghost { Job }
-    requires { λ job. ⌜ jobOf startup (now speeds) (now weights) ≡ job ⌝ }
+    requires { λ job. ⌜ jobOf startup (now speeds) (now holds) (now weights) ≡ job ⌝ }
     requires { λ job. ⌜ Ready job (now scratch) ⌝ }
     requires { λ job. ⌜ (suc (tasks job) ≤ row) × (row + 2 * suc (tasks job) ≤ length (now scratch)) ⌝ }
     ensures { λ job r. ⌜ FirstRow job (now (scratch .entry)) (now (scratch .exit)) row ⌝ }
@@ -197,9 +232,15 @@ fn first_row(startup: u32, speeds: &[u32], weights: &[u32], scratch: &mut [u32],
 
 // Inner. The value of the last processor at the last task, and the moves made. The scratch list begins with the prefix sums;
 // the two rows behind them are free for use.
-pub fn table_in(startup: u32, speeds: &[u32], weights: &[u32], scratch: &mut [u32]) -> Found
+pub fn table_in(
+    startup: u32,
+    speeds: &[u32],
+    holds: &[u16],
+    weights: &[u32],
+    scratch: &mut [u32],
+) -> Found
     ghost { Job }
-    requires { λ job. ⌜ jobOf startup (now speeds) (now weights) ≡ job ⌝ }
+    requires { λ job. ⌜ jobOf startup (now speeds) (now holds) (now weights) ≡ job ⌝ }
     requires { λ job. ⌜ Ready job (now scratch) ⌝ }
     requires { λ job. ⌜ 5 * suc (tasks job) ≤ length (now scratch) ⌝ }
     ensures { λ job r. ⌜ Tabled job (now (scratch .entry)) (now (scratch .exit)) (r .bound) (r .count) ⌝ }
@@ -209,10 +250,20 @@ pub fn table_in(startup: u32, speeds: &[u32], weights: &[u32], scratch: &mut [u3
     let mut other = 3 * n;
     let mut pointer = Pointer { at: 0, moves: 0 };
     let mut p = 0;
-    first_row(startup, speeds, weights, scratch, row);
+    first_row(startup, speeds, holds, weights, scratch, row);
     while p + 1 < speeds.len() {
         pointer.at = 0;
-        pointer = fill_row(startup, speeds, weights, scratch, row, other, p, pointer);
+        pointer = fill_row(
+            startup,
+            speeds,
+            holds,
+            weights,
+            scratch,
+            row,
+            other,
+            p,
+            pointer,
+        );
         let done = row;
         row = other;
         other = done;

@@ -35,6 +35,7 @@ fn middle_of(low: usize, high: usize) -> usize
 fn bound_to(
     startup: u32,
     speeds: &[u32],
+    holds: &[u16],
     weights: &[u32],
     sums: &[u32],
     p: usize,
@@ -42,7 +43,7 @@ fn bound_to(
     j: usize,
 ) -> Bound
     ghost { Job }
-    requires { λ job. ⌜ jobOf startup (now speeds) (now weights) ≡ job ⌝ }
+    requires { λ job. ⌜ jobOf startup (now speeds) (now holds) (now weights) ≡ job ⌝ }
     requires { λ job. ⌜ Ready job (now sums) ⌝ }
     requires { λ job. ⌜ (p < processors job) × (a ≤ j) × (j ≤ tasks job) ⌝ }
     ensures { λ job r. ⌜ r ≡ partBound job p a j ⌝ }
@@ -55,6 +56,7 @@ fn bound_to(
 fn trial_at(
     startup: u32,
     speeds: &[u32],
+    holds: &[u16],
     weights: &[u32],
     sums: &[u32],
     p: usize,
@@ -63,17 +65,18 @@ fn trial_at(
     separators: &mut [u32],
 ) -> bool
     ghost { Job }
-    requires { λ job. ⌜ jobOf startup (now speeds) (now weights) ≡ job ⌝ }
+    requires { λ job. ⌜ jobOf startup (now speeds) (now holds) (now weights) ≡ job ⌝ }
     requires { λ job. ⌜ Ready job (now sums) ⌝ }
     requires { λ job. ⌜ processors job < length (now separators) ⌝ }
     requires { λ job. ⌜ (p < processors job) × (a ≤ j) × (j ≤ tasks job) ⌝ }
     ensures { λ job r. ⌜ r ≡ fitsAt job p a j ⌝ }
     ensures { λ job r. ⌜ KeptFrom (suc (processors job)) (now (separators .entry)) (now (separators .exit)) ⌝ }
 {
-    let bound = bound_to(startup, speeds, weights, sums, p, a, j);
+    let bound = bound_to(startup, speeds, holds, weights, sums, p, a, j);
     let answer = walk_from(
         startup,
         speeds,
+        holds,
         weights,
         sums,
         bound,
@@ -90,6 +93,7 @@ fn trial_at(
 fn fits_at(
     startup: u32,
     speeds: &[u32],
+    holds: &[u16],
     weights: &[u32],
     sums: &[u32],
     p: usize,
@@ -98,7 +102,7 @@ fn fits_at(
     separators: &mut [u32],
 ) -> bool
     ghost { Job }
-    requires { λ job. ⌜ jobOf startup (now speeds) (now weights) ≡ job ⌝ }
+    requires { λ job. ⌜ jobOf startup (now speeds) (now holds) (now weights) ≡ job ⌝ }
     requires { λ job. ⌜ Ready job (now sums) ⌝ }
     requires { λ job. ⌜ processors job < length (now separators) ⌝ }
     requires { λ job. ⌜ (p < processors job) × (a ≤ j) × (j ≤ tasks job) ⌝ }
@@ -106,15 +110,16 @@ fn fits_at(
     ensures { λ job r. ⌜ KeptFrom (suc (processors job)) (now (separators .entry)) (now (separators .exit)) ⌝ }
 {
     if startup == 0 {
-        return trial_at(0, speeds, weights, sums, p, a, j, separators);
+        return trial_at(0, speeds, holds, weights, sums, p, a, j, separators);
     }
-    trial_at(startup, speeds, weights, sums, p, a, j, separators)
+    trial_at(startup, speeds, holds, weights, sums, p, a, j, separators)
 }
 
 // Inner. The smallest index from a to N that fits, by halving, for a processor to which the search comes and whose part starts at a.
 fn first_fit(
     startup: u32,
     speeds: &[u32],
+    holds: &[u16],
     weights: &[u32],
     sums: &[u32],
     p: usize,
@@ -122,7 +127,7 @@ fn first_fit(
     separators: &mut [u32],
 ) -> FirstFit
     ghost { Job }
-    requires { λ job. ⌜ jobOf startup (now speeds) (now weights) ≡ job ⌝ }
+    requires { λ job. ⌜ jobOf startup (now speeds) (now holds) (now weights) ≡ job ⌝ }
     requires { λ job. ⌜ Ready job (now sums) ⌝ }
     requires { λ job. ⌜ processors job < length (now separators) ⌝ }
     requires { λ job. ⌜ (p < last job) × (a ≡ startOn job p) × Comes job p ⌝ }
@@ -136,7 +141,17 @@ fn first_fit(
     while low < high {
         let middle = middle_of(low, high);
         trials += 1;
-        if fits_at(startup, speeds, weights, sums, p, a, middle, separators) {
+        if fits_at(
+            startup,
+            speeds,
+            holds,
+            weights,
+            sums,
+            p,
+            a,
+            middle,
+            separators,
+        ) {
             high = middle;
         } else {
             low = middle + 1;
@@ -150,12 +165,13 @@ fn first_fit(
 pub fn nicol_in(
     startup: u32,
     speeds: &[u32],
+    holds: &[u16],
     weights: &[u32],
     sums: &[u32],
     separators: &mut [u32],
 ) -> Found
     ghost { Job }
-    requires { λ job. ⌜ jobOf startup (now speeds) (now weights) ≡ job ⌝ }
+    requires { λ job. ⌜ jobOf startup (now speeds) (now holds) (now weights) ≡ job ⌝ }
     requires { λ job. ⌜ Ready job (now sums) ⌝ }
     requires { λ job. ⌜ processors job < length (now separators) ⌝ }
     ensures { λ job r. ⌜ NicolEnds job (r .count) (r .bound) ⌝ }
@@ -168,7 +184,7 @@ pub fn nicol_in(
     let mut a = 0;
     let mut p = 0;
     while p < last {
-        let found = first_fit(startup, speeds, weights, sums, p, a, separators);
+        let found = first_fit(startup, speeds, holds, weights, sums, p, a, separators);
         let end = found.index;
         count += found.trials;
         if end == a {
@@ -177,11 +193,14 @@ pub fn nicol_in(
                 count,
             };
         }
-        least = Bound::lesser(least, bound_to(startup, speeds, weights, sums, p, a, end));
+        least = Bound::lesser(
+            least,
+            bound_to(startup, speeds, holds, weights, sums, p, a, end),
+        );
         a = end - 1;
         p += 1;
     }
-    let rest = bound_to(startup, speeds, weights, sums, p, a, weights.len());
+    let rest = bound_to(startup, speeds, holds, weights, sums, p, a, weights.len());
     Found {
         bound: Bound::lesser(least, rest),
         count,

@@ -19,23 +19,23 @@ use Rattle.bisection.proofs.bisect.Statement.{statement}
 use Rattle.bisection.proofs.bisect.Tie as tie
 
 abbrev Inv-loop : tie.InvT-loop
-Inv-loop startup speeds weights sums separators₀ low₀ high₀ rounds₀ separators low high rounds =
-    Halved (jobOf startup speeds weights) low high rounds × KeptFrom (suc (length speeds)) separators₀ separators
+Inv-loop startup speeds holds weights sums separators₀ low₀ high₀ rounds₀ separators low high rounds =
+    Halved (jobOf startup speeds holds weights) low high rounds × KeptFrom (suc (length speeds)) separators₀ separators
     × (length speeds < length separators)
 
 abbrev μ-loop : tie.MeasureT-loop
-μ-loop startup speeds weights sums separators₀ low₀ high₀ rounds₀ separators low high rounds = digits (difference (jobOf startup speeds weights)) - rounds
+μ-loop startup speeds holds weights sums separators₀ low₀ high₀ rounds₀ separators low high rounds = digits (difference (jobOf startup speeds holds weights)) - rounds
 
 -- The job that the lists make.
 abbrev job-at : tie.Start Inv-loop μ-loop → Job
-job-at s = jobOf (s .args .startup) (s .args .speeds .now) (s .args .weights .now)
+job-at s = jobOf (s .args .startup) (s .args .speeds .now) (s .args .holds .now) (s .args .weights .now)
 
 heuristic-in-requires : tie.Need-heuristic-in-requires Inv-loop μ-loop
 heuristic-in-requires c κs = search needs
 
 measure-in-requires : tie.Need-measure-in-requires Inv-loop μ-loop
 measure-in-requires c κs =
-    let s = c .before .before .before .before .before .before .before .before .before in
+    let s = c .before .before .before .before .before .before .before .before .before .before in
     let job : Job = job-at s in (
       s .pre .0,
       front-partition (heuristic job) (drop (suc (length (s .args .speeds .now))) (s .args .separators .now)) (heuristic-partition (valid-proper (s .pre .0 .valid)))
@@ -44,7 +44,7 @@ measure-in-requires c κs =
 
 loop-holds : tie.Need-loop-holds Inv-loop μ-loop
 loop-holds c =
-    let s = c .before .before .before .before .before .before .before .before .before .before in
+    let s = c .before .before .before .before .before .before .before .before .before .before .before in
     let job : Job = job-at s in (
       halved-start (s .pre .0 .valid) (s .pre .1 .1 .failed) (s .pre .1 .1 .bids)
           (front-bottleneck (heuristic job) (drop (suc (length (s .args .speeds .now))) (s .args .separators .now))
@@ -63,30 +63,30 @@ at-most-requires c κs = search (small-products, c .loop .inv .0 .high-small, c 
 
 next-ends-requires : tie.Need-next-ends-requires Inv-loop μ-loop
 next-ends-requires c κs =
-    let s = c .before .before .before .before .before .before .before .before .before .before .before .before .before .before in
+    let s = c .before .before .before .before .before .before .before .before .before .before .before .before .before .before .before in
     let l = c .before .before .before .loop in
     (s .pre .0, (l .inv .2, (l .inv .0 .low-small, l .inv .0 .high-small)))
 
 add-rounds : tie.Need-add-rounds Inv-loop μ-loop
-add-rounds c = omega (arith, rounds-fit (c .before .before .before .before .before .before .before .before .loop .rounds) (c .before .before .before .before .before .before .before .before .before .before .before .before .before .before .before .before .before .before .before .pre .0 .valid) (c .before .before .before .before .before .before .before .before .loop .inv .0))
+add-rounds c = omega (arith, rounds-fit (c .before .before .before .before .before .before .before .before .loop .rounds) (c .before .before .before .before .before .before .before .before .before .before .before .before .before .before .before .before .before .before .before .before .pre .0 .valid) (c .before .before .before .before .before .before .before .before .loop .inv .0))
 
 loop-less : tie.Need-loop-less Inv-loop μ-loop
-loop-less c = omega (arith, halved-room (c .before .before .before .before .before .before .before .before .before .before .before .before .before .before .before .before .before .before .before .pre .0 .valid) (c .before .before .before .before .before .before .before .before .loop .inv .0) (sym (c .before .before .before .before .before .before .before .at-most .ensures) ∙ c .before .before .before .before .before .before .if1 .left))
+loop-less c = omega (arith, halved-room (c .before .before .before .before .before .before .before .before .before .before .before .before .before .before .before .before .before .before .before .before .pre .0 .valid) (c .before .before .before .before .before .before .before .before .loop .inv .0) (sym (c .before .before .before .before .before .before .before .at-most .ensures) ∙ c .before .before .before .before .before .before .if1 .left))
 
 loop-again : tie.Need-loop-again Inv-loop μ-loop
 loop-again c =
     let r = c .before .before .before .before .next-ends in (
-      halved-next (c .before .before .before .before .before .before .before .before .before .before .before .before .before .before .before .before .before .before .before .pre .0 .valid) (c .before .before .before .before .before .before .before .before .loop .inv .0) (r .result) (sym (c .before .before .before .before .before .before .before .at-most .ensures) ∙ c .before .before .before .before .before .before .if1 .left) (r .ensures .0),
+      halved-next (c .before .before .before .before .before .before .before .before .before .before .before .before .before .before .before .before .before .before .before .before .pre .0 .valid) (c .before .before .before .before .before .before .before .before .loop .inv .0) (r .result) (sym (c .before .before .before .before .before .before .before .at-most .ensures) ∙ c .before .before .before .before .before .before .if1 .left) (r .ensures .0),
       kept-trans (c .before .before .before .before .before .before .before .before .loop .inv .1) (r .ensures .1),
       omega (arith, c .before .before .before .before .before .before .before .before .loop .inv .2, r .ensures .1 .same),
     )
 
-add-t21 : tie.Need-add-t21 Inv-loop μ-loop
-add-t21 c = omega (arith, rounds-fit (c .before .before .loop .rounds) (c .before .before .before .before .before .before .before .before .before .before .before .before .before .pre .0 .valid) (c .before .before .loop .inv .0))
+add-t22 : tie.Need-add-t22 Inv-loop μ-loop
+add-t22 c = omega (arith, rounds-fit (c .before .before .loop .rounds) (c .before .before .before .before .before .before .before .before .before .before .before .before .before .before .pre .0 .valid) (c .before .before .loop .inv .0))
 
 same-length : tie.Need-same-length Inv-loop μ-loop
 same-length c =
-    let s = c .before .before .before .before .before .before .before .before .before .before .before .before .before in
+    let s = c .before .before .before .before .before .before .before .before .before .before .before .before .before .before in
     let job : Job = job-at s in
     kept-trans
     (kept-written (heuristic job) _ (kept-start (suc (length (s .args .speeds .now))) (s .args .separators .now)) (s .pre .1 .0)
@@ -95,7 +95,7 @@ same-length c =
 
 returns : tie.Need-returns Inv-loop μ-loop
 returns c =
-    let s = c .before .before .before .before .before .before .before .before .before .before .before .before .before in
+    let s = c .before .before .before .before .before .before .before .before .before .before .before .before .before .before in
     let job : Job = job-at s in
     let l = c .before .before .loop in (
       halved-end (s .pre .0 .valid) (l .inv .0) (sym (c .before .at-most .ensures) ∙ c .if1 .taken) (omega arith),
@@ -121,6 +121,6 @@ bisect-spec =
     add-rounds
     loop-less
     loop-again
-    add-t21
+    add-t22
     same-length
     returns)

@@ -20,14 +20,14 @@ use Rattle.bisection.proofs.bisection_in.Tie as tie
 
 -- The job that the lists make.
 abbrev job-at : tie.Start → Job
-job-at s = jobOf (s .args .startup) (s .args .speeds .now) (s .args .weights .now)
+job-at s = jobOf (s .args .startup) (s .args .speeds .now) (s .args .holds .now) (s .args .weights .now)
 
 ideal-of-requires : tie.Need-ideal-of-requires
 ideal-of-requires c κs = search needs
 
 probe-in-requires : tie.Need-probe-in-requires
 probe-in-requires c κs =
-    let s = c .before .before .before .before .before .before in
+    let s = c .before .before .before .before .before .before .before in
     (s .pre .0, (subst Lendable (sym (c .before .ideal-of .ensures)) (ideal-lendable (s .pre .0 .valid)), s .pre .1))
 
 enum-known-answer : tie.Need-enum-known-answer
@@ -38,7 +38,7 @@ enum-known-answer-2 c = search needs
 
 bisect-requires : tie.Need-bisect-requires
 bisect-requires c κs =
-    let s = c .before .before .before .before .before .before .before .before .before .before .before .before .before in
+    let s = c .before .before .before .before .before .before .before .before .before .before .before .before .before .before in
     let job : Job = job-at s in
     let v = s .pre .0 .valid in
     let b = kept-start (suc (length (s .args .speeds .now))) (s .args .separators .now) in
@@ -60,7 +60,7 @@ same-length c = search needs
 
 returns : tie.Need-returns
 returns c =
-    let s = c .before .before .before .before .before .before .before .before .before .before .before .before in
+    let s = c .before .before .before .before .before .before .before .before .before .before .before .before .before in
     let job : Job = job-at s in
     let v = s .pre .0 .valid in
     let b = kept-start (suc (length (s .args .speeds .now))) (s .args .separators .now) in
@@ -75,7 +75,7 @@ same-length-2 c = search needs
 
 returns-2 : tie.Need-returns-2
 returns-2 c =
-    let s = c .before .before .before .before .before .before .before .before .before .before .before .before .before .before .before .before in
+    let s = c .before .before .before .before .before .before .before .before .before .before .before .before .before .before .before .before .before in
     let job : Job = job-at s in
     let v = s .pre .0 .valid in
     let b = kept-start (suc (length (s .args .speeds .now))) (s .args .separators .now) in

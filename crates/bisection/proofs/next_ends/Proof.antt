@@ -20,14 +20,14 @@ use Rattle.bisection.proofs.next_ends.Tie as tie
 
 -- The job that the lists make.
 abbrev job-at : tie.Start → Job
-job-at s = jobOf (s .args .startup) (s .args .speeds .now) (s .args .weights .now)
+job-at s = jobOf (s .args .startup) (s .args .speeds .now) (s .args .holds .now) (s .args .weights .now)
 
 midpoint-requires : tie.Need-midpoint-requires
-midpoint-requires c κs = middle-products (c .before .before .before .before .pre .1 .1 .0) (c .before .before .before .before .pre .1 .1 .1)
+midpoint-requires c κs = middle-products (c .before .before .before .before .before .pre .1 .1 .0) (c .before .before .before .before .before .pre .1 .1 .1)
 
 probe-in-requires : tie.Need-probe-in-requires
 probe-in-requires c κs =
-    let s = c .before .before .before .before .before .before in
+    let s = c .before .before .before .before .before .before .before in
     (s .pre .0, (subst Lendable (sym (c .before .midpoint .ensures)) (middle-lendable (s .pre .1 .1 .0) (s .pre .1 .1 .1)), s .pre .1 .0))
 
 enum-known-answer : tie.Need-enum-known-answer
@@ -35,7 +35,7 @@ enum-known-answer c = search needs
 
 measure-in-requires : tie.Need-measure-in-requires
 measure-in-requires c κs =
-    let s = c .before .before .before .before .before .before .before .before .before .before .before .before .before in
+    let s = c .before .before .before .before .before .before .before .before .before .before .before .before .before .before in
     let job : Job = job-at s in
     let M : Bound = c .before .before .before .before .before .before .before .before .midpoint .result in
     let y = c .before .before .before .before .before .before .probe-in .ensures in
@@ -53,7 +53,7 @@ same-length c = search needs
 
 returns : tie.Need-returns
 returns c =
-    let s = c .before .before .before .before .before .before .before .before .before .before .before .before .before .before in
+    let s = c .before .before .before .before .before .before .before .before .before .before .before .before .before .before .before in
     let job : Job = job-at s in
     let M : Bound = c .before .before .before .before .before .before .before .before .before .midpoint .result in
     let l : List ℕ = drop (suc (length (s .args .speeds .now))) (s .args .separators .now) in
@@ -70,7 +70,7 @@ same-length-2 c = search needs
 
 returns-2 : tie.Need-returns-2
 returns-2 c =
-    let s = c .before .before .before .before .before .before .before .before .before .before .before .before in
+    let s = c .before .before .before .before .before .before .before .before .before .before .before .before .before in
     let job : Job = job-at s in
     let M : Bound = c .before .before .before .before .before .before .before .midpoint .result in
     let y = c .before .before .before .before .before .probe-in .ensures in

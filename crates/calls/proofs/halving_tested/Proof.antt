@@ -15,7 +15,7 @@ use Rattle.calls.proofs.halving_tested.Tie as tie
 
 -- The job that the lists make.
 abbrev job-at : tie.Start → Job
-job-at s = jobOf (s .args .startup) (s .args .speeds .now) (s .args .weights .now)
+job-at s = jobOf (s .args .startup) (s .args .speeds .now) (s .args .holds .now) (s .args .weights .now)
 
 slice-aggregate-prefix-sums : tie.Need-slice-aggregate-prefix-sums
 slice-aggregate-prefix-sums c = search needs
@@ -23,21 +23,21 @@ slice-aggregate-prefix-sums c = search needs
 prefix-sums-requires : tie.Need-prefix-sums-requires
 unfolding maxTasks
 prefix-sums-requires c κs =
-    let s = c .before .before .before .before in (weights-fit (s .pre .0), omega (arith, s .pre .0 .tasks-limit))
+    let s = c .before .before .before .before .before in (weights-fit (s .pre .0), omega (arith, s .pre .0 .tasks-limit))
 
 slice-aggregate-halving-in : tie.Need-slice-aggregate-halving-in
 slice-aggregate-halving-in c = search needs
 
 halving-in-requires : tie.Need-halving-in-requires
 halving-in-requires c κs =
-    let s = c .before .before .before .before .before .before .before .before in (sums-ready _ (s .pre .0) (c .before .before .before .prefix-sums .ensures), s .pre .1)
+    let s = c .before .before .before .before .before .before .before .before .before in (sums-ready _ (s .pre .0) (c .before .before .before .prefix-sums .ensures), s .pre .1)
 
 slice-aggregate-measure-in : tie.Need-slice-aggregate-measure-in
 slice-aggregate-measure-in c = search needs
 
 measure-in-requires : tie.Need-measure-in-requires
 measure-in-requires c κs =
-    let s = c .before .before .before .before .before .before .before .before .before .before .before .before .before in
+    let s = c .before .before .before .before .before .before .before .before .before .before .before .before .before .before in
     let job : Job = job-at s in (
       sums-ready _ (s .pre .0) (c .before .before .before .before .before .before .before .before .prefix-sums .ensures),
       front-partition (halving job) (drop (suc (length (s .args .speeds .now))) (s .args .separators .now)) (halving-partition job (s .pre .1 .0))
@@ -49,7 +49,7 @@ same-length c = search needs
 
 returns : tie.Need-returns
 returns c =
-    let s = c .before .before .before .before .before .before .before .before .before .before .before .before .before .before in
+    let s = c .before .before .before .before .before .before .before .before .before .before .before .before .before .before .before in
     let job : Job = job-at s in
     let written = c .before .before .before .before .before .halving-in .ensures in (
       front-bottleneck (halving job) (drop (suc (length (s .args .speeds .now))) (s .args .separators .now)) (halving-partition job (s .pre .1 .0)) written

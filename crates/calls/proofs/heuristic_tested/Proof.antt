@@ -16,7 +16,7 @@ use Rattle.calls.proofs.heuristic_tested.Tie as tie
 
 -- The job that the lists make.
 abbrev job-at : tie.Start → Job
-job-at s = jobOf (s .args .startup) (s .args .speeds .now) (s .args .weights .now)
+job-at s = jobOf (s .args .startup) (s .args .speeds .now) (s .args .holds .now) (s .args .weights .now)
 
 slice-aggregate-prefix-sums : tie.Need-slice-aggregate-prefix-sums
 slice-aggregate-prefix-sums c = search needs
@@ -24,21 +24,21 @@ slice-aggregate-prefix-sums c = search needs
 prefix-sums-requires : tie.Need-prefix-sums-requires
 unfolding maxTasks
 prefix-sums-requires c κs =
-    let s = c .before .before .before .before in (weights-fit (s .pre .0), omega (arith, s .pre .0 .tasks-limit))
+    let s = c .before .before .before .before .before in (weights-fit (s .pre .0), omega (arith, s .pre .0 .tasks-limit))
 
 slice-aggregate-heuristic-in : tie.Need-slice-aggregate-heuristic-in
 slice-aggregate-heuristic-in c = search needs
 
 heuristic-in-requires : tie.Need-heuristic-in-requires
 heuristic-in-requires c κs =
-    let s = c .before .before .before .before .before .before .before .before in (sums-ready _ (s .pre .0) (c .before .before .before .prefix-sums .ensures), s .pre .1)
+    let s = c .before .before .before .before .before .before .before .before .before in (sums-ready _ (s .pre .0) (c .before .before .before .prefix-sums .ensures), s .pre .1)
 
 slice-aggregate-measure-in : tie.Need-slice-aggregate-measure-in
 slice-aggregate-measure-in c = search needs
 
 measure-in-requires : tie.Need-measure-in-requires
 measure-in-requires c κs =
-    let s = c .before .before .before .before .before .before .before .before .before .before .before .before .before in
+    let s = c .before .before .before .before .before .before .before .before .before .before .before .before .before .before in
     let job : Job = job-at s in (
       sums-ready _ (s .pre .0) (c .before .before .before .before .before .before .before .before .prefix-sums .ensures),
       front-partition (heuristic job) (drop (suc (length (s .args .speeds .now))) (s .args .separators .now)) (heuristic-partition (valid-proper (s .pre .0)))
@@ -50,7 +50,7 @@ same-length c = search needs
 
 returns : tie.Need-returns
 returns c =
-    let s = c .before .before .before .before .before .before .before .before .before .before .before .before .before .before in
+    let s = c .before .before .before .before .before .before .before .before .before .before .before .before .before .before .before in
     let job : Job = job-at s in
     let written = c .before .before .before .before .before .heuristic-in .ensures in (
       front-bottleneck (heuristic job) (drop (suc (length (s .args .speeds .now))) (s .args .separators .now)) (heuristic-partition (valid-proper (s .pre .0))) written

@@ -13,14 +13,14 @@ slice-aggregate-prefix-sums c = search needs
 prefix-sums-requires : tie.Need-prefix-sums-requires
 unfolding maxTasks
 prefix-sums-requires c κs =
-    let s = c .before .before .before .before in (weights-fit (s .pre .0), omega (arith, s .pre .0 .tasks-limit))
+    let s = c .before .before .before .before .before in (weights-fit (s .pre .0), omega (arith, s .pre .0 .tasks-limit))
 
 slice-aggregate-measure-in : tie.Need-slice-aggregate-measure-in
 slice-aggregate-measure-in c = search needs
 
 measure-in-requires : tie.Need-measure-in-requires
 measure-in-requires c κs =
-    let s = c .before .before .before .before .before .before .before in (sums-ready _ (s .pre .0) (c .before .before .prefix-sums .ensures), s .pre .1)
+    let s = c .before .before .before .before .before .before .before .before in (sums-ready _ (s .pre .0) (c .before .before .prefix-sums .ensures), s .pre .1)
 
 returns : tie.Need-returns
 returns c = search needs

@@ -12,14 +12,14 @@ slice-aggregate-prefix-sums c = search needs
 
 prefix-sums-requires : tie.Need-prefix-sums-requires
 unfolding maxTasks
-prefix-sums-requires c κs = let s = c .before .before .before .before in (weights-fit (s .pre .0), omega (arith, s .pre .0 .tasks-limit))
+prefix-sums-requires c κs = let s = c .before .before .before .before .before in (weights-fit (s .pre .0), omega (arith, s .pre .0 .tasks-limit))
 
 slice-aggregate-walked-in : tie.Need-slice-aggregate-walked-in
 slice-aggregate-walked-in c = search needs
 
 walked-in-requires : tie.Need-walked-in-requires
 walked-in-requires c κs =
-    let s = c .before .before .before .before .before .before .before .before in
+    let s = c .before .before .before .before .before .before .before .before .before in
     (sums-ready _ (s .pre .0) (c .before .before .before .prefix-sums .ensures), (s .pre .1 .0, s .pre .1 .1))
 
 same-length : tie.Need-same-length

@@ -12,8 +12,8 @@ test-probe-requires c κs = search needs
 
 returns : tie.Need-returns
 returns c =
-    let a = c .before .before .before .before .before .args in
-    probe-refused (jobOf (a .startup) (a .speeds .now) (a .weights .now)) (a .separators .now) (a .bound) (c .before .test-probe .ensures) (c .if1 .taken)
+    let a = c .before .before .before .before .before .before .args in
+    probe-refused (jobOf (a .startup) (a .speeds .now) (a .holds .now) (a .weights .now)) (a .separators .now) (a .bound) (c .before .test-probe .ensures) (c .if1 .taken)
 
 probe-tested-requires : tie.Need-probe-tested-requires
 probe-tested-requires c κs =
@@ -26,9 +26,9 @@ same-length c = search needs
 returns-2 : tie.Need-returns-2
 returns-2 c =
     let e = c .before .before .before .before in
-    let a = e .before .before .before .before .before .args in
+    let a = e .before .before .before .before .before .before .args in
     let found = c .before .before .probe-tested .ensures in
-    probe-accepted (jobOf (a .startup) (a .speeds .now) (a .weights .now)) (a .separators .now) (a .bound) (e .before .test-probe .ensures) (e .if1 .left) (found .0) (found .1)
+    probe-accepted (jobOf (a .startup) (a .speeds .now) (a .holds .now) (a .weights .now)) (a .separators .now) (a .bound) (e .before .test-probe .ensures) (e .if1 .left) (found .0) (found .1)
 
 pub probe-with-spec : {M : Type 1} → statement M
 probe-with-spec =

@@ -11,22 +11,22 @@ use Rattle.dynamic.proofs.advance.Tie as tie
 
 -- The job that the lists make with 0 is the job.
 none : (c : tie.Then1)
-    → let a = c .before .before .before .before .args in
-    jobOf (a .startup) (a .speeds .now) (a .weights .now) ≡ jobOf 0 (a .speeds .now) (a .weights .now)
+    → let a = c .before .before .before .before .before .args in
+    jobOf (a .startup) (a .speeds .now) (a .holds .now) (a .weights .now) ≡ jobOf 0 (a .speeds .now) (a .holds .now) (a .weights .now)
 none c =
-    let a = c .before .before .before .before .args in
-    ap (λ (n : ℕ). jobOf n (a .speeds .now) (a .weights .now)) (c .if1 .taken)
+    let a = c .before .before .before .before .before .args in
+    ap (λ (n : ℕ). jobOf n (a .speeds .now) (a .holds .now) (a .weights .now)) (c .if1 .taken)
 
 move-on-requires : tie.Need-move-on-requires
 move-on-requires c κs =
-    let s = c .before .before .before .before in
+    let s = c .before .before .before .before .before in
     let a = s .args in
     subst (λ (job : Job). RowReady job (a .scratch .now) (a .before) (a .p) × ((a .speed ≡ speedOf job (suc (a .p))) × ((a .i ≤ tasks job) × (a .start .at ≤ crossing job (a .p) (a .i)) × (a .start .moves + a .i < 2 ^ 32 + a .start .at))))
     (none c) (s .pre)
 
 returns : tie.Need-returns
 returns c =
-    let a = c .before .before .before .before .before .args in
+    let a = c .before .before .before .before .before .before .args in
     subst (λ (job : Job). Advanced job (a .p) (a .i) (a .start .at) (a .start .moves) (c .move-on .result .at) (c .move-on .result .moves))
     (sym (none (c .before))) (c .move-on .ensures)
 

@@ -14,33 +14,33 @@ use Rattle.dynamic.proofs.fill_row.Statement.{statement}
 use Rattle.dynamic.proofs.fill_row.Tie as tie
 
 abbrev Inv-loop : tie.InvT-loop
-Inv-loop startup speeds weights scratch₀ before row p speed pointer₀ i₀ scratch pointer i =
-    Filling (jobOf startup speeds weights) scratch₀ scratch row p (pointer₀ .moves) i (pointer .at) (pointer .moves)
+Inv-loop startup speeds holds weights scratch₀ before row p speed pointer₀ i₀ scratch pointer i =
+    Filling (jobOf startup speeds holds weights) scratch₀ scratch row p (pointer₀ .moves) i (pointer .at) (pointer .moves)
 
 abbrev μ-loop : tie.MeasureT-loop
-μ-loop startup speeds weights scratch₀ before row p speed pointer₀ i₀ scratch pointer i = suc (length weights) - i
+μ-loop startup speeds holds weights scratch₀ before row p speed pointer₀ i₀ scratch pointer i = suc (length weights) - i
 
 add-speed : tie.Need-add-speed Inv-loop μ-loop
-add-speed c = omega (arith, c .before .before .before .pre .0 .next)
+add-speed c = omega (arith, c .before .before .before .before .pre .0 .next)
 
 mul-speed : tie.Need-mul-speed Inv-loop μ-loop
-mul-speed c = omega (arith, c .before .before .before .pre .0 .next)
+mul-speed c = omega (arith, c .before .before .before .before .pre .0 .next)
 
 shared-slice-read-speed : tie.Need-shared-slice-read-speed Inv-loop μ-loop
-shared-slice-read-speed c = omega (arith, c .before .before .before .before .pre .0 .next)
+shared-slice-read-speed c = omega (arith, c .before .before .before .before .before .pre .0 .next)
 
 loop-holds : tie.Need-loop-holds Inv-loop μ-loop
 loop-holds c =
-    let s = c .before .before .before .before in
+    let s = c .before .before .before .before .before in
     filling-start (s .args .scratch .now) (s .args .row) (s .args .p) (s .pre .1 .1 .0)
 
 -- What each turn starts from.
 module _ (c : tie.At-loop Inv-loop μ-loop) where
   abbrev start : tie.Start Inv-loop μ-loop
-  start = c .before .before .before .before .before
+  start = c .before .before .before .before .before .before
 
   abbrev job : Job
-  job = jobOf (start .args .startup) (start .args .speeds .now) (start .args .weights .now)
+  job = jobOf (start .args .startup) (start .args .speeds .now) (start .args .holds .now) (start .args .weights .now)
 
   still-ready : RowReady job (c .loop .scratch) (start .args .before) (start .args .p)
   still-ready = writing-ready (start .pre .0) (start .pre .1 .0) (c .loop .inv .writing)

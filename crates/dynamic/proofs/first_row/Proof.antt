@@ -21,22 +21,22 @@ use Rattle.dynamic.proofs.first_row.Statement.{statement}
 use Rattle.dynamic.proofs.first_row.Tie as tie
 
 abbrev Inv-loop : tie.InvT-loop
-Inv-loop startup speeds weights scratch₀ row speed i₀ scratch i = Writing (jobOf startup speeds weights) scratch₀ scratch row 0 i
+Inv-loop startup speeds holds weights scratch₀ row speed i₀ scratch i = Writing (jobOf startup speeds holds weights) scratch₀ scratch row 0 i
 
 abbrev μ-loop : tie.MeasureT-loop
-μ-loop startup speeds weights scratch₀ row speed i₀ scratch i = suc (length weights) - i
+μ-loop startup speeds holds weights scratch₀ row speed i₀ scratch i = suc (length weights) - i
 
 -- The job that the lists make.
 abbrev job-at : tie.Start Inv-loop μ-loop → Job
-job-at s = jobOf (s .args .startup) (s .args .speeds .now) (s .args .weights .now)
+job-at s = jobOf (s .args .startup) (s .args .speeds .now) (s .args .holds .now) (s .args .weights .now)
 
 loop-holds : tie.Need-loop-holds Inv-loop μ-loop
 loop-holds c =
-    let s = c .before .before .before .before in
+    let s = c .before .before .before .before .before in
     writing-start (job-at s) (s .args .scratch .now) (s .args .row) 0
 
 shared-slice-read-speed : tie.Need-shared-slice-read-speed Inv-loop μ-loop
-shared-slice-read-speed c = omega (arith, c .before .before .before .before .pre .0 .valid .some-processor)
+shared-slice-read-speed c = omega (arith, c .before .before .before .before .before .pre .0 .valid .some-processor)
 
 -- The part that is entered: the row so far leaves the prefix sums as they were.
 first-part : (s : tie.Start Inv-loop μ-loop) {xs : List ℕ} {i : ℕ} {B : Bound} → Kept (s .args .row) (2 * suc (length (s .args .weights .now))) (s .args .scratch .now) xs
@@ -48,12 +48,12 @@ first-part s {xs} {i} k h e =
 
 part-bound-requires : tie.Need-part-bound-requires Inv-loop μ-loop
 part-bound-requires c κs =
-    let s = c .before .before .before .before .before .before .before in
+    let s = c .before .before .before .before .before .before .before .before in
     (loads-to (kept-ready (c .before .before .loop .inv .kept) (s .pre .1 .0) (s .pre .0)) (omega arith), omega arith)
 
 put-requires : tie.Need-put-requires Inv-loop μ-loop
 put-requires c κs =
-    let s = c .before .before .before .before .before .before .before .before .before in
+    let s = c .before .before .before .before .before .before .before .before .before .before in
     let i = c .before .before .before .before .loop .i in
     (omega (arith, c .before .before .before .before .loop .inv .kept .same), small-fits (small-same (first-part s (c .before .before .before .before .loop .inv .kept) (omega arith) (c .before .part-bound .ensures)) (offer-small (s .pre .0 .valid) 0 0 i)))
 
@@ -66,7 +66,7 @@ loop-less c = omega arith
 loop-again : tie.Need-loop-again Inv-loop μ-loop
 unfolding tableValue
 loop-again c =
-    let s = c .before .before .before .before .before .before .before .before .before .before .before .before in
+    let s = c .before .before .before .before .before .before .before .before .before .before .before .before .before in
     let l = c .before .before .before .before .before .before .before .loop in
     writing-turn (c .before .before .before .before .before .before .before .loop .inv) (s .pre .1 .1) (omega arith) (c .before .before .put .ensures) (first-part s (l .inv .kept) (omega arith) (c .before .before .before .before .part-bound .ensures))
 

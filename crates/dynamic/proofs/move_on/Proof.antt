@@ -18,35 +18,35 @@ use Rattle.dynamic.proofs.move_on.Statement.{statement}
 use Rattle.dynamic.proofs.move_on.Tie as tie
 
 abbrev Inv-loop : tie.InvT-loop
-Inv-loop startup speeds weights scratch before p speed i at₀ moves₀ at moves = Moving (jobOf startup speeds weights) p i at₀ moves₀ at moves
+Inv-loop startup speeds holds weights scratch before p speed i at₀ moves₀ at moves = Moving (jobOf startup speeds holds weights) p i at₀ moves₀ at moves
 
 abbrev μ-loop : tie.MeasureT-loop
-μ-loop startup speeds weights scratch before p speed i at₀ moves₀ at moves = i - at
+μ-loop startup speeds holds weights scratch before p speed i at₀ moves₀ at moves = i - at
 
 loop-holds : tie.Need-loop-holds Inv-loop μ-loop
-loop-holds c = moving-start (c .before .before .before .pre .1 .1 .1)
+loop-holds c = moving-start (c .before .before .before .before .pre .1 .1 .1)
 
 -- The pointer is at most i.
-at-le : (c : tie.At-loop Inv-loop μ-loop) → c .loop .at ≤ c .before .before .before .before .args .i
+at-le : (c : tie.At-loop Inv-loop μ-loop) → c .loop .at ≤ c .before .before .before .before .before .args .i
 at-le c =
-    let s = c .before .before .before .before in
+    let s = c .before .before .before .before .before in
     omega (arith, c .loop .inv .to, crossing-le (valid-proper (s .pre .0 .ready .valid)) (s .args .p) (s .args .i))
 
 part-bound-requires : tie.Need-part-bound-requires Inv-loop μ-loop
 part-bound-requires c κs =
-    let s = c .before .before .before .before in
+    let s = c .before .before .before .before .before in
     (loads-to (s .pre .0 .ready) (s .pre .1 .1 .0), at-le c)
 
 entry-requires : tie.Need-entry-requires Inv-loop μ-loop
-entry-requires c κs = omega (arith, c .before .before .before .before .before .pre .0 .inside, at-le (c .before))
+entry-requires c κs = omega (arith, c .before .before .before .before .before .before .pre .0 .inside, at-le (c .before))
 
 -- The two bounds that are compared.
 module _ (c : tie.After-entry Inv-loop μ-loop) where
   abbrev start : tie.Start Inv-loop μ-loop
-  start = c .before .before .before .before .before .before
+  start = c .before .before .before .before .before .before .before
 
   abbrev job : Job
-  job = jobOf (start .args .startup) (start .args .speeds .now) (start .args .weights .now)
+  job = jobOf (start .args .startup) (start .args .speeds .now) (start .args .holds .now) (start .args .weights .now)
 
   abbrev at : ℕ
   at = c .before .before .loop .at

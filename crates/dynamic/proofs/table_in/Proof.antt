@@ -12,10 +12,10 @@ use Rattle.dynamic.proofs.table_in.Statement.{statement}
 use Rattle.dynamic.proofs.table_in.Tie as tie
 
 abbrev Inv-loop : tie.InvT-loop
-Inv-loop startup speeds weights scratch₀ n row₀ other₀ pointer₀ p₀ scratch row other pointer p = Tabling (jobOf startup speeds weights) scratch₀ scratch row other p (pointer .moves)
+Inv-loop startup speeds holds weights scratch₀ n row₀ other₀ pointer₀ p₀ scratch row other pointer p = Tabling (jobOf startup speeds holds weights) scratch₀ scratch row other p (pointer .moves)
 
 abbrev μ-loop : tie.MeasureT-loop
-μ-loop startup speeds weights scratch₀ n row₀ other₀ pointer₀ p₀ scratch row other pointer p = length speeds - p
+μ-loop startup speeds holds weights scratch₀ n row₀ other₀ pointer₀ p₀ scratch row other pointer p = length speeds - p
 
 add-n : tie.Need-add-n Inv-loop μ-loop
 add-n c = omega arith
@@ -24,11 +24,11 @@ mul-other : tie.Need-mul-other Inv-loop μ-loop
 mul-other c = omega arith
 
 first-row-requires : tie.Need-first-row-requires Inv-loop μ-loop
-first-row-requires c κs = let s = c .before .before .before .before in (s .pre .0, omega arith)
+first-row-requires c κs = let s = c .before .before .before .before .before in (s .pre .0, omega arith)
 
 loop-holds : tie.Need-loop-holds Inv-loop μ-loop
 loop-holds c =
-    let s = c .before .before .before .before .before .before .before in
+    let s = c .before .before .before .before .before .before .before .before in
     tabling-start (s .pre .0) (places-start (omega arith) (omega arith) (omega arith) (s .pre .1)) (c .before .before .first-row .ensures) (omega arith)
 
 add-loop : tie.Need-add-loop Inv-loop μ-loop

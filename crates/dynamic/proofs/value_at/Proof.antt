@@ -18,7 +18,7 @@ use Rattle.dynamic.proofs.value_at.Tie as tie
 
 -- The job that the lists make.
 abbrev job-at : tie.Start → Job
-job-at s = jobOf (s .args .startup) (s .args .speeds .now) (s .args .weights .now)
+job-at s = jobOf (s .args .startup) (s .args .speeds .now) (s .args .holds .now) (s .args .weights .now)
 
 -- The crossing is at most i.
 at-le : (c : tie.Start) → c .args .at ≤ c .args .i
@@ -26,19 +26,19 @@ at-le c =
     omega (arith, crossing-le (valid-proper (c .pre .0 .ready .valid)) (c .args .p) (c .args .i))
 
 entry-requires : tie.Need-entry-requires
-entry-requires c κs = omega (arith, c .before .before .before .pre .0 .inside, at-le (c .before .before .before))
+entry-requires c κs = omega (arith, c .before .before .before .before .pre .0 .inside, at-le (c .before .before .before .before))
 
 -- The value of the row before.
 here-is : (c : tie.After-entry)
-    → let s = c .before .before .before .before in
+    → let s = c .before .before .before .before .before in
     c .entry .result ≡ tableValue (job-at s) (s .args .p) (s .args .at)
 here-is c =
-    let s = c .before .before .before .before in
+    let s = c .before .before .before .before .before in
     c .entry .ensures ∙ s .pre .0 .row .entries (s .args .at) (omega (arith, at-le s))
 
 returns : tie.Need-returns
 returns c =
-    let s = c .before .before .before .before .before in
+    let s = c .before .before .before .before .before .before in
     let job : Job = job-at s in
     here-is (c .before) ∙ ap (tableValue job (s .args .p)) (s .pre .1 .1 .1)
     ∙ sym (value-first job (s .args .p) (s .args .i) (omega (arith, s .pre .1 .1 .1, c .if1 .taken)))
@@ -48,16 +48,16 @@ sub-started-bound c = search needs
 
 started-bound-requires : tie.Need-started-bound-requires
 started-bound-requires c κs =
-    let s = c .before .before .before .before .before in
+    let s = c .before .before .before .before .before .before in
     (loads-to (s .pre .0 .ready) (s .pre .1 .1 .0), omega (arith, at-le s))
 
 -- The part before the crossing.
 module _ (c : tie.After-started-bound) where
   abbrev start : tie.Start
-  start = c .before .before .before .before .before .before
+  start = c .before .before .before .before .before .before .before
 
   abbrev job : Job
-  job = jobOf (start .args .startup) (start .args .speeds .now) (start .args .weights .now)
+  job = jobOf (start .args .startup) (start .args .speeds .now) (start .args .holds .now) (start .args .weights .now)
 
   part-is : c .started-bound .result ≡ offer job (suc (start .args .p)) (start .args .at - 1) (start .args .i)
   part-is =

@@ -17,13 +17,13 @@ shared-slice-read-part-bound c = search needs
 
 part-bound-requires : tie.Need-part-bound-requires
 part-bound-requires c κs =
-    let s = c .before .before .before .before in
+    let s = c .before .before .before .before .before in
     (loads-to (s .pre .0) (s .pre .1 .2), s .pre .1 .1)
 
 returns : tie.Need-returns
 returns c =
-    let s = c .before .before .before .before .before in
-    let job : Job = jobOf (s .args .startup) (s .args .speeds .now) (s .args .weights .now) in
+    let s = c .before .before .before .before .before .before in
+    let job : Job = jobOf (s .args .startup) (s .args .speeds .now) (s .args .holds .now) (s .args .weights .now) in
     let e : c .part-bound .result ≡ partBound job (s .args .p) (s .args .a) (s .args .j) =
     prefix-bound (s .pre .0 .prefix) (s .args .p) (s .args .a) (s .args .j) (s .pre .1 .0) (s .pre .1 .1) (s .pre .1 .2) refl (c .part-bound .ensures) in
     (e, subst Small (sym e) (part-small (s .pre .0 .valid) (s .args .p) (s .args .a) (s .args .j)))

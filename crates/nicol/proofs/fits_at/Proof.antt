@@ -11,15 +11,15 @@ use Rattle.nicol.proofs.fits_at.Tie as tie
 
 -- The job that the lists make with 0 is the job.
 none : (c : tie.Then1)
-    → let a = c .before .before .before .before .before .args in
-    jobOf (a .startup) (a .speeds .now) (a .weights .now) ≡ jobOf 0 (a .speeds .now) (a .weights .now)
+    → let a = c .before .before .before .before .before .before .args in
+    jobOf (a .startup) (a .speeds .now) (a .holds .now) (a .weights .now) ≡ jobOf 0 (a .speeds .now) (a .holds .now) (a .weights .now)
 none c =
-    let a = c .before .before .before .before .before .args in
-    ap (λ (n : ℕ). jobOf n (a .speeds .now) (a .weights .now)) (c .if1 .taken)
+    let a = c .before .before .before .before .before .before .args in
+    ap (λ (n : ℕ). jobOf n (a .speeds .now) (a .holds .now) (a .weights .now)) (c .if1 .taken)
 
 trial-at-requires : tie.Need-trial-at-requires
 trial-at-requires c κs =
-    let s = c .before .before .before .before .before .before in
+    let s = c .before .before .before .before .before .before .before in
     (subst (λ (job : Job). Ready job (s .args .sums .now)) (none (c .before)) (s .pre .0), s .pre .1)
 
 same-length : tie.Need-same-length
@@ -27,7 +27,7 @@ same-length c = search needs
 
 returns : tie.Need-returns
 returns c =
-    let a = c .before .before .before .before .before .before .before .before .before .args in
+    let a = c .before .before .before .before .before .before .before .before .before .before .args in
     (c .before .before .trial-at .ensures .0 ∙ sym (ap (λ (job : Job). fitsAt job (a .p) (a .a) (a .j)) (none (c .before .before .before .before))), c .before .before .trial-at .ensures .1)
 
 trial-at-requires-2 : tie.Need-trial-at-requires-2

@@ -12,7 +12,7 @@ use Rattle.nicol.proofs.trial_at.Tie as tie
 
 -- The job that the lists make.
 abbrev job-at : tie.Start → Job
-job-at s = jobOf (s .args .startup) (s .args .speeds .now) (s .args .weights .now)
+job-at s = jobOf (s .args .startup) (s .args .speeds .now) (s .args .holds .now) (s .args .weights .now)
 
 bound-to-requires : tie.Need-bound-to-requires
 bound-to-requires c κs = search needs
@@ -22,7 +22,7 @@ first-point-requires c κs = search needs
 
 walk-from-requires : tie.Need-walk-from-requires
 walk-from-requires c κs =
-    let s = c .before .before .before .before .before .before .before in
+    let s = c .before .before .before .before .before .before .before .before in
     let b = c .before .before .bound-to in
     (s .pre .0, (small-lendable (b .ensures .1), (s .pre .1 .0, subst (Reached (job-at s) (b .result) _) (sym (c .before .first-point .ensures)) (reached-first (job-at s) (b .result) _))))
 
@@ -37,7 +37,7 @@ same-length c = search needs
 
 returns : tie.Need-returns
 returns c =
-    let s = c .before .before .before .before .before .before .before .before .before .before .before .before .before in
+    let s = c .before .before .before .before .before .before .before .before .before .before .before .before .before .before in
     let b = c .before .before .before .before .before .before .before .before .bound-to in
     let y = c .before .before .before .before .before .walk-from .ensures in (
       told-fits (job-at s) (s .args .p) (s .args .a) (s .args .j) (b .ensures .0) (sym (y .0) ∙ c .before .answer .given .1),
@@ -49,7 +49,7 @@ same-length-2 c = search needs
 
 returns-2 : tie.Need-returns-2
 returns-2 c =
-    let s = c .before .before .before .before .before .before .before .before .before .before .before .before .before in
+    let s = c .before .before .before .before .before .before .before .before .before .before .before .before .before .before in
     let b = c .before .before .before .before .before .before .before .before .bound-to in
     let y = c .before .before .before .before .before .walk-from .ensures in (
       told-fails (job-at s) (s .args .p) (s .args .a) (s .args .j) (b .ensures .0) (sym (y .0) ∙ c .before .answer2 .given .1),
