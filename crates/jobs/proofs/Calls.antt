@@ -79,7 +79,7 @@ unfolding refusal
 write-gives edition job lent h = gives (callTests job (writeInputs edition job lent)) (write-number edition job lent) h
 
 -- The lists of a valid job pass.
-valid-lists : (job : Job) → Valid job → 0 ≡ refusal job nothing
+pub valid-lists : (job : Job) → Valid job → 0 ≡ refusal job nothing
 unfolding holdsTest
 valid-lists job v = all-holds job refl (job-accepted .1 v) (length-enough (processors job) (length (job .holds)) (v .holds-given))
 
