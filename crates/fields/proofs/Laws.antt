@@ -6,7 +6,7 @@ use mathlib.Core.List.{List, _++_, append-assoc}
 use native.Mathlib.Omega.{arith}
 use lib.ListN.{length, getD, take, drop, length-drop, take-append-drop, List·getD-append}
 use lib.Seq.{length-take-le, getD-take, getD-drop, getD-append-add, drop-drop, ext-getD}
-use Rattle.fields.specs.Field.{Bytes, fieldSize, fieldBytes, fieldAt}
+use Rattle.fields.specs.Field.{Bytes, fieldSize, fieldBytes, fieldAt, halfSize, halfBytes, halfAt}
 
 pub length-field : (v : ℕ) → length (fieldBytes v) ≡ fieldSize
 unfolding fieldBytes
@@ -107,3 +107,26 @@ written-back bytes n b h =
     ∙ append-assoc (take n bytes) (take fieldSize (drop n bytes)) (drop (n + fieldSize) bytes)
     ∙ ap (λ (l : List ℕ). take n bytes ++ (take fieldSize (drop n bytes) ++ l)) (sym (drop-drop fieldSize n bytes))
     ∙ ap (λ (l : List ℕ). take n bytes ++ l) (take-append-drop fieldSize (drop n bytes)) ∙ take-append-drop n bytes
+
+-- Half a field in the same way: its bytes are read as it, at any place of any list that holds them,
+pub length-half : (v : ℕ) → length (halfBytes v) ≡ halfSize
+unfolding halfBytes
+length-half v = refl
+
+pub half-held : (bytes : List ℕ) (n v : ℕ) → v < 2 ^ 16 → ((j : ℕ) → j < halfSize → getD bytes (n + j) 0 ≡ getD (halfBytes v) j 0) → halfAt bytes n ≡ v
+unfolding halfAt halfBytes
+half-held bytes n v h each =
+    let z : getD bytes n 0 ≡ v % 256 = ap (λ (k : ℕ). getD bytes k 0) (let e : n ≡ n + 0 = omega arith in e) ∙ each 0 (omega arith) in
+    rw (z, each 1 (omega arith)) (omega arith)
+
+-- and what is read at a place has the bytes that stand there, and is of 16 bits.
+pub half-digits : (bytes : List ℕ) (n : ℕ) → Bytes bytes → (j : ℕ) → j < halfSize → getD bytes (n + j) 0 ≡ getD (halfBytes (halfAt bytes n)) j 0
+unfolding halfBytes halfAt
+half-digits l n b zero h =
+    ap (λ (k : ℕ). getD l k 0) (let e : n + 0 ≡ n = omega arith in e) ∙ omega (arith, b n, b (n + 1))
+half-digits l n b (suc zero) h = omega (arith, b n, b (n + 1))
+half-digits l n b (suc (suc j)) h = absurd (let w : ⊥ = omega arith in w)
+
+pub half-limit : (bytes : List ℕ) (n : ℕ) → Bytes bytes → halfAt bytes n < 2 ^ 16
+unfolding halfAt
+half-limit l n b = omega (arith, b n, b (n + 1))

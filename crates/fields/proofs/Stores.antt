@@ -6,7 +6,7 @@ use mathlib.Core.List.{List, _++_}
 use native.Mathlib.Omega.{arith}
 use lib.ListN.{length, take, drop, set, length-append, length-drop}
 use lib.Seq.{take-at, length-take-le, drop-drop, drop-append-add, sets-eq}
-use Rattle.fields.specs.Field.{fieldSize, fieldBytes}
+use Rattle.fields.specs.Field.{fieldSize, fieldBytes, halfSize, halfBytes}
 
 -- Four stores make a field.
 pub field-stores : (l : List ℕ) (a v : ℕ) → a + fieldSize ≤ length l
@@ -18,6 +18,12 @@ field-stores l a v h =
     let e2 : a + 2 ≡ suc (suc a) = omega arith in
     let e3 : a + 3 ≡ suc (suc (suc a)) = omega arith in
     rw (e1, e2, e3) (sets-eq (fieldBytes v) l a h)
+
+-- Two make half a field.
+pub half-stores : (l : List ℕ) (a v : ℕ) → a + halfSize ≤ length l
+    → set (set l a (v % 256)) (a + 1) (v / 256 % 256) ≡ take a l ++ halfBytes v ++ drop (a + halfSize) l
+unfolding halfBytes
+half-stores l a v h = let e : a + 1 ≡ suc a = omega arith in rw (e) (sets-eq (halfBytes v) l a h)
 
 -- Bytes put within a list leave its length.
 pub put-length : (l R : List ℕ) (a k : ℕ) → length R ≡ k → a + k ≤ length l → length (take a l ++ R ++ drop (a + k) l) ≡ length l

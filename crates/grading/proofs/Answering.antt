@@ -13,10 +13,10 @@ use borrow.Author.Tests.{ne-eqb, eq-eqb}
 use Rattle.chain.specs.Lists.{all}
 use Rattle.chain.specs.Job.{Job, jobOf, Valid, processors, speedOf, partLoad, at, Partition}
 use Rattle.chain.specs.Grade.{unbeaten}
-use Rattle.chain.specs.Refusal.{Test, PlanRecords, separatorsOf, isPartition, lengthTest, planLengthTest, joined, joinedTest, trueAt, trueTest, firstRefusal, jobTests, planTests, callTests, refusal}
+use Rattle.chain.specs.Refusal.{Test, PlanRecords, separatorsOf, isPartition, lengthTest, planLengthTest, joined, joinedTest, trueAt, trueTest, firstRefusal, jobTests, nothing, planTests, callTests, refusal}
 use Rattle.chain.proofs.Tests.{T-of}
 use Rattle.chain.proofs.Indices.{all-at, all-same}
-use Rattle.chain.proofs.Refusals.{Numbered, numbered-nil, numbered-cons, job-numbered, partition-test, first-decide, others-decide, append-accepted}
+use Rattle.chain.proofs.Refusals.{Numbered, numbered-nil, numbered-cons, call-numbered, partition-test, first-decide, others-decide, append-accepted}
 use Rattle.refusals.specs.Inputs.{planNeeded}
 use Rattle.refusals.specs.Answers.{lentAfter}
 use Rattle.refusals.proofs.Steps.{fails, passes}
@@ -133,14 +133,14 @@ module _ (job : Job) (plan : List ℕ) where
           go false = unfold gradedOf firstRefusal in refl
 
   -- By lists: the job's refusal, or those of the plan file.
-  pub lists-refused : {n : ℕ} → n ≡ firstRefusal (jobTests job) → n ≢ 0 → Graded.Refused n ≡ gradeAnswer job plan
+  pub lists-refused : {n : ℕ} → n ≡ refusal job nothing → n ≢ 0 → Graded.Refused n ≡ gradeAnswer job plan
   unfolding gradeAnswer refusal callTests planTests jobTests
-  lists-refused e h = graded-number (readGrade job plan) (first-decide (jobTests job) (planTests job file) e h) h
+  lists-refused e h = graded-number (readGrade job plan) (first-decide (callTests job nothing) (planTests job file) e h) h
 
-  pub lists-graded : {n : ℕ} {r : Graded} → n ≡ firstRefusal (jobTests job) → n ≡ 0 → r ≡ planGrade job plan → r ≡ gradeAnswer job plan
+  pub lists-graded : {n : ℕ} {r : Graded} → n ≡ refusal job nothing → n ≡ 0 → r ≡ planGrade job plan → r ≡ gradeAnswer job plan
   unfolding gradeAnswer planGrade refusal callTests planTests jobTests
   lists-graded e z f =
-      f ∙ ap (λ (k : ℕ). gradedOf k (readGrade job plan)) (others-decide (jobTests job) (planTests job file) e (job-numbered job) z refl)
+      f ∙ ap (λ (k : ℕ). gradedOf k (readGrade job plan)) (others-decide (callTests job nothing) (planTests job file) e (call-numbered job nothing) z refl)
 
   -- The buffer's refusal, or those of the plan file.
   module _ (needed lent : ℕ) where
@@ -164,8 +164,8 @@ module _ (file plan : List ℕ) (lent : ℕ) where
   unfolding lentGrade gradeRefusal gradeTests fileRefusal
   files-refused e h = graded-number (readGrade (jobIn file) plan) (first-decide (fileTests file) after e h) h
 
-  pub files-graded : {es ws : List ℕ} {second : Bool} {startup p n : ℕ} → Taken file es ws second startup p n → {r : Graded}
-      → r ≡ roomGrade (jobOf startup (take p es) (take n ws)) plan 1 lent
+  pub files-graded : {es hs ws : List ℕ} {second : Bool} {startup p n : ℕ} → Taken file es hs ws second startup p n → {r : Graded}
+      → r ≡ roomGrade (jobOf startup (take p es) (take p hs) (take n ws)) plan 1 lent
       → r ≡ lentGrade file plan lent
   unfolding lentGrade gradeRefusal gradeTests fileRefusal roomGrade
   files-graded w {r} e =

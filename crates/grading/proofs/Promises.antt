@@ -13,20 +13,21 @@ use Rattle.bound.specs.Order.{_≼_, _≺_}
 use Rattle.chain.specs.Job.{Job, Valid, Partition, bottleneck}
 use Rattle.chain.specs.Plan.{planOf}
 use Rattle.chain.specs.Grade.{unbeaten}
-use Rattle.chain.specs.Refusal.{Test, separatorsOf, startupTest, speedsTest, weightsTest, processorsTest, tasksTest, lengthTest, planLengthTest, joinedTest, trueTest, firstRefusal, FirstFailing, jobTests, planTests, callTests, refusal}
+use Rattle.chain.specs.Refusal.{Test, separatorsOf, startupTest, speedsTest, weightsTest, processorsTest, tasksTest, holdsTest, lengthTest, planLengthTest, joinedTest, trueTest, firstRefusal, FirstFailing, jobTests, nothing, planTests, callTests, refusal}
 use Rattle.chain.proofs.Tests.{T-of, T-true}
 use Rattle.chain.proofs.Parts.{valid-proper, valid-plannable}
 use Rattle.chain.proofs.Demand.{plan-of-best}
 use Rattle.chain.proofs.Grade.{unbeaten-exactly, plan-unbeaten, beaten-exactly}
-use Rattle.chain.proofs.Refusals.{Numbered, numbered-nil, numbered-cons, job-numbered, plan-accepted, job-accepted, append-accepted, others-decide, gives, given-number, numbers-append, numbers-behind, first-refusal-same}
+use Rattle.chain.proofs.Refusals.{Numbered, numbered-nil, numbered-cons, call-numbered, plan-accepted, append-accepted, others-decide, gives, given-number, numbers-append, numbers-behind, first-refusal-same}
 use Rattle.fields.specs.Field.{Bytes}
 use Rattle.refusals.specs.Answers.{Said, accepting, alone, saidBy}
+use Rattle.refusals.proofs.Accepted.{accepted}
 use Rattle.refusals.proofs.Answering.{said-choice, number-of}
 use Rattle.refusals.proofs.Tests.{length-short, length-enough}
 use Rattle.refusals.proofs.Steps.{passes}
 use Rattle.refusals.proofs.Lent.{lent-front, lent-refused}
 use Rattle.jobs.specs.Parse.{jobIn, fileTests, fileRefusal}
-use Rattle.jobs.proofs.Calls.{file-numbered}
+use Rattle.jobs.proofs.Calls.{file-numbered, valid-lists}
 use Rattle.jobs.proofs.Promises.{fromTwo, file-in}
 use Rattle.jobs.proofs.RoundTrip.{accepted-valid}
 use Rattle.planfile.specs.PlanFile.{planBytes, TruePlan, planRead, gradeInputs}
@@ -61,11 +62,11 @@ module _ (job : Job) (plan : List ℕ) where
   pub grade-number : (gradedSaid (gradeAnswer job plan)) .number ≡ refusal job (gradeInputs job plan)
   grade-number = number-of ((gradedSaid (readGrade job plan)) .values) grade-said
 
-  -- 0, or one of 5 to 8, 12, 11 and 13;
-  pub grade-numbers : List·Memᴰ ((gradedSaid (gradeAnswer job plan)) .number) (0 ∷ 16 ∷ 5 ∷ 6 ∷ 7 ∷ 8 ∷ 12 ∷ 11 ∷ 13 ∷ [])
-  unfolding refusal callTests jobTests startupTest speedsTest weightsTest processorsTest tasksTest planLengthTest joinedTest trueTest
+  -- 0, 16, or one of 5 to 9, 12, 11 and 13;
+  pub grade-numbers : List·Memᴰ ((gradedSaid (gradeAnswer job plan)) .number) (0 ∷ 16 ∷ 5 ∷ 6 ∷ 7 ∷ 8 ∷ 9 ∷ 12 ∷ 11 ∷ 13 ∷ [])
+  unfolding refusal callTests jobTests startupTest speedsTest weightsTest processorsTest tasksTest holdsTest lengthTest planLengthTest joinedTest trueTest
   grade-numbers =
-      given-number (16 ∷ 5 ∷ 6 ∷ 7 ∷ 8 ∷ 12 ∷ 11 ∷ 13 ∷ []) (callTests job (gradeInputs job plan)) grade-number tt
+      given-number (16 ∷ 5 ∷ 6 ∷ 7 ∷ 8 ∷ 9 ∷ 12 ∷ 11 ∷ 13 ∷ []) (callTests job (gradeInputs job plan)) grade-number tt
 
   -- that of the first test that fails.
   pub grade-gives : {n : ℕ} → n ≢ 0 → ((gradedSaid (gradeAnswer job plan)) .number ≡ n) ↔ FirstFailing (callTests job (gradeInputs job plan)) n
@@ -73,18 +74,18 @@ module _ (job : Job) (plan : List ℕ) where
   grade-gives h = gives (callTests job (gradeInputs job plan)) grade-number h
 
   -- Nothing is refused exactly where nothing of the job is, and nothing of the plan file.
-  pub grade-parts : (refusal job (gradeInputs job plan) ≡ 0) ↔ ((firstRefusal (jobTests job) ≡ 0) × (firstRefusal (planTests job (planRead job plan)) ≡ 0))
+  pub grade-parts : (refusal job (gradeInputs job plan) ≡ 0) ↔ ((refusal job nothing ≡ 0) × (firstRefusal (planTests job (planRead job plan)) ≡ 0))
   unfolding refusal callTests jobTests planTests
   grade-parts = (
-    λ e. append-accepted (jobTests job) (planTests job (planRead job plan)) (job-numbered job) e,
-    λ (e, f). sym (others-decide (jobTests job) (planTests job (planRead job plan)) refl (job-numbered job) e (sym f)),
+    λ e. append-accepted (callTests job nothing) (planTests job (planRead job plan)) (call-numbered job nothing) e,
+    λ (e, f). sym (others-decide (callTests job nothing) (planTests job (planRead job plan)) refl (call-numbered job nothing) e (sym f)),
   )
 
   -- Accepted exactly where the job is within the limits and the file is the plan file of some division of it.
   pub grade-accepts : Bytes plan → (refusal job (gradeInputs job plan) ≡ 0) ↔ (Valid job × TruePlan job plan)
   grade-accepts b = (
-    λ e. let v = job-accepted .0 (grade-parts .0 e .0) in (v, true-exactly v b .0 (grade-parts .0 e .1)),
-    λ (v, t). grade-parts .1 (job-accepted .1 v, true-exactly v b .1 t),
+    λ e. let v = (accepted (grade-parts .0 e .0)) .valid in (v, true-exactly v b .0 (grade-parts .0 e .1)),
+    λ (v, t). grade-parts .1 (sym (valid-lists job v), true-exactly v b .1 t),
   )
 
   -- Where nothing refuses it, the answer is the grade of the separators that are read.
@@ -120,7 +121,7 @@ module _ {job : Job} (v : Valid job) (s : List ℕ) where
 module _ {job : Job} (v : Valid job) {s : List ℕ} (w : Partition job s) where
   pub division-accepted : refusal job (gradeInputs job (planBytes job s)) ≡ 0
   division-accepted =
-      grade-parts job (planBytes job s) .1 (job-accepted .1 v, plan-accepted job (planRead job (planBytes job s)) .1 (file-told v w))
+      grade-parts job (planBytes job s) .1 (sym (valid-lists job v), plan-accepted job (planRead job (planBytes job s)) .1 (file-told v w))
 
   pub division-graded : gradeAnswer job (planBytes job s) ≡ gradeOf job s
   division-graded = grade-accepted job (planBytes job s) division-accepted ∙ ap (gradeOf job) (read-back v w)
@@ -179,7 +180,7 @@ module _ (file plan : List ℕ) (lent : ℕ) where
   pub host-grade-same : hostGrade file plan lent ≡ 0 → refusal (jobIn file) (gradeInputs (jobIn file) plan) ≡ 0
   host-grade-same e =
       let p = host-parts .0 e in
-      grade-parts (jobIn file) plan .1 (job-accepted .1 (accepted-valid file (p .0)), p .2)
+      grade-parts (jobIn file) plan .1 (sym (valid-lists (jobIn file) (accepted-valid file (p .0))), p .2)
 
   pub host-grade-takes : fileRefusal file ≡ 0 → 1 ≤ lent → refusal (jobIn file) (gradeInputs (jobIn file) plan) ≡ 0 → hostGrade file plan lent ≡ 0
   host-grade-takes e h f = host-parts .1 (e, h, grade-parts (jobIn file) plan .0 f .1)

@@ -29,8 +29,8 @@ use refusals::MAX_TASKS;
 use refusals::PLAN_RECORD;
 use refusals::effective;
 use refusals::is_partition;
+use refusals::test_all_lists;
 use refusals::test_length;
-use refusals::test_lists;
 
 // The bytes of a grade.
 const GRADE: usize = 1;
@@ -57,12 +57,13 @@ fn and_same(all: bool, a: u32, b: u32) -> bool
 fn take_separators(
     startup: u32,
     speeds: &[u32],
+    holds: &[u16],
     weights: &[u32],
     plan: &[u8],
     separators: &mut [u32],
 ) -> bool
     ghost { Job }
-    requires { λ job. ⌜ jobOf startup (now speeds) (now weights) ≡ job ⌝ }
+    requires { λ job. ⌜ jobOf startup (now speeds) (now holds) (now weights) ≡ job ⌝ }
     requires { λ job. ⌜ Valid job ⌝ }
     requires { λ job. ⌜ planNeeded job ≤ length (now plan) ⌝ }
     requires { λ job. ⌜ processors job < length (now separators) ⌝ }
@@ -87,6 +88,7 @@ fn take_separators(
 fn tells_at(
     startup: u32,
     speeds: &[u32],
+    holds: &[u16],
     weights: &[u32],
     sums: &[u32],
     separators: &[u32],
@@ -94,7 +96,7 @@ fn tells_at(
     p: usize,
 ) -> bool
     ghost { Job }
-    requires { λ job. ⌜ jobOf startup (now speeds) (now weights) ≡ job ⌝ }
+    requires { λ job. ⌜ jobOf startup (now speeds) (now holds) (now weights) ≡ job ⌝ }
     requires { λ job. ⌜ Ready job (now sums) ⌝ }
     requires { λ job. ⌜ Partition job (take (suc (processors job)) (now separators)) ⌝ }
     requires { λ job. ⌜ planNeeded job ≤ length (now plan) ⌝ }
@@ -117,13 +119,14 @@ fn tells_at(
 fn tells_all(
     startup: u32,
     speeds: &[u32],
+    holds: &[u16],
     weights: &[u32],
     sums: &[u32],
     separators: &[u32],
     plan: &[u8],
 ) -> bool
     ghost { Job }
-    requires { λ job. ⌜ jobOf startup (now speeds) (now weights) ≡ job ⌝ }
+    requires { λ job. ⌜ jobOf startup (now speeds) (now holds) (now weights) ≡ job ⌝ }
     requires { λ job. ⌜ Ready job (now sums) ⌝ }
     requires { λ job. ⌜ Partition job (take (suc (processors job)) (now separators)) ⌝ }
     requires { λ job. ⌜ planNeeded job ≤ length (now plan) ⌝ }
@@ -131,7 +134,7 @@ fn tells_all(
 {
     let mut p = 0;
     while p < speeds.len() {
-        if !tells_at(startup, speeds, weights, sums, separators, plan, p) {
+        if !tells_at(startup, speeds, holds, weights, sums, separators, plan, p) {
             return false;
         }
         p += 1;
@@ -143,18 +146,19 @@ fn tells_all(
 fn grade_partition(
     startup: u32,
     speeds: &[u32],
+    holds: &[u16],
     weights: &[u32],
     sums: &[u32],
     separators: &mut [u32],
 ) -> Graded
     ghost { Job }
-    requires { λ job. ⌜ jobOf startup (now speeds) (now weights) ≡ job ⌝ }
+    requires { λ job. ⌜ jobOf startup (now speeds) (now holds) (now weights) ≡ job ⌝ }
     requires { λ job. ⌜ Ready job (now sums) ⌝ }
     requires { λ job. ⌜ Partition job (take (suc (processors job)) (now separators)) ⌝ }
     ensures { λ job r. ⌜ r ≡ gradeOf job (take (suc (processors job)) (now (separators .entry))) ⌝ }
 {
-    let measured = measure_in(startup, speeds, weights, sums, separators);
-    let found = bisection_in(startup, speeds, weights, sums, separators);
+    let measured = measure_in(startup, speeds, holds, weights, sums, separators);
+    let found = bisection_in(startup, speeds, holds, weights, sums, separators);
     if Bound::at_most(measured, found.bound) {
         return Graded::Best;
     }
@@ -165,12 +169,13 @@ fn grade_partition(
 fn grade_told(
     startup: u32,
     speeds: &[u32],
+    holds: &[u16],
     weights: &[u32],
     plan: &[u8],
     separators: &mut [u32],
 ) -> Graded
     ghost { Job }
-    requires { λ job. ⌜ jobOf startup (now speeds) (now weights) ≡ job ⌝ }
+    requires { λ job. ⌜ jobOf startup (now speeds) (now holds) (now weights) ≡ job ⌝ }
     requires { λ job. ⌜ Valid job ⌝ }
     requires { λ job. ⌜ planNeeded job ≤ length (now plan) ⌝ }
     requires { λ job. ⌜ Partition job (take (suc (processors job)) (now separators)) ⌝ }
@@ -178,16 +183,16 @@ fn grade_told(
 {
     let mut sums = [0u32; MAX_TASKS + 1];
     prefix_sums(weights, &mut sums);
-    if !tells_all(startup, speeds, weights, &sums, separators, plan) {
+    if !tells_all(startup, speeds, holds, weights, &sums, separators, plan) {
         return Graded::Refused(13);
     }
-    grade_partition(startup, speeds, weights, &sums, separators)
+    grade_partition(startup, speeds, holds, weights, &sums, separators)
 }
 
 // Inner. Grades the plan file of a job that has been tested: the grade, or the refusal: 12, 11 or 13, in this order.
-fn grade_in(startup: u32, speeds: &[u32], weights: &[u32], plan: &[u8]) -> Graded
+fn grade_in(startup: u32, speeds: &[u32], holds: &[u16], weights: &[u32], plan: &[u8]) -> Graded
     ghost { Job }
-    requires { λ job. ⌜ jobOf startup (now speeds) (now weights) ≡ job ⌝ }
+    requires { λ job. ⌜ jobOf startup (now speeds) (now holds) (now weights) ≡ job ⌝ }
     requires { λ job. ⌜ Valid job ⌝ }
     ensures { λ job r. ⌜ r ≡ planGrade job (now (plan .entry)) ⌝ }
 {
@@ -195,41 +200,55 @@ fn grade_in(startup: u32, speeds: &[u32], weights: &[u32], plan: &[u8]) -> Grade
         return Graded::Refused(12);
     }
     let mut separators = [0u32; MAX_PROCESSORS + 1];
-    if !take_separators(startup, speeds, weights, plan, &mut separators) {
+    if !take_separators(startup, speeds, holds, weights, plan, &mut separators) {
         return Graded::Refused(11); // a gap, or an overlap
     }
-    if !is_partition(startup, speeds, weights, &separators) {
+    if !is_partition(startup, speeds, holds, weights, &separators) {
         return Graded::Refused(11);
     }
-    grade_told(startup, speeds, weights, plan, &mut separators)
+    grade_told(startup, speeds, holds, weights, plan, &mut separators)
 }
 
 // Inner. Grades a plan file beside the lists of its job, with the start-up work that counts.
-fn grade_with(startup: u32, speeds: &[u32], weights: &[u32], plan: &[u8]) -> Graded
+fn grade_with(startup: u32, speeds: &[u32], holds: &[u16], weights: &[u32], plan: &[u8]) -> Graded
     ensures { λ r.
-        let job = jobOf startup (now (speeds .entry)) (now (weights .entry)) in
+        let job = jobOf startup (now (speeds .entry)) (now (holds .entry)) (now (weights .entry)) in
         ⌜ r ≡ gradeAnswer job (now (plan .entry)) ⌝ }
 {
-    let number = test_lists(startup, speeds, weights);
+    let number = test_all_lists(startup, speeds, holds, weights);
     if number != 0 {
         return Graded::Refused(number);
     }
-    grade_in(startup, speeds, weights, plan)
+    grade_in(startup, speeds, holds, weights, plan)
 }
 
-// Grades a plan file beside the lists of its job: best, valid, or the refusal: 16, 5, 6, 7, 8, 12, 11 or 13, in this order.
-pub fn grade(second: bool, startup: u32, speeds: &[u32], weights: &[u32], plan: &[u8]) -> Graded
+// Grades a plan file beside the lists of its job: best, valid, or the refusal: 16, 5, 6, 7, 8, 9, 12, 11 or 13, in this order.
+pub fn grade(
+    second: bool,
+    startup: u32,
+    speeds: &[u32],
+    holds: &[u16],
+    weights: &[u32],
+    plan: &[u8],
+) -> Graded
     ensures { λ r.
-        let job = jobOf (counts.effective second startup) (now (speeds .entry)) (now (weights .entry)) in
+        let job = jobOf (counts.effective second startup) (now (speeds .entry)) (now (holds .entry)) (now (weights .entry)) in
         ⌜ r ≡ gradeAnswer job (now (plan .entry)) ⌝ }
 {
-    grade_with(effective(second, startup), speeds, weights, plan)
+    grade_with(effective(second, startup), speeds, holds, weights, plan)
 }
 
 // Inner. The test of the buffer for the grade, of which so many bytes are lent, and the grade.
-fn grade_read(startup: u32, speeds: &[u32], weights: &[u32], plan: &[u8], lent: usize) -> Graded
+fn grade_read(
+    startup: u32,
+    speeds: &[u32],
+    holds: &[u16],
+    weights: &[u32],
+    plan: &[u8],
+    lent: usize,
+) -> Graded
     ghost { Job }
-    requires { λ job. ⌜ jobOf startup (now speeds) (now weights) ≡ job ⌝ }
+    requires { λ job. ⌜ jobOf startup (now speeds) (now holds) (now weights) ≡ job ⌝ }
     requires { λ job. ⌜ Valid job ⌝ }
     ensures { λ job r. ⌜ r ≡ roomGrade job (now (plan .entry)) gradeNeeded lent ⌝ }
 {
@@ -237,7 +256,7 @@ fn grade_read(startup: u32, speeds: &[u32], weights: &[u32], plan: &[u8], lent: 
     if number != 0 {
         return Graded::Refused(number);
     }
-    grade_in(startup, speeds, weights, plan)
+    grade_in(startup, speeds, holds, weights, plan)
 }
 
 // Inner. Grades a plan file beside its job file, so many bytes being lent for the grade: best, valid, or the refusal: 2 to 8, 15
@@ -246,8 +265,9 @@ pub fn grade_files(job: &[u8], plan: &[u8], lent: usize) -> Graded
     ensures { λ r. ⌜ r ≡ lentGrade (now (job .entry)) (now (plan .entry)) lent ⌝ }
 {
     let mut speeds = [0u32; MAX_PROCESSORS];
+    let mut holds = [0u16; MAX_PROCESSORS];
     let mut weights = [0u32; MAX_TASKS];
-    let answer = read_job(job, &mut speeds, &mut weights);
+    let answer = read_job(job, &mut speeds, &mut holds, &mut weights);
     match answer {
         JobRead::Refused(number) => Graded::Refused(number),
         JobRead::Read {
@@ -258,6 +278,7 @@ pub fn grade_files(job: &[u8], plan: &[u8], lent: usize) -> Graded
         } => grade_read(
             startup,
             &speeds[..processors],
+            &holds[..processors],
             &weights[..tasks],
             plan,
             lent,

@@ -14,7 +14,7 @@ use borrow.Author.Tests.{eq-eqb, ne-eqb}
 use Rattle.chain.specs.Job.{startupOf, editionOf}
 use Rattle.chain.specs.Refusal.{firstRefusal}
 use Rattle.jobs.specs.JobFile.{processorKind, taskKind, startupKind}
-use Rattle.jobs.specs.Parse.{recordCount, byteAt, kindAt, valueAt, isKind, multipleTest, formTest, orderTest, placeTest, speedTest, weightTest, workTest, recordTests, recordsTests, valuesOf, secondIn, startupIn, speedsOf, weightsOf}
+use Rattle.jobs.specs.Parse.{recordCount, byteAt, kindAt, valueAt, isKind, multipleTest, formTest, orderTest, placeTest, speedTest, weightTest, workTest, recordTests, recordsTests, standing, valuesOf, secondIn, startupIn, speedsOf, weightsOf}
 use Rattle.jobs.specs.Answers.{answerOf}
 use Rattle.jobs.specs.Inner.{recordsRefusal}
 use Rattle.jobs.specs.declared.JobRead.{JobRead}
@@ -56,16 +56,31 @@ module _ (file : List ℕ) where
   records-fewer n i h e =
       elim (ℕ-discrete (firstRefusal (recordsTests file i)) 0) [ yes z ↦ z | no z ↦ sym (records-stop n i h z) ∙ e ]
 
-  -- Record n gives one value more to its own kind, and none to another.
+  -- Record n gives one entry more to its own kind, and none to another.
+  pub standing-more : (f : ℕ → ℕ) (kind n : ℕ) → kindAt file n ≡ kind → standing f kind file (suc n) ≡ standing f kind file n ++ f n ∷ []
+  unfolding standing isKind
+  standing-more f kind n e = ap (λ (b : Bool). standing f kind file n ++ cond b (f n ∷ []) []) (eq-eqb (kindAt file n) kind e)
+
+  pub standing-same : (f : ℕ → ℕ) (kind n : ℕ) → kindAt file n ≢ kind → standing f kind file (suc n) ≡ standing f kind file n
+  unfolding standing isKind
+  standing-same f kind n h =
+      ap (λ (b : Bool). standing f kind file n ++ cond b (f n ∷ []) []) (ne-eqb (kindAt file n) kind h) ∙ append-nil (standing f kind file n)
+
   pub values-more : (kind n : ℕ) → kindAt file n ≡ kind → valuesOf kind file (suc n) ≡ valuesOf kind file n ++ valueAt file n ∷ []
-  unfolding valuesOf isKind
-  values-more kind n e =
-      ap (λ (b : Bool). valuesOf kind file n ++ cond b (valueAt file n ∷ []) []) (eq-eqb (kindAt file n) kind e)
+  values-more kind n e = standing-more (valueAt file) kind n e
 
   pub values-same : (kind n : ℕ) → kindAt file n ≢ kind → valuesOf kind file (suc n) ≡ valuesOf kind file n
-  unfolding valuesOf isKind
-  values-same kind n h =
-      ap (λ (b : Bool). valuesOf kind file n ++ cond b (valueAt file n ∷ []) []) (ne-eqb (kindAt file n) kind h) ∙ append-nil (valuesOf kind file n)
+  values-same kind n h = standing-same (valueAt file) kind n h
+
+  -- There are as many entries of a kind, whatever is taken of each record.
+  pub standing-length : (f g : ℕ → ℕ) (kind n : ℕ) → length (standing f kind file n) ≡ length (standing g kind file n)
+  unfolding standing
+  standing-length f g kind zero = refl
+  standing-length f g kind (suc n) =
+      elim (ℕ-discrete (kindAt file n) kind) [
+        | yes e ↦ omega (arith, ap length (standing-more f kind n e), ap length (standing-more g kind n e), length-append (standing f kind file n) (f n ∷ []), length-append (standing g kind file n) (g n ∷ []), standing-length f g kind n)
+        | no h ↦ ap length (standing-same f kind n h) ∙ standing-length f g kind n ∙ sym (ap length (standing-same g kind n h))
+      ]
 
   -- A record that passes is of one of the three kinds.
   pub kind-cases : (n : ℕ) → firstRefusal (recordTests file n) ≡ 0
@@ -90,7 +105,7 @@ pub record Tested (file : List ℕ) (processors tasks i : ℕ) : Type 0 where
 
 module _ {file : List ℕ} where
   pub tested-none : length file % 8 ≡ 0 → Tested file 0 0 0
-  unfolding valuesOf recordsTests firstRefusal
+  unfolding standing recordsTests firstRefusal
   tested-none e =
       record { multiple = e; below = omega arith; counted = omega arith; processors-are = refl; tasks-are = refl; passed = refl }
 

@@ -1,11 +1,11 @@
 pub mod Records
 pub mod Writing
 pub mod OneRecord
+pub mod Bytes
 pub mod AllRecords
 pub mod Copying
 pub mod Passed
 pub mod Reading
-pub mod Bytes
 pub mod RoundTrip
 pub mod Calls
 pub mod Taken

@@ -1,5 +1,5 @@
--- The tests of one record, as the code takes them: k is its kind, v its value, b says that bytes 1 to 3 are zero, t counts the
--- tasks before it, m is the limit.
+-- The tests of one record, as the code takes them: k is its kind, v its value, b says that the bytes that have to be zero are, t counts
+-- the tasks before it, m is the limit.
 -- Assumes nothing.
 use Prim.Native.Nat.{ℕ, zero, suc, _+_, _≤_, _<_}
 use mathlib.Core.Path.{_≡_, refl, sym, ap, ap₂, _∙_}
@@ -13,31 +13,48 @@ use borrow.Author.Tests.{eq-eqb, ne-eqb, lt-ltb, le-ltb, not-true, not-false}
 use Rattle.chain.specs.Limits.{maxWeight, maxStartup, maxSpeed}
 use Rattle.chain.specs.Refusal.{Test, between, firstRefusal}
 use Rattle.jobs.specs.JobFile.{processorKind, taskKind, startupKind}
-use Rattle.jobs.specs.Parse.{byteAt, kindAt, valueAt, isKind, taskBefore, blank, formTest, orderTest, placeTest, speedTest, weightTest, workTest, recordTests, valuesOf}
+use Rattle.jobs.specs.Parse.{byteAt, kindAt, valueAt, isKind, taskBefore, blank, formTest, orderTest, placeTest, speedTest, weightTest, workTest, recordTests, standing, valuesOf}
 use Rattle.refusals.proofs.Each.{between-low, between-high, between-in}
 use Rattle.refusals.proofs.Steps.{fails, passes, passed-all}
 
--- Bytes 1 to 3.
+-- Byte 1, and bytes 2 and 3 where the record is not a processor's.
 module _ (file : List ℕ) (i : ℕ) where
+  rest : Bool
+  rest = eqb (byteAt file i 2) 0 && eqb (byteAt file i 3) 0
+
+  blank-by : {a b c : Bool} → eqb (byteAt file i 1) 0 ≡ a → isKind processorKind file i ≡ b → rest ≡ c → blank file i ≡ (a && (b || c))
+  unfolding blank rest
+  blank-by e f g = cc
+
   pub first-set : {x : ℕ} → x ≡ byteAt file i 1 → x ≢ 0 → false ≡ blank file i
-  unfolding blank
-  first-set {x} e h =
-      sym (ap (λ (c : Bool). c && eqb (byteAt file i 2) 0 && eqb (byteAt file i 3) 0) (ne-eqb (byteAt file i 1) 0 (λ z. h (e ∙ z))))
+  first-set e h = sym (blank-by (ne-eqb (byteAt file i 1) 0 (λ z. h (e ∙ z))) refl refl)
 
-  pub second-set : {x y : ℕ} → x ≡ byteAt file i 1 → y ≡ byteAt file i 2 → x ≡ 0 → y ≢ 0 → false ≡ blank file i
-  unfolding blank
-  second-set {x} {y} d e g h =
-      sym (ap₂ (λ (c c′ : Bool). c && c′ && eqb (byteAt file i 3) 0) (eq-eqb (byteAt file i 1) 0 (sym d ∙ g)) (ne-eqb (byteAt file i 2) 0 (λ z. h (e ∙ z))))
+  module _ {k x : ℕ} (kind : k ≡ kindAt file i) (first : x ≡ byteAt file i 1) (zero : x ≡ 0) where
+    is-zero : eqb (byteAt file i 1) 0 ≡ true
+    is-zero = eq-eqb (byteAt file i 1) 0 (sym first ∙ zero)
 
-  pub third-decides : {x y z : ℕ} → x ≡ byteAt file i 1 → y ≡ byteAt file i 2 → z ≡ byteAt file i 3 → x ≡ 0 → y ≡ 0 → eqb z 0 ≡ blank file i
-  unfolding blank
-  third-decides {x} {y} {z} d e f g h =
-      ap (λ (n : ℕ). eqb n 0) f
-      ∙ sym (ap₂ (λ (c c′ : Bool). c && c′ && eqb (byteAt file i 3) 0) (eq-eqb (byteAt file i 1) 0 (sym d ∙ g)) (eq-eqb (byteAt file i 2) 0 (sym e ∙ h)))
+    pub processor-blank : k ≡ processorKind → true ≡ blank file i
+    unfolding isKind
+    processor-blank e = sym (blank-by is-zero (eq-eqb (kindAt file i) processorKind (sym kind ∙ e)) refl)
+
+    other-blank : k ≢ processorKind → {c : Bool} → rest ≡ c → blank file i ≡ c
+    unfolding isKind
+    other-blank h g = blank-by is-zero (ne-eqb (kindAt file i) processorKind (λ z. h (kind ∙ z))) g
+
+    pub second-set : k ≢ processorKind → {y : ℕ} → y ≡ byteAt file i 2 → y ≢ 0 → false ≡ blank file i
+    unfolding rest
+    second-set n e h =
+        sym (other-blank n (ap (λ (c : Bool). c && eqb (byteAt file i 3) 0) (ne-eqb (byteAt file i 2) 0 (λ z. h (e ∙ z)))))
+
+    pub third-decides : k ≢ processorKind → {y z : ℕ} → y ≡ byteAt file i 2 → y ≡ 0 → z ≡ byteAt file i 3 → eqb z 0 ≡ blank file i
+    unfolding rest
+    third-decides n e h f =
+        ap (λ (n : ℕ). eqb n 0) f
+        ∙ sym (other-blank n (ap (λ (c : Bool). c && eqb (byteAt file i 3) 0) (eq-eqb (byteAt file i 2) 0 (sym e ∙ h))))
 
 -- A task stands before record i exactly when some value of the first i is one's.
 pub before-counted : (file : List ℕ) (i : ℕ) → taskBefore file i ≡ ltb 0 (length (valuesOf taskKind file i))
-unfolding taskBefore valuesOf
+unfolding taskBefore standing
 before-counted file zero = refl
 before-counted file (suc i) = go (isKind taskKind file i) (before-counted file i)
   where
@@ -230,6 +247,6 @@ module _ (file : List ℕ) (i : ℕ) {k v : ℕ} {b : Bool} (kind : k ≡ kindAt
       ∙ passed-all)
 
 -- For `search`: at each return the law that its tests meet.
-pub ruleset blank-laws = (first-set, second-set, third-decides)
+pub ruleset blank-laws = (first-set, processor-blank, second-set, third-decides)
 
 pub ruleset record-laws = (other-kind, not-blank, processor-late, processor-low, processor-high, processor-passes, task-high, task-passes, startup-late, startup-high, startup-passes, refl)

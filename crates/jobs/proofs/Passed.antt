@@ -16,9 +16,10 @@ use Rattle.chain.specs.Job.{First, Second, editionOf}
 use Rattle.chain.specs.Refusal.{firstRefusal}
 use Rattle.refusals.specs.Inputs.{headRecords}
 use Rattle.jobs.specs.JobFile.{processorKind, taskKind, startupKind}
-use Rattle.jobs.specs.Parse.{byteAt, kindAt, valueAt, isKind, blank, recordTests, recordsTests, valuesOf, secondIn, editionIn}
+use Rattle.jobs.specs.Parse.{byteAt, kindAt, valueAt, holdAt, isKind, blank, recordTests, recordsTests, standing, valuesOf, holdsAmong, secondIn, editionIn}
 use Rattle.jobs.proofs.OneRecord.{not-blank, processor-late, processor-low, processor-high, task-high, startup-late, startup-high}
-use Rattle.jobs.proofs.AllRecords.{records-next, records-fewer, values-more, values-same, kind-cases}
+use Rattle.jobs.proofs.AllRecords.{records-next, records-fewer, standing-more, standing-same, standing-length, values-more, values-same, kind-cases}
+use Rattle.jobs.proofs.Bytes.{blank-hold}
 use Rattle.jobs.proofs.Copying.{tabulate-snoc}
 
 -- A processor's record, with no task before it; a task's; the one with the start-up work, which is the first.
@@ -30,11 +31,13 @@ pub record OfProcessor (file : List ℕ) (i : ℕ) : Type 0 where
 
 pub record OfTask (file : List ℕ) (i : ℕ) : Type 0 where
   pub kind : kindAt file i ≡ taskKind
+  pub no-hold : holdAt file i ≡ 0
   pub limit : valueAt file i ≤ maxWeight
 
 pub record OfStartup (file : List ℕ) (i : ℕ) : Type 0 where
   pub kind : kindAt file i ≡ startupKind
   pub first : i ≡ 0
+  pub no-hold : holdAt file i ≡ 0
   pub limit : valueAt file i ≤ maxStartup
 
 module _ (file : List ℕ) (i : ℕ) (e : firstRefusal (recordTests file i) ≡ 0) where
@@ -66,6 +69,7 @@ module _ (file : List ℕ) (i : ℕ) (e : firstRefusal (recordTests file i) ≡ 
       task k =
           record {
             kind = k;
+            no-hold = blank-hold file i passed-blank (omega (arith, k));
             limit = elim (decLe (valueAt file i) maxWeight) [ yes h ↦ h | no h ↦ absurd (let z : ⊥ = omega (arith, task-high file i refl refl refl zeros k refl (let l : maxWeight < valueAt file i = omega arith in l), e) in z) ];
           }
 
@@ -75,6 +79,7 @@ module _ (file : List ℕ) (i : ℕ) (e : firstRefusal (recordTests file i) ≡ 
           record {
             kind = k;
             first = none;
+            no-hold = blank-hold file i passed-blank (omega (arith, k));
             limit = elim (decLe (valueAt file i) maxStartup) [ yes h ↦ h | no h ↦ absurd (let z : ⊥ = omega (arith, startup-high file i refl refl refl zeros k (omega arith) refl (let l : maxStartup < valueAt file i = omega arith in l), e) in z) ];
           }
 
@@ -139,19 +144,23 @@ module _ (file : List ℕ) where
         | no l ↦ subst C (let z : headRecords (editionIn file) ≡ suc n = omega arith in z) base
       ]
 
-  -- The record in front gives no values.
-  pub front-values : (kind : ℕ) → kind ≢ startupKind → valuesOf kind file (headRecords (editionIn file)) ≡ []
-  unfolding valuesOf
-  front-values kind h = go (front file)
+  -- The record in front gives nothing.
+  pub front-standing : (f : ℕ → ℕ) (kind : ℕ) → kind ≢ startupKind → standing f kind file (headRecords (editionIn file)) ≡ []
+  unfolding standing
+  front-standing f kind h = go (front file)
     where
-      go : NoFront file ⊎ Front file → valuesOf kind file (headRecords (editionIn file)) ≡ []
-      go (inl f) = ap (valuesOf kind file) (f .head)
-      go (inr f) = ap (valuesOf kind file) (f .head) ∙ values-same file kind 0 (λ z. h (sym z ∙ f .kind))
+      go : NoFront file ⊎ Front file → standing f kind file (headRecords (editionIn file)) ≡ []
+      go (inl x) = ap (standing f kind file) (x .head)
+      go (inr x) = ap (standing f kind file) (x .head) ∙ standing-same file f kind 0 (λ z. h (sym z ∙ x .kind))
 
--- The values of the first n records stand where they do: the speeds behind the record in front, the weights behind them.
+  pub front-values : (kind : ℕ) → kind ≢ startupKind → valuesOf kind file (headRecords (editionIn file)) ≡ []
+  front-values kind h = front-standing (valueAt file) kind h
+
+-- The values of the first n records stand where they do: the speeds and the holds behind the record in front, the weights behind them.
 pub record Placed (file : List ℕ) (n : ℕ) : Type 0 where
   pub together : headRecords (editionIn file) + (length (valuesOf processorKind file n) + length (valuesOf taskKind file n)) ≡ n
   pub speeds : tabulate (λ j. valueAt file (headRecords (editionIn file) + j)) (length (valuesOf processorKind file n)) ≡ valuesOf processorKind file n
+  pub holds : tabulate (λ j. holdAt file (headRecords (editionIn file) + j)) (length (holdsAmong file n)) ≡ holdsAmong file n
   pub weights : tabulate (λ j. valueAt file (headRecords (editionIn file) + length (valuesOf processorKind file n) + j)) (length (valuesOf taskKind file n))
       ≡ valuesOf taskKind file n
 
@@ -173,10 +182,12 @@ module _ (file : List ℕ) where
   placed-front : Placed file head
   placed-front =
       let es : valuesOf processorKind file head ≡ [] = front-values file processorKind (λ z. omega arith) in
+      let hs : holdsAmong file head ≡ [] = front-standing file (holdAt file) processorKind (λ z. omega arith) in
       let ws : valuesOf taskKind file head ≡ [] = front-values file taskKind (λ z. omega arith) in
       record {
         together = omega (arith, ap length es, ap length ws);
         speeds = empty (λ j. valueAt file (head + j)) (valuesOf processorKind file head) (ap length es);
+        holds = empty (λ j. holdAt file (head + j)) (holdsAmong file head) (ap length hs);
         weights = empty (λ j. valueAt file (head + length (valuesOf processorKind file head) + j)) (valuesOf taskKind file head) (ap length ws);
       }
 
@@ -187,6 +198,7 @@ module _ (file : List ℕ) where
       record {
         together = omega (arith, ap length more, ap length same, length-append (valuesOf processorKind file n) (valueAt file n ∷ []), q .together);
         speeds = filled (λ j. valueAt file (head + j)) (valuesOf processorKind file n) (valuesOf processorKind file (suc n)) (valueAt file n) more (q .speeds) (ap (valueAt file) (omega (arith, q .together, p .first)));
+        holds = filled (λ j. holdAt file (head + j)) (holdsAmong file n) (holdsAmong file (suc n)) (holdAt file n) (standing-more file (holdAt file) processorKind n (p .kind)) (q .holds) (ap (holdAt file) (omega (arith, q .together, p .first, standing-length file (holdAt file) (valueAt file) processorKind n)));
         weights = empty (λ j. valueAt file (head + length (valuesOf processorKind file (suc n)) + j)) (valuesOf taskKind file (suc n)) (ap length same ∙ p .first);
       }
 
@@ -197,6 +209,7 @@ module _ (file : List ℕ) where
       record {
         together = omega (arith, ap length more, ap length same, length-append (valuesOf taskKind file n) (valueAt file n ∷ []), q .together);
         speeds = ap (λ (l : List ℕ). tabulate (λ j. valueAt file (head + j)) (length l)) same ∙ q .speeds ∙ sym same;
+        holds = let s = standing-same file (holdAt file) processorKind n (omega (arith, t .kind)) in ap (λ (l : List ℕ). tabulate (λ j. holdAt file (head + j)) (length l)) s ∙ q .holds ∙ sym s;
         weights = ap (λ (l : List ℕ). tabulate (λ j. valueAt file (head + length l + j)) (length (valuesOf taskKind file (suc n)))) same ∙ filled (λ j. valueAt file (head + length (valuesOf processorKind file n) + j)) (valuesOf taskKind file n) (valuesOf taskKind file (suc n)) (valueAt file n) more (q .weights) (ap (valueAt file) (omega (arith, q .together)));
       }
 

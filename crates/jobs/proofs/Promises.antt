@@ -5,11 +5,11 @@ use mathlib.Core.List.{List, [], _∷_, List·Memᴰ}
 use lib.Dec.{T}
 use lib.ListN.{length}
 use Rattle.chain.specs.Job.{Edition, Job}
-use Rattle.chain.specs.Refusal.{startupTest, speedsTest, weightsTest, processorsTest, tasksTest, lengthTest, jobTests, callTests, refusal}
+use Rattle.chain.specs.Refusal.{startupTest, speedsTest, weightsTest, processorsTest, tasksTest, lengthTest, holdsTest, jobTests, callTests, refusal}
 use Rattle.chain.proofs.Refusals.{numbersIn, numbers-append, given-number}
 use Rattle.refusals.specs.Inputs.{writeInputs}
 use Rattle.refusals.specs.Answers.{writtenSaid}
-use Rattle.jobs.specs.Parse.{recordCount, multipleTest, formTest, orderTest, placeTest, speedTest, weightTest, workTest, recordTests, recordsTests, speedsOf, weightsOf, fileTests}
+use Rattle.jobs.specs.Parse.{recordCount, multipleTest, formTest, orderTest, placeTest, speedTest, weightTest, workTest, recordTests, recordsTests, speedsOf, holdsOf, weightsOf, fileTests}
 use Rattle.jobs.specs.Answers.{readSaid, readTests, readRefusal, readAnswer, writeAnswer}
 use Rattle.jobs.proofs.Calls.{read-number, write-number}
 
@@ -31,16 +31,16 @@ module _ (file : List ℕ) where
       (records-in (recordCount file)) tt
 
 -- Reading: 0, or one of those.
-pub read-numbers : (file : List ℕ) (lentSpeeds lentWeights : ℕ)
-    → List·Memᴰ ((readSaid (readAnswer file lentSpeeds lentWeights)) .number) (0 ∷ 2 ∷ 3 ∷ 4 ∷ 15 ∷ 5 ∷ 6 ∷ 16 ∷ 7 ∷ 8 ∷ 9 ∷ [])
+pub read-numbers : (file : List ℕ) (lentSpeeds lentHolds lentWeights : ℕ)
+    → List·Memᴰ ((readSaid (readAnswer file lentSpeeds lentHolds lentWeights)) .number) (0 ∷ 2 ∷ 3 ∷ 4 ∷ 15 ∷ 5 ∷ 6 ∷ 16 ∷ 7 ∷ 8 ∷ 9 ∷ [])
 unfolding readRefusal readTests lengthTest
-read-numbers file a b =
-    given-number fromTwo (readTests file a b) (read-number file a b)
-    (numbers-append fromTwo (fileTests file) (lengthTest (length (weightsOf file)) b ∷ lengthTest (length (speedsOf file)) a ∷ []) (file-in file) tt)
+read-numbers file a b c =
+    given-number fromTwo (readTests file a b c) (read-number file a b c)
+    (numbers-append fromTwo (fileTests file) (lengthTest (length (weightsOf file)) c ∷ lengthTest (length (speedsOf file)) a ∷ lengthTest (length (holdsOf file)) b ∷ []) (file-in file) tt)
 
 -- Writing: 0, 16, or one of 5 to 9.
 pub write-numbers : (edition : Edition) (job : Job) (lent : ℕ)
     → List·Memᴰ ((writtenSaid (writeAnswer edition job lent)) .number) (0 ∷ 16 ∷ 5 ∷ 6 ∷ 7 ∷ 8 ∷ 9 ∷ [])
-unfolding refusal callTests jobTests startupTest speedsTest weightsTest processorsTest tasksTest lengthTest
+unfolding refusal callTests jobTests startupTest speedsTest weightsTest processorsTest tasksTest holdsTest lengthTest
 write-numbers edition job lent =
     given-number (16 ∷ 5 ∷ 6 ∷ 7 ∷ 8 ∷ 9 ∷ []) (callTests job (writeInputs edition job lent)) (write-number edition job lent) tt

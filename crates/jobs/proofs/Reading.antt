@@ -16,16 +16,22 @@ use Rattle.chain.specs.Refusal.{Test, test, between, processorsTest, tasksTest,
 use Rattle.chain.specs.Job.{editionOf}
 use Rattle.refusals.specs.Inputs.{headRecords}
 use Rattle.refusals.specs.Answers.{lentAfter}
-use Rattle.jobs.specs.Parse.{recordCount, valueAt, multipleTest, recordsTests, secondIn, editionIn, startupIn, speedsOf, weightsOf, fileTests, fileRefusal}
-use Rattle.jobs.specs.Answers.{answerOf, readTests, readRefusal, readAnswer, readSpeeds, readWeights}
+use Rattle.jobs.specs.JobFile.{processorKind}
+use Rattle.jobs.specs.Parse.{recordCount, valueAt, holdAt, multipleTest, recordsTests, secondIn, editionIn, startupIn, speedsOf, holdsOf, weightsOf, fileTests, fileRefusal}
+use Rattle.jobs.specs.Answers.{answerOf, readTests, readRefusal, readAnswer, readSpeeds, readHolds, readWeights}
 use Rattle.jobs.specs.Inner.{recordsRefusal, Counted, Reads}
 use Rattle.jobs.specs.declared.JobRead.{JobRead}
 use Rattle.chain.proofs.Refusals.{Numbered, numbered-nil, numbered-cons, first-refusal-append, first-refusal-before}
 use Rattle.refusals.proofs.Steps.{fails, passes, passed-all}
-use Rattle.jobs.proofs.AllRecords.{records-numbered, multiple-fails, multiple-passes, answer-refused, answer-read}
+use Rattle.jobs.proofs.AllRecords.{records-numbered, standing-length, multiple-fails, multiple-passes, answer-refused, answer-read}
 use Rattle.jobs.proofs.Passed.{NoFront, Front, front, kind-some, Placed, placed}
 use Rattle.refusals.proofs.Lent.{lent-refused, lent-accepted}
 use Rattle.refusals.proofs.Editions.{edition-effective}
+
+-- A file has as many holds as speeds.
+pub holds-length : (file : List ℕ) → length (holdsOf file) ≡ length (speedsOf file)
+unfolding holdsOf speedsOf
+holds-length file = standing-length file (holdAt file) (valueAt file) processorKind (recordCount file)
 
 module _ (file : List ℕ) where
   -- The tests of the length and of the records.
@@ -136,6 +142,12 @@ module _ (file : List ℕ) where
           ap₂ (λ (h p : ℕ). tabulate (λ j. valueAt file (h + j)) p ++ drop p es) counted-head (a .speeds)
           ∙ ap (λ (l : List ℕ). l ++ drop (length (speedsOf file)) es) (held .speeds)
 
+      holds-from : (hs : List ℕ) → tabulate (λ j. holdAt file (h + j)) p ++ drop p hs ≡ holdsOf file ++ drop (length (holdsOf file)) hs
+      unfolding holdsOf
+      holds-from hs =
+          ap₂ (λ (h p : ℕ). tabulate (λ j. holdAt file (h + j)) p ++ drop p hs) counted-head (a .speeds ∙ sym (holds-length file))
+          ∙ ap (λ (l : List ℕ). l ++ drop (length (holdsOf file)) hs) (held .holds)
+
       weights-from : (ws : List ℕ) → tabulate (λ j. valueAt file (h + p + j)) t ++ drop t ws ≡ weightsOf file ++ drop (length (weightsOf file)) ws
       unfolding speedsOf weightsOf
       weights-from ws =
@@ -157,76 +169,101 @@ module _ (file : List ℕ) where
   file-counts e = file-is ∙ to-counts [] e
 
   -- Reading's own tests.
-  module _ (lentSpeeds lentWeights : ℕ) where
+  module _ (lentSpeeds lentHolds lentWeights : ℕ) where
     lent : List Test
-    lent = lengthTest (length (weightsOf file)) lentWeights ∷ lengthTest (length (speedsOf file)) lentSpeeds ∷ []
+    lent =
+        lengthTest (length (weightsOf file)) lentWeights ∷ lengthTest (length (speedsOf file)) lentSpeeds ∷ lengthTest (length (holdsOf file)) lentHolds ∷ []
 
-    read-is : readRefusal file lentSpeeds lentWeights ≡ firstRefusal (later lent)
+    read-is : readRefusal file lentSpeeds lentHolds lentWeights ≡ firstRefusal (later lent)
     unfolding readRefusal readTests fileTests later early counts lent
     read-is =
         ap (λ (l : List Test). firstRefusal (multipleTest file ∷ l)) (append-assoc (recordsTests file (recordCount file)) counts lent)
 
-  -- The three results of a call, by its refusal.
-  module _ (es ws : List ℕ) where
-    refused : {n : ℕ} → readRefusal file (length es) (length ws) ≡ n → n ≢ 0 → Reads file es ws (JobRead.Refused n) es ws
-    unfolding readAnswer readSpeeds readWeights
+  -- The results of a call, by its refusal.
+  module _ (es hs ws : List ℕ) where
+    abbrev number : ℕ
+    number = readRefusal file (length es) (length hs) (length ws)
+
+    abbrev lists : List Test
+    lists = lent (length es) (length hs) (length ws)
+
+    refused : {n : ℕ} → number ≡ n → n ≢ 0 → Reads file es hs ws (JobRead.Refused n) es hs ws
+    unfolding readAnswer readSpeeds readHolds readWeights
     refused {n} e h =
         record {
           answers = answer-refused file e h;
           into-speeds = sym (ap (λ (k : ℕ). lentAfter k (speedsOf file) es) e ∙ lent-refused h (speedsOf file) es);
+          into-holds = sym (ap (λ (k : ℕ). lentAfter k (holdsOf file) hs) e ∙ lent-refused h (holdsOf file) hs);
           into-weights = sym (ap (λ (k : ℕ). lentAfter k (weightsOf file) ws) e ∙ lent-refused h (weightsOf file) ws);
         }
 
     -- The length and the records.
     pub read-refused : {n : ℕ} {r : JobRead} → r ≡ answerOf (recordsRefusal file) file → r ≡ JobRead.Refused n
-        → (JobRead.Refused n ≡ readAnswer file (length es) (length ws)) × ((es ≡ readSpeeds file es ws) × (ws ≡ readWeights file es ws))
+        → Reads file es hs ws (JobRead.Refused n) es hs ws
     read-refused {n} d e =
         let b = by-answer d e in
-        let w : Reads file es ws (JobRead.Refused n) es ws = refused (read-is (length es) (length ws) ∙ by-early (lent (length es) (length ws)) (λ z. b .1 (sym (b .0) ∙ z)) ∙ b .0) (b .1) in
-        (w .answers, (w .into-speeds, w .into-weights))
+        refused (read-is (length es) (length hs) (length ws) ∙ by-early lists (λ z. b .1 (sym (b .0) ∙ z)) ∙ b .0) (b .1)
 
     module _ {second : Bool} {startup p t n : ℕ} (a : Counted file second startup p t) (f : n ≡ firstRefusal (test 7 (between 1 maxProcessors p) ∷ test 8 (leb t maxTasks) ∷ [])) where
       -- 7 and 8.
-      pub read-counts : n ≢ 0 → Reads file es ws (JobRead.Refused n) es ws
-      read-counts h = refused (read-is (length es) (length ws) ∙ by-counts a f (lent (length es) (length ws)) h) h
+      pub read-counts : n ≢ 0 → Reads file es hs ws (JobRead.Refused n) es hs ws
+      read-counts h = refused (read-is (length es) (length hs) (length ws) ∙ by-counts a f lists h) h
 
-      past : n ≡ 0 → readRefusal file (length es) (length ws) ≡ firstRefusal (lent (length es) (length ws))
-      past z = read-is (length es) (length ws) ∙ to-lent a f (lent (length es) (length ws)) z
+      past : n ≡ 0 → number ≡ firstRefusal lists
+      past z = read-is (length es) (length hs) (length ws) ∙ to-lent a f lists z
 
       -- 9.
-      pub read-short-weights : n ≡ 0 → length ws < t → Reads file es ws (JobRead.Refused 9) es ws
+      pub read-short-weights : n ≡ 0 → length ws < t → Reads file es hs ws (JobRead.Refused 9) es hs ws
       unfolding lent lengthTest
       read-short-weights z h =
           refused
           (past z
-          ∙ fails 9 (lengthTest (length (speedsOf file)) (length es) ∷ []) (lt-leb (length (weightsOf file)) (length ws) (omega (arith, a .weights))))
+          ∙ fails 9 (lengthTest (length (speedsOf file)) (length es) ∷ lengthTest (length (holdsOf file)) (length hs) ∷ []) (lt-leb (length (weightsOf file)) (length ws) (omega (arith, a .weights))))
           (omega arith)
 
-      fits-weights : n ≡ 0 → t ≤ length ws → readRefusal file (length es) (length ws) ≡ firstRefusal (lengthTest (length (speedsOf file)) (length es) ∷ [])
-      unfolding lent lengthTest
-      fits-weights z h =
-          past z
-          ∙ passes 9 (lengthTest (length (speedsOf file)) (length es) ∷ []) (le-leb (length (weightsOf file)) (length ws) (omega (arith, a .weights)))
+      module _ (z : n ≡ 0) (h : t ≤ length ws) where
+        fits-weights : number ≡ firstRefusal (lengthTest (length (speedsOf file)) (length es) ∷ lengthTest (length (holdsOf file)) (length hs) ∷ [])
+        unfolding lent lengthTest
+        fits-weights =
+            past z
+            ∙ passes 9 (lengthTest (length (speedsOf file)) (length es) ∷ lengthTest (length (holdsOf file)) (length hs) ∷ []) (le-leb (length (weightsOf file)) (length ws) (omega (arith, a .weights)))
 
-      pub read-short-speeds : n ≡ 0 → t ≤ length ws → length es < p → Reads file es ws (JobRead.Refused 9) es ws
-      unfolding lengthTest
-      read-short-speeds z h k =
-          refused (fits-weights z h ∙ fails 9 [] (lt-leb (length (speedsOf file)) (length es) (omega (arith, a .speeds)))) (omega arith)
+        pub read-short-speeds : length es < p → Reads file es hs ws (JobRead.Refused 9) es hs ws
+        unfolding lengthTest
+        read-short-speeds k =
+            refused
+            (fits-weights
+            ∙ fails 9 (lengthTest (length (holdsOf file)) (length hs) ∷ []) (lt-leb (length (speedsOf file)) (length es) (omega (arith, a .speeds))))
+            (omega arith)
 
-      -- Counted: the values behind the record in front, and those behind the speeds.
-      pub read-all : n ≡ 0 → t ≤ length ws → p ≤ length es → {head : ℕ} → head ≡ headRecords (editionOf second startup) → {es' ws' : List ℕ}
-          → es' ≡ tabulate (λ j. valueAt file (head + j)) p ++ drop p es → ws' ≡ tabulate (λ j. valueAt file (head + p + j)) t ++ drop t ws
-          → Reads file es ws (JobRead.Read second startup p t) es' ws'
-      unfolding readAnswer readSpeeds readWeights lengthTest
-      read-all z h k e {es'} {ws'} x y =
-          record {
-            answers = answer-read file none (a .second-in) (a .startup-in) (a .speeds) (a .weights);
-            into-speeds = x ∙ speeds-from a e es ∙ sym (ap (λ (k : ℕ). lentAfter k (speedsOf file) es) none ∙ lent-accepted (speedsOf file) es);
-            into-weights = y ∙ weights-from a e ws ∙ sym (ap (λ (k : ℕ). lentAfter k (weightsOf file) ws) none ∙ lent-accepted (weightsOf file) ws);
-          }
-        where
-          none : readRefusal file (length es) (length ws) ≡ 0
-          none = fits-weights z h ∙ passes 9 [] (le-leb (length (speedsOf file)) (length es) (omega (arith, a .speeds))) ∙ passed-all
+        module _ (k : p ≤ length es) where
+          fits-speeds : number ≡ firstRefusal (lengthTest (length (holdsOf file)) (length hs) ∷ [])
+          unfolding lengthTest
+          fits-speeds =
+              fits-weights
+              ∙ passes 9 (lengthTest (length (holdsOf file)) (length hs) ∷ []) (le-leb (length (speedsOf file)) (length es) (omega (arith, a .speeds)))
+
+          pub read-short-holds : length hs < p → Reads file es hs ws (JobRead.Refused 9) es hs ws
+          unfolding lengthTest
+          read-short-holds l =
+              refused (fits-speeds ∙ fails 9 [] (lt-leb (length (holdsOf file)) (length hs) (omega (arith, a .speeds, holds-length file)))) (omega arith)
+
+          -- Counted: the values behind the record in front with their holds, and those behind the speeds.
+          pub read-all : p ≤ length hs → {head : ℕ} → head ≡ headRecords (editionOf second startup) → {es' hs' ws' : List ℕ}
+              → es' ≡ tabulate (λ j. valueAt file (head + j)) p ++ drop p es → hs' ≡ tabulate (λ j. holdAt file (head + j)) p ++ drop p hs
+              → ws' ≡ tabulate (λ j. valueAt file (head + p + j)) t ++ drop t ws → Reads file es hs ws (JobRead.Read second startup p t) es' hs' ws'
+          unfolding readAnswer readSpeeds readHolds readWeights lengthTest
+          read-all l e {es'} {hs'} {ws'} x y w =
+              record {
+                answers = answer-read file none (a .second-in) (a .startup-in) (a .speeds) (a .weights);
+                into-speeds = x ∙ speeds-from a e es ∙ sym (ap (λ (k : ℕ). lentAfter k (speedsOf file) es) none ∙ lent-accepted (speedsOf file) es);
+                into-holds = y ∙ holds-from a e hs ∙ sym (ap (λ (k : ℕ). lentAfter k (holdsOf file) hs) none ∙ lent-accepted (holdsOf file) hs);
+                into-weights = w ∙ weights-from a e ws ∙ sym (ap (λ (k : ℕ). lentAfter k (weightsOf file) ws) none ∙ lent-accepted (weightsOf file) ws);
+              }
+            where
+              none : number ≡ 0
+              none =
+                  fits-speeds ∙ passes 9 [] (le-leb (length (holdsOf file)) (length hs) (omega (arith, a .speeds, holds-length file))) ∙ passed-all
 
 -- For `search`: at each return the law that its tests meet.
-pub ruleset read-laws = (read-counts, read-short-weights, read-short-speeds, read-all)
+pub ruleset read-laws = (read-counts, read-short-weights, read-short-speeds, read-short-holds, read-all)

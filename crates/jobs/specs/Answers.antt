@@ -10,7 +10,7 @@ use Rattle.refusals.specs.Inputs.{bytesNeeded, writeInputs}
 use Rattle.refusals.specs.Answers.{Said, accepting, alone, writtenOf, lentAfter}
 use Rattle.refusals.specs.declared.Written.{Written}
 use Rattle.jobs.specs.JobFile.{jobBytes}
-use Rattle.jobs.specs.Parse.{secondIn, startupIn, speedsOf, weightsOf, fileTests}
+use Rattle.jobs.specs.Parse.{secondIn, startupIn, speedsOf, holdsOf, weightsOf, fileTests}
 use Rattle.jobs.specs.declared.JobRead.{JobRead}
 
 -- Reading says the edition, 1 or 2, the start-up work that counts, P and N.
@@ -25,24 +25,28 @@ answerOf number file =
     cond (eqb number 0) (JobRead.Read (secondIn file) (startupIn file) (length (speedsOf file)) (length (weightsOf file)))
     (JobRead.Refused number)
 
--- Reading. Scope 8.7: "on reading, P speeds and N weights". The lists of speeds and weights that are lent have these lengths.
-unfoldable pub readTests : List ℕ → ℕ → ℕ → List Test
-readTests file lentSpeeds lentWeights =
+-- Reading. Scope 8.7: "on reading, P speeds and N weights; P holds, on reading and wherever a job comes as lists". The lists of speeds,
+-- holds and weights that are lent have these lengths.
+unfoldable pub readTests : List ℕ → ℕ → ℕ → ℕ → List Test
+readTests file lentSpeeds lentHolds lentWeights =
     fileTests file
-    ++ lengthTest (length (weightsOf file)) lentWeights ∷ lengthTest (length (speedsOf file)) lentSpeeds ∷ []
+    ++ lengthTest (length (weightsOf file)) lentWeights ∷ lengthTest (length (speedsOf file)) lentSpeeds ∷ lengthTest (length (holdsOf file)) lentHolds ∷ []
 
-unfoldable pub readRefusal : List ℕ → ℕ → ℕ → ℕ
-readRefusal file lentSpeeds lentWeights = firstRefusal (readTests file lentSpeeds lentWeights)
+unfoldable pub readRefusal : List ℕ → ℕ → ℕ → ℕ → ℕ
+readRefusal file lentSpeeds lentHolds lentWeights = firstRefusal (readTests file lentSpeeds lentHolds lentWeights)
 
-unfoldable pub readAnswer : List ℕ → ℕ → ℕ → JobRead
-readAnswer file lentSpeeds lentWeights = answerOf (readRefusal file lentSpeeds lentWeights) file
+unfoldable pub readAnswer : List ℕ → ℕ → ℕ → ℕ → JobRead
+readAnswer file lentSpeeds lentHolds lentWeights = answerOf (readRefusal file lentSpeeds lentHolds lentWeights) file
 
--- The list of speeds, and that of weights, after reading.
-unfoldable pub readSpeeds : List ℕ → List ℕ → List ℕ → List ℕ
-readSpeeds file speeds weights = lentAfter (readRefusal file (length speeds) (length weights)) (speedsOf file) speeds
+-- The list of speeds, that of holds and that of weights after reading.
+unfoldable pub readSpeeds : List ℕ → List ℕ → List ℕ → List ℕ → List ℕ
+readSpeeds file speeds holds weights = lentAfter (readRefusal file (length speeds) (length holds) (length weights)) (speedsOf file) speeds
 
-unfoldable pub readWeights : List ℕ → List ℕ → List ℕ → List ℕ
-readWeights file speeds weights = lentAfter (readRefusal file (length speeds) (length weights)) (weightsOf file) weights
+unfoldable pub readHolds : List ℕ → List ℕ → List ℕ → List ℕ → List ℕ
+readHolds file speeds holds weights = lentAfter (readRefusal file (length speeds) (length holds) (length weights)) (holdsOf file) holds
+
+unfoldable pub readWeights : List ℕ → List ℕ → List ℕ → List ℕ → List ℕ
+readWeights file speeds holds weights = lentAfter (readRefusal file (length speeds) (length holds) (length weights)) (weightsOf file) weights
 
 -- Writing: the count of bytes, or the number of the refusal.
 unfoldable pub writeAnswer : Edition → Job → ℕ → Written

@@ -8,7 +8,7 @@ use Rattle.chain.specs.Job.{tasks, processors}
 use Rattle.chain.specs.Refusal.{firstRefusal}
 use Rattle.refusals.specs.Inputs.{headRecords}
 use Rattle.jobs.specs.Parse.{recordCount, multipleTest, recordsTests, secondIn, editionIn, startupIn, jobIn}
-use Rattle.jobs.specs.Answers.{readAnswer, readSpeeds, readWeights}
+use Rattle.jobs.specs.Answers.{readAnswer, readSpeeds, readHolds, readWeights}
 use Rattle.jobs.specs.declared.JobRead.{JobRead}
 
 -- The tests of a file's length and of its records.
@@ -25,7 +25,8 @@ pub record Counted (file : List ℕ) (second : Bool) (startup P N : ℕ) : Type 
   pub together : headRecords (editionIn file) + (P + N) ≡ recordCount file
 
 -- What `read_job` ensures, of its part that goes on where the first tests pass.
-pub record Reads (file speeds weights : List ℕ) (answer : JobRead) (speeds' weights' : List ℕ) : Type 0 where
-  pub answers : answer ≡ readAnswer file (length speeds) (length weights)
-  pub into-speeds : speeds' ≡ readSpeeds file speeds weights
-  pub into-weights : weights' ≡ readWeights file speeds weights
+pub record Reads (file speeds holds weights : List ℕ) (answer : JobRead) (speeds' holds' weights' : List ℕ) : Type 0 where
+  pub answers : answer ≡ readAnswer file (length speeds) (length holds) (length weights)
+  pub into-speeds : speeds' ≡ readSpeeds file speeds holds weights
+  pub into-holds : holds' ≡ readHolds file speeds holds weights
+  pub into-weights : weights' ≡ readWeights file speeds holds weights

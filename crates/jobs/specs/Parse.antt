@@ -8,7 +8,7 @@ use lib.Dec.{eqb}
 use Rattle.chain.specs.Limits.{maxWeight, maxStartup, maxSpeed}
 use Rattle.chain.specs.Job.{Edition, startupOf, editionOf, Job, jobOf}
 use Rattle.chain.specs.Refusal.{Test, test, between, processorsTest, tasksTest, firstRefusal}
-use Rattle.fields.specs.Field.{fieldAt}
+use Rattle.fields.specs.Field.{fieldAt, halfAt}
 use Rattle.refusals.specs.Inputs.{recordSize}
 use Rattle.jobs.specs.JobFile.{processorKind, taskKind, startupKind}
 
@@ -31,6 +31,13 @@ valuePlace = 4
 unfoldable pub valueAt : List ℕ → ℕ → ℕ
 valueAt file i = fieldAt file (recordSize * i + valuePlace)
 
+-- Scope 18.22: "Bytes 2 and 3 of a machine's record are its hold": the byte of a record at which its hold begins.
+abbrev pub holdPlace : ℕ
+holdPlace = 2
+
+unfoldable pub holdAt : List ℕ → ℕ → ℕ
+holdAt file i = halfAt file (recordSize * i + holdPlace)
+
 -- Record i is of this kind.
 unfoldable pub isKind : ℕ → List ℕ → ℕ → Bool
 isKind kind file i = eqb (kindAt file i) kind
@@ -44,11 +51,11 @@ taskBefore file (suc i) = taskBefore file i || isKind taskKind file i
 unfoldable pub multipleTest : List ℕ → Test
 multipleTest file = test 2 (eqb (length file % recordSize) 0)
 
--- Scope 7.4: "Bytes 1 to 3 are zero."
+-- Scope 18.22: "byte 1 of every record and bytes 2 and 3 of a tile and of start-up work are zero"
 unfoldable pub blank : List ℕ → ℕ → Bool
-blank file i = eqb (byteAt file i 1) 0 && eqb (byteAt file i 2) 0 && eqb (byteAt file i 3) 0
+blank file i = eqb (byteAt file i 1) 0 && (isKind processorKind file i || (eqb (byteAt file i 2) 0 && eqb (byteAt file i 3) 0))
 
--- Refusal 3: "a record's kind is not 1, 2 or 3, or its bytes 1 to 3 are not zero"
+-- Refusal 3: "a record's kind is not 1, 2 or 3, or its byte 1 is not zero, or bytes 2 and 3 of a tile or of start-up work are not zero"
 unfoldable pub formTest : List ℕ → ℕ → Test
 formTest file i = test 3 ((isKind processorKind file i || isKind taskKind file i || isKind startupKind file i) && blank file i)
 
@@ -82,10 +89,17 @@ unfoldable pub recordsTests : List ℕ → ℕ → List Test
 recordsTests file zero = []
 recordsTests file (suc n) = recordsTests file n ++ recordTests file n
 
--- The values of this kind among the first n records, in order.
-unfoldable pub valuesOf : ℕ → List ℕ → ℕ → List ℕ
-valuesOf kind file zero = []
-valuesOf kind file (suc n) = valuesOf kind file n ++ cond (isKind kind file n) (valueAt file n ∷ []) []
+-- What stands in the records of this kind among the first n, in order: f says it by the record's number.
+unfoldable pub standing : (ℕ → ℕ) → ℕ → List ℕ → ℕ → List ℕ
+standing f kind file zero = []
+standing f kind file (suc n) = standing f kind file n ++ cond (isKind kind file n) (f n ∷ []) []
+
+-- Their values, and the holds of the machines.
+abbrev pub valuesOf : ℕ → List ℕ → ℕ → List ℕ
+valuesOf kind file = standing (valueAt file) kind file
+
+abbrev pub holdsAmong : List ℕ → ℕ → List ℕ
+holdsAmong file = standing (holdAt file) processorKind file
 
 -- Scope 17.10: "A job whose first record has kind 3 is of the second edition."
 unfoldable pub secondIn : List ℕ → Bool
@@ -102,11 +116,14 @@ startupIn file = startupOf (editionIn file)
 unfoldable pub speedsOf : List ℕ → List ℕ
 speedsOf file = valuesOf processorKind file (recordCount file)
 
+unfoldable pub holdsOf : List ℕ → List ℕ
+holdsOf file = holdsAmong file (recordCount file)
+
 unfoldable pub weightsOf : List ℕ → List ℕ
 weightsOf file = valuesOf taskKind file (recordCount file)
 
 abbrev pub jobIn : List ℕ → Job
-jobIn file = jobOf (startupIn file) (speedsOf file) (weightsOf file)
+jobIn file = jobOf (startupIn file) (speedsOf file) (holdsOf file) (weightsOf file)
 
 -- The tests of a file, in order: 2; 3, 4, 15, 5, 6 and 16, record by record; 7; 8.
 unfoldable pub fileTests : List ℕ → List Test

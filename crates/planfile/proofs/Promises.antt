@@ -8,7 +8,7 @@ use native.Mathlib.Omega.{arith}
 use lib.ListN.{length, take, drop, List·getD-append}
 use Rattle.chain.specs.Lists.{sumTo}
 use Rattle.chain.specs.Job.{Job, Valid, processors, totalWeight, Partition, busy}
-use Rattle.chain.specs.Refusal.{startupTest, speedsTest, weightsTest, processorsTest, tasksTest, lengthTest, partitionTest, FirstFailing, jobTests, callTests, refusal}
+use Rattle.chain.specs.Refusal.{startupTest, speedsTest, weightsTest, processorsTest, tasksTest, lengthTest, holdsTest, partitionTest, FirstFailing, jobTests, callTests, refusal}
 use Rattle.chain.proofs.Parts.{loads-add-up}
 use Rattle.chain.proofs.Refusals.{gives, given-number}
 use Rattle.chain.proofs.Sums.{sum-same-below}
@@ -35,7 +35,7 @@ module _ (job : Job) (s : List ℕ) (lent : ℕ) where
 
   -- 0, 16, or one of 5 to 9 and 11;
   pub write-plan-numbers : List·Memᴰ ((writtenSaid (writePlanAnswer job s lent)) .number) (0 ∷ 16 ∷ 5 ∷ 6 ∷ 7 ∷ 8 ∷ 9 ∷ 11 ∷ [])
-  unfolding refusal callTests jobTests startupTest speedsTest weightsTest processorsTest tasksTest lengthTest partitionTest
+  unfolding refusal callTests jobTests startupTest speedsTest weightsTest processorsTest tasksTest holdsTest lengthTest partitionTest
   write-plan-numbers =
       given-number (16 ∷ 5 ∷ 6 ∷ 7 ∷ 8 ∷ 9 ∷ 11 ∷ []) (callTests job (writePlanInputs job s lent)) write-plan-number tt
 

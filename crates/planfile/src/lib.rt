@@ -24,6 +24,7 @@ use refusals::test_write_plan;
 fn put_plan_record(
     startup: u32,
     speeds: &[u32],
+    holds: &[u16],
     weights: &[u32],
     sums: &[u32],
     separators: &[u32],
@@ -31,7 +32,7 @@ fn put_plan_record(
     plan: &mut [u8],
 )
     ghost { Job }
-    requires { λ job. ⌜ jobOf startup (now speeds) (now weights) ≡ job ⌝ }
+    requires { λ job. ⌜ jobOf startup (now speeds) (now holds) (now weights) ≡ job ⌝ }
     requires { λ job. ⌜ Ready job (now sums) ⌝ }
     requires { λ job. ⌜ Partition job (take (suc (processors job)) (now separators)) ⌝ }
     requires { λ job. ⌜ (p < processors job) × (planRecordSize * p + planRecordSize ≤ length (now plan)) ⌝ }
@@ -54,13 +55,14 @@ fn put_plan_record(
 pub fn put_plan(
     startup: u32,
     speeds: &[u32],
+    holds: &[u16],
     weights: &[u32],
     sums: &[u32],
     separators: &[u32],
     plan: &mut [u8],
 )
     ghost { Job }
-    requires { λ job. ⌜ jobOf startup (now speeds) (now weights) ≡ job ⌝ }
+    requires { λ job. ⌜ jobOf startup (now speeds) (now holds) (now weights) ≡ job ⌝ }
     requires { λ job. ⌜ Ready job (now sums) ⌝ }
     requires { λ job. ⌜ Partition job (take (suc (processors job)) (now separators)) ⌝ }
     requires { λ job. ⌜ planNeeded job ≤ length (now plan) ⌝ }
@@ -69,7 +71,7 @@ pub fn put_plan(
 {
     let mut p = 0;
     while p < speeds.len() {
-        put_plan_record(startup, speeds, weights, sums, separators, p, plan);
+        put_plan_record(startup, speeds, holds, weights, sums, separators, p, plan);
         p += 1;
     }
 }
@@ -79,24 +81,25 @@ pub fn put_plan(
 fn write_plan_with(
     startup: u32,
     speeds: &[u32],
+    holds: &[u16],
     weights: &[u32],
     separators: &[u32],
     plan: &mut [u8],
 ) -> Written
     ensures answer { λ r.
-        let job = jobOf startup (now (speeds .entry)) (now (weights .entry)) in
+        let job = jobOf startup (now (speeds .entry)) (now (holds .entry)) (now (weights .entry)) in
         ⌜ r ≡ writePlanAnswer job (now (separators .entry)) (length (now (plan .entry))) ⌝ }
     ensures bytes { λ _.
-        let job = jobOf startup (now (speeds .entry)) (now (weights .entry)) in
+        let job = jobOf startup (now (speeds .entry)) (now (holds .entry)) (now (weights .entry)) in
         ⌜ now (plan .exit) ≡ writePlanBytes job (now (separators .entry)) (now (plan .entry)) ⌝ }
 {
-    let number = test_write_plan(startup, speeds, weights, separators, plan.len());
+    let number = test_write_plan(startup, speeds, holds, weights, separators, plan.len());
     if number != 0 {
         return Written::Refused(number);
     }
     let mut sums = [0u32; MAX_TASKS + 1];
     prefix_sums(weights, &mut sums);
-    put_plan(startup, speeds, weights, &sums, separators, plan);
+    put_plan(startup, speeds, holds, weights, &sums, separators, plan);
     Written::Bytes(PLAN_RECORD * speeds.len())
 }
 
@@ -105,20 +108,22 @@ pub fn write_plan(
     second: bool,
     startup: u32,
     speeds: &[u32],
+    holds: &[u16],
     weights: &[u32],
     separators: &[u32],
     plan: &mut [u8],
 ) -> Written
     ensures answer { λ r.
-        let job = jobOf (counts.effective second startup) (now (speeds .entry)) (now (weights .entry)) in
+        let job = jobOf (counts.effective second startup) (now (speeds .entry)) (now (holds .entry)) (now (weights .entry)) in
         ⌜ r ≡ writePlanAnswer job (now (separators .entry)) (length (now (plan .entry))) ⌝ }
     ensures bytes { λ _.
-        let job = jobOf (counts.effective second startup) (now (speeds .entry)) (now (weights .entry)) in
+        let job = jobOf (counts.effective second startup) (now (speeds .entry)) (now (holds .entry)) (now (weights .entry)) in
         ⌜ now (plan .exit) ≡ writePlanBytes job (now (separators .entry)) (now (plan .entry)) ⌝ }
 {
     write_plan_with(
         effective(second, startup),
         speeds,
+        holds,
         weights,
         separators,
         plan,

@@ -6,6 +6,7 @@ use mathlib.Core.Bool.{Bool, cond}
 use mathlib.Core.List.{List, _++_}
 use mathlib.Core.Logic.{_≢_}
 use native.Mathlib.Omega.{arith}
+use native.Mathlib.Decide.{ℕ-discrete}
 use lib.ListN.{length, take, drop, length-append, length-drop}
 use lib.Seq.{drop-append-add, drop-drop}
 use borrow.Author.Tests.{ne-eqb}
@@ -28,11 +29,11 @@ use Rattle.chain.proofs.Demand.{least-bottleneck, method-least, plan-of-best}
 use Rattle.chain.proofs.Ranges.{small-lendable, ideal-lendable, next-bid-small, bottleneck-small}
 use Rattle.refusals.specs.declared.Chosen.{Chosen}
 use Rattle.refusals.specs.declared.Chosen.the-variants.{Known, Unknown}
-use Rattle.refusals.specs.Methods.{chosenOf}
-use Rattle.refusals.specs.Inputs.{scratchNeeded, planLists, planInputs}
+use Rattle.refusals.specs.Methods.{chosenOf, numberOf}
+use Rattle.refusals.specs.Inputs.{scratchNeeded, methodInputs, planInputs}
 use Rattle.refusals.specs.Answers.{lentAfter}
 use Rattle.refusals.proofs.Editions.{edition-effective}
-use Rattle.refusals.proofs.Methods.{known-passes, unknown-fails}
+use Rattle.refusals.proofs.Methods.{chosen-table, chosen-bidding, chosen-bisection, chosen-nicol, chosen-none, known-passes, unknown-fails}
 use Rattle.refusals.proofs.Tests.{plan-known, plan-unknown}
 use Rattle.refusals.proofs.Lent.{lent-front, lent-kept}
 use Rattle.parts.specs.Prefix.{Prefix, prefixes}
@@ -42,7 +43,7 @@ use Rattle.dynamic.specs.Rows.{Tabled}
 use Rattle.planner.specs.declared.Figures.{Figures}
 use Rattle.planner.specs.declared.Planned.{Planned}
 use Rattle.planner.specs.declared.Planned.the-variants.{Accepted, Refused}
-use Rattle.planner.specs.Answers.{planRefusal, listsRefusal, planFigures, plannedOf, methodAnswer, methodWrites, chosenAnswer, planAnswer, planWrites, ScratchAfter}
+use Rattle.planner.specs.Answers.{planRefusal, methodRefusal, planFigures, plannedOf, methodAnswer, methodWrites, chosenAnswer, planAnswer, planWrites, ScratchAfter}
 
 -- What the methods end with, where the method is this one.
 module _ {job : Job} {m : Method} {B : Bound} {n : ℕ} where
@@ -138,20 +139,41 @@ planned-accepted {number} {f} {g} z e = ap (plannedOf 0) e ∙ ap (λ (k : ℕ).
 scratch-stays : (number : ℕ) (job : Job) (t : List ℕ) → ScratchAfter number job t t
 scratch-stays number job t = record { refused = λ h. refl; behind = kept-start (scratchNeeded job) t }
 
+-- A number whose method is known is that method's.
+pub known-number : (n : ℕ) {k : Method} → chosenOf n ≡ Known k → numberOf k ≡ n
+unfolding numberOf
+known-number n {k} e =
+    elim (ℕ-discrete n 1) [
+      | yes x ↦ is Table (chosen-table n x) ∙ sym x
+      | no x ↦ elim (ℕ-discrete n 2) [
+        | yes y ↦ is Bidding (chosen-bidding n y) ∙ sym y
+        | no y ↦ elim (ℕ-discrete n 3) [
+          | yes z ↦ is Bisection (chosen-bisection n z) ∙ sym z
+          | no z ↦ elim (ℕ-discrete n 4) [ yes w ↦ is Nicol (chosen-nicol n w) ∙ sym w | no w ↦ absurd (none (chosen-none n x y z w)) ]
+        ]
+      ]
+    ]
+  where
+    is : (m : Method) → Known m ≡ chosenOf n → numberOf k ≡ numberOf m
+    is m f = let g : k ≡ m = cc in ap numberOf g
+
+    none : Unknown ≡ chosenOf n → ⊥
+    none f = let z : _≡_ {A = ℕ} 0 1 = cc in omega arith
+
 -- What planning by a method answers and leaves.
 module _ (edition : Edition) (job : Job) (method : Method) (s t : List ℕ) where
   abbrev pub ByMethod : Planned → List ℕ → List ℕ → Type 0
   ByMethod r s′ t′ =
-      (r ≡ methodAnswer edition job method s t) × ((s′ ≡ methodWrites job s t) × ScratchAfter (listsRefusal job (length s) (length t)) job t t′)
+      (r ≡ methodAnswer edition job method s t) × ((s′ ≡ methodWrites job method s t) × ScratchAfter (methodRefusal job method (length s) (length t)) job t t′)
 
-  pub method-refused : {n : ℕ} → n ≡ listsRefusal job (length s) (length t) → n ≢ 0 → ByMethod (Refused n) s t
+  pub method-refused : {n : ℕ} → n ≡ methodRefusal job method (length s) (length t) → n ≢ 0 → ByMethod (Refused n) s t
   unfolding methodAnswer methodWrites
   method-refused e h = (
     planned-refused (planFigures edition method job) e h,
-    (lent-kept (planOf job) s e h, scratch-stays (listsRefusal job (length s) (length t)) job t),
+    (lent-kept (planOf job) s e h, scratch-stays (methodRefusal job method (length s) (length t)) job t),
   )
 
-  pub method-accepted : listsRefusal job (length s) (length t) ≡ 0 → Valid job → {f : Figures} {s′ t′ : List ℕ} → f ≡ planFigures edition method job
+  pub method-accepted : methodRefusal job method (length s) (length t) ≡ 0 → Valid job → {f : Figures} {s′ t′ : List ℕ} → f ≡ planFigures edition method job
       → s′ ≡ planOf job ++ drop (suc (processors job)) s → KeptFrom (scratchNeeded job) t t′ → ByMethod (Accepted f) s′ t′
   unfolding methodAnswer methodWrites
   method-accepted z v e g k = (
@@ -177,19 +199,19 @@ module _ (edition : Edition) (job : Job) (m : ℕ) (s t : List ℕ) where
       )
 
   pub number-known : {k : Method} → chosenOf m ≡ Known k → {r : Planned} {s′ t′ : List ℕ} → ByMethod edition job k s t r s′ t′ → ByNumber r s′ t′
-  unfolding planAnswer planWrites planRefusal methodAnswer methodWrites listsRefusal chosenAnswer
+  unfolding planAnswer planWrites planRefusal methodAnswer methodWrites methodRefusal chosenAnswer
   number-known {k} e {r} {s′} {t′} (a, (b, c)) =
-      let z : refusal job (planLists job (length s) (length t)) ≡ refusal job (planInputs job m (length s) (length t)) = plan-known job m (length s) (length t) (known-passes m e) refl in (
+      let z : refusal job (methodInputs job (numberOf k) (length s) (length t)) ≡ refusal job (planInputs job m (length s) (length t)) = ap (λ (i : ℕ). refusal job (methodInputs job i (length s) (length t))) (known-number m e) ∙ plan-known job m (length s) (length t) (known-passes m e) refl in (
         a ∙ ap (λ (n : ℕ). plannedOf n (planFigures edition k job)) z
             ∙ sym (ap (λ (c : Chosen). chosenAnswer edition job c (refusal job (planInputs job m (length s) (length t)))) e),
         (b ∙ ap (λ (n : ℕ). lentAfter n (planOf job) s) z, subst (λ (n : ℕ). ScratchAfter n job t t′) z c),
       )
 
 -- With the start-up work that counts.
-pub number-effective : (second : Bool) (c : ℕ) (es ws : List ℕ) (m : ℕ) (s t : List ℕ) {n : ℕ} {r : Planned} {s′ t′ : List ℕ}
-    → n ≡ effective second c → ByNumber (editionOf second n) (jobOf n es ws) m s t r s′ t′
-    → ByNumber (editionOf second c) (jobOf (effective second c) es ws) m s t r s′ t′
-number-effective second c es ws m s t {n} {r} {s′} {t′} e x =
-    let y : ByNumber (editionOf second (effective second c)) (jobOf (effective second c) es ws) m s t r s′ t′ =
-    subst (λ (k : ℕ). ByNumber (editionOf second k) (jobOf k es ws) m s t r s′ t′) e x in
-    (y .0 ∙ ap (λ (d : Edition). planAnswer d (jobOf (effective second c) es ws) m s t) (edition-effective second c), y .1)
+pub number-effective : (second : Bool) (c : ℕ) (es hs ws : List ℕ) (m : ℕ) (s t : List ℕ) {n : ℕ} {r : Planned} {s′ t′ : List ℕ}
+    → n ≡ effective second c → ByNumber (editionOf second n) (jobOf n es hs ws) m s t r s′ t′
+    → ByNumber (editionOf second c) (jobOf (effective second c) es hs ws) m s t r s′ t′
+number-effective second c es hs ws m s t {n} {r} {s′} {t′} e x =
+    let y : ByNumber (editionOf second (effective second c)) (jobOf (effective second c) es hs ws) m s t r s′ t′ =
+    subst (λ (k : ℕ). ByNumber (editionOf second k) (jobOf k es hs ws) m s t r s′ t′) e x in
+    (y .0 ∙ ap (λ (d : Edition). planAnswer d (jobOf (effective second c) es hs ws) m s t) (edition-effective second c), y .1)

@@ -2,17 +2,19 @@
 -- Assumes nothing.
 use Prim.Native.Nat.{ℕ, _+_, _*_}
 use mathlib.Core.Path.{_≡_, refl, sym, _∙_}
-use mathlib.Core.List.{List, [], _∷_, _++_, List·Memᴰ}
+use mathlib.Core.Bool.{Bool, true, false, cond}
+use mathlib.Core.List.{List, [], _∷_, _++_, map, List·Memᴰ}
 use mathlib.Core.Logic.{_≢_, _↔_}
 use native.Mathlib.Omega.{arith}
+use lib.Dec.{T, eqb}
 use lib.ListN.{length, drop}
 use Rattle.chain.specs.Lists.{sumTo}
 use Rattle.chain.specs.Job.{Edition, Job, Valid, processors, totalWeight, busy}
-use Rattle.chain.specs.Refusal.{methodTest, startupTest, speedsTest, weightsTest, processorsTest, tasksTest, lengthTest, FirstFailing, jobTests, callTests, refusal}
+use Rattle.chain.specs.Refusal.{methodTest, startupTest, speedsTest, weightsTest, processorsTest, tasksTest, lengthTest, holdsTest, enoughTest, freeTest, FirstFailing, jobTests, Inputs, callTests, refusal}
 use Rattle.chain.specs.Plan.{planOf}
 use Rattle.chain.proofs.Demand.{plan-of-best}
 use Rattle.chain.proofs.Parts.{valid-plannable}
-use Rattle.chain.proofs.Refusals.{Numbered, numbered-nil, numbered-cons, numbered-append, gives, given-number, numbers-append, numbers-more, append-accepted}
+use Rattle.chain.proofs.Refusals.{Numbered, numbered-nil, numbered-cons, numbered-append, gives, given-number, numbersIn, numbers-append, numbers-behind, numbers-more, append-accepted}
 use Rattle.fields.specs.Field.{fieldAt}
 use Rattle.jobs.specs.Parse.{startupIn, jobIn, fileTests, fileRefusal}
 use Rattle.jobs.proofs.Calls.{file-numbered}
@@ -21,30 +23,60 @@ use Rattle.jobs.proofs.RoundTrip.{accepted-valid}
 use Rattle.planfile.specs.PlanFile.{planBytes}
 use Rattle.planfile.proofs.Records.{length-plan}
 use Rattle.planfile.proofs.Promises.{lent-loads-add-up}
-use Rattle.refusals.specs.Inputs.{planNeeded, planInputs}
+use Rattle.refusals.specs.Inputs.{planNeeded, planLists, freeBy, planInputs}
 use Rattle.refusals.proofs.Lent.{lent-refused, lent-front}
 use Rattle.planner.specs.Answers.{plannedSaid, planRefusal, planAnswer}
 use Rattle.planner.proofs.Promises.{plan-number}
-use Rattle.planner.specs.HostCall.{hostFileTests, hostTests, hostAnswer, bytesAfter, hostWrites}
+use Rattle.planner.specs.HostCall.{holdTests, hostFileTests, hostTests, hostAnswer, bytesAfter, hostWrites}
 
--- Planning: 0, or one of 1, 16 and 5 to 9; that of the first test that fails.
+-- Planning: 0, or one of 1, 16, 5 to 9, 17 and 18; that of the first test that fails.
 module _ (edition : Edition) (job : Job) (m : ℕ) (s t : List ℕ) where
-  pub plan-numbers : List·Memᴰ ((plannedSaid (planAnswer edition job m s t)) .number) (0 ∷ 1 ∷ 16 ∷ 5 ∷ 6 ∷ 7 ∷ 8 ∷ 9 ∷ [])
-  unfolding planRefusal refusal callTests jobTests methodTest startupTest speedsTest weightsTest processorsTest tasksTest lengthTest
-  plan-numbers = given-number (1 ∷ 16 ∷ 5 ∷ 6 ∷ 7 ∷ 8 ∷ 9 ∷ []) (callTests job (planInputs job m (length s) (length t))) (plan-number edition job m s t) tt
+  pub plan-numbers : List·Memᴰ ((plannedSaid (planAnswer edition job m s t)) .number) (0 ∷ 1 ∷ 16 ∷ 5 ∷ 6 ∷ 7 ∷ 8 ∷ 9 ∷ 17 ∷ 18 ∷ [])
+  unfolding planRefusal refusal callTests jobTests methodTest startupTest speedsTest weightsTest processorsTest tasksTest holdsTest lengthTest enoughTest freeTest freeBy
+  plan-numbers =
+      given-number ours (callTests job (planInputs job m (length s) (length t))) (plan-number edition job m s t) (all (eqb m 4))
+    where
+      ours : List ℕ
+      ours = 1 ∷ 16 ∷ 5 ∷ 6 ∷ 7 ∷ 8 ∷ 9 ∷ 17 ∷ 18 ∷ []
+
+      -- Planning with these jobs for the last test.
+      inputs : List Job → Inputs
+      inputs free =
+          record {
+            methods = m ∷ [];
+            rows = [];
+            lists = (planLists job (length s) (length t)) .lists;
+            keeping = job ∷ [];
+            free = free;
+            bounds = [];
+            divisions = [];
+            plans = [];
+          }
+
+      all : (b : Bool) → T (numbersIn ours (callTests job (inputs (cond b (job ∷ []) []))))
+      all true = unfold callTests jobTests methodTest startupTest speedsTest weightsTest processorsTest tasksTest holdsTest lengthTest enoughTest freeTest in tt
+      all false = unfold callTests jobTests methodTest startupTest speedsTest weightsTest processorsTest tasksTest holdsTest lengthTest enoughTest in tt
 
   pub plan-gives : {n : ℕ} → n ≢ 0
       → ((plannedSaid (planAnswer edition job m s t)) .number ≡ n) ↔ FirstFailing (callTests job (planInputs job m (length s) (length t))) n
   unfolding planRefusal refusal
   plan-gives h = gives (callTests job (planInputs job m (length s) (length t))) (plan-number edition job m s t) h
 
--- The C call: 0, or one of 1 to 9, 15 and 16; that of the first test that fails.
+-- The C call: 0, or one of 1 to 9, 15, 16, 17 and 18; that of the first test that fails.
 module _ (file : List ℕ) (m lent : ℕ) where
-  pub host-numbers : List·Memᴰ (hostAnswer file m lent) (0 ∷ 1 ∷ 2 ∷ 3 ∷ 4 ∷ 15 ∷ 5 ∷ 6 ∷ 16 ∷ 7 ∷ 8 ∷ 9 ∷ [])
-  unfolding hostAnswer hostTests hostFileTests methodTest lengthTest
+  pub host-numbers : List·Memᴰ (hostAnswer file m lent) (0 ∷ 1 ∷ 2 ∷ 3 ∷ 4 ∷ 15 ∷ 5 ∷ 6 ∷ 16 ∷ 7 ∷ 8 ∷ 9 ∷ 17 ∷ 18 ∷ [])
+  unfolding hostAnswer hostTests hostFileTests holdTests methodTest lengthTest enoughTest freeTest freeBy
   host-numbers =
-      given-number (1 ∷ fromTwo) (hostTests file m lent) refl
-      (numbers-append (1 ∷ fromTwo) (fileTests file) (lengthTest (planNeeded (jobIn file)) lent ∷ []) (numbers-more 1 fromTwo (fileTests file) (file-in file)) tt)
+      given-number (1 ∷ ours) (hostTests file m lent) refl
+      (numbers-append (1 ∷ ours) (fileTests file) (lengthTest (planNeeded (jobIn file)) lent ∷ holdTests m (jobIn file))
+      (numbers-more 1 ours (fileTests file) (numbers-behind fromTwo (17 ∷ 18 ∷ []) (fileTests file) (file-in file))) (free (eqb m 4)))
+    where
+      ours : List ℕ
+      ours = fromTwo ++ 17 ∷ 18 ∷ []
+
+      free : (b : Bool) → T (numbersIn (1 ∷ ours) (lengthTest (planNeeded (jobIn file)) lent ∷ enoughTest (jobIn file) ∷ map freeTest (cond b (jobIn file ∷ []) [])))
+      free true = unfold lengthTest enoughTest freeTest in tt
+      free false = unfold lengthTest enoughTest in tt
 
   pub host-gives : {n : ℕ} → n ≢ 0 → (hostAnswer file m lent ≡ n) ↔ FirstFailing (hostTests file m lent) n
   unfolding hostAnswer
@@ -71,7 +103,7 @@ pub host-file : (file : List ℕ) (m lent : ℕ) → hostAnswer file m lent ≡ 
 unfolding hostAnswer hostTests hostFileTests fileRefusal methodTest
 host-file file m lent e =
     let numbered : Numbered (methodTest m ∷ []) = numbered-cons (omega arith) numbered-nil in
-    let front = append-accepted (methodTest m ∷ fileTests file) (lengthTest (planNeeded (jobIn file)) lent ∷ []) (numbered-append numbered (file-numbered file)) e .0 in
+    let front = append-accepted (methodTest m ∷ fileTests file) (lengthTest (planNeeded (jobIn file)) lent ∷ holdTests m (jobIn file)) (numbered-append numbered (file-numbered file)) e .0 in
     append-accepted (methodTest m ∷ []) (fileTests file) numbered front .1
 
 pub host-valid : (file : List ℕ) (m lent : ℕ) → hostAnswer file m lent ≡ 0 → Valid (jobIn file)

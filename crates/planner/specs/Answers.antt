@@ -12,8 +12,8 @@ use Rattle.chain.specs.Plan.{planOf, allowance, countBy, imbalance}
 use Rattle.chain.specs.Refusal.{refusal}
 use Rattle.refusals.specs.declared.Chosen.{Chosen}
 use Rattle.refusals.specs.declared.Chosen.the-variants.{Known, Unknown}
-use Rattle.refusals.specs.Methods.{chosenOf}
-use Rattle.refusals.specs.Inputs.{scratchNeeded, planLists, planInputs}
+use Rattle.refusals.specs.Methods.{chosenOf, numberOf}
+use Rattle.refusals.specs.Inputs.{scratchNeeded, methodInputs, planInputs}
 use Rattle.refusals.specs.Answers.{Said, accepting, alone, boundValues, lentAfter}
 use Rattle.parts.specs.Kept.{KeptFrom}
 use Rattle.planner.specs.declared.Figures.{Figures}
@@ -32,9 +32,9 @@ plannedSaid (Refused number) = alone number
 unfoldable pub planRefusal : Job → ℕ → ℕ → ℕ → ℕ
 planRefusal job m separators scratch = refusal job (planInputs job m separators scratch)
 
--- The same, the method apart.
-unfoldable pub listsRefusal : Job → ℕ → ℕ → ℕ
-listsRefusal job separators scratch = refusal job (planLists job separators scratch)
+-- The same by a method that is known.
+unfoldable pub methodRefusal : Job → Method → ℕ → ℕ → ℕ
+methodRefusal job method separators scratch = refusal job (methodInputs job (numberOf method) separators scratch)
 
 -- Scope 6.1: "A plan carries its separators, its count, its allowance, the bottleneck of its separators and its imbalance." Of a job of this
 -- edition.
@@ -49,10 +49,10 @@ plannedOf number figures = cond (eqb number 0) (Accepted figures) (Refused numbe
 
 -- The answer by a method that is known, and the separators then. The lists s of separators and t of work numbers are lent.
 unfoldable pub methodAnswer : Edition → Job → Method → List ℕ → List ℕ → Planned
-methodAnswer edition job method s t = plannedOf (listsRefusal job (length s) (length t)) (planFigures edition method job)
+methodAnswer edition job method s t = plannedOf (methodRefusal job method (length s) (length t)) (planFigures edition method job)
 
-unfoldable pub methodWrites : Job → List ℕ → List ℕ → List ℕ
-methodWrites job s t = lentAfter (listsRefusal job (length s) (length t)) (planOf job) s
+unfoldable pub methodWrites : Job → Method → List ℕ → List ℕ → List ℕ
+methodWrites job method s t = lentAfter (methodRefusal job method (length s) (length t)) (planOf job) s
 
 -- The answer by what the method's number stands for, and the number of the refusal.
 unfoldable pub chosenAnswer : Edition → Job → Chosen → ℕ → Planned

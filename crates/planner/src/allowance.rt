@@ -44,9 +44,9 @@ fn least_of(values: &[u32]) -> u32
 }
 
 // D, the heaviest weight and the start-up work, times the fastest speed squared, over the slowest speed. Inner.
-fn difference_of(startup: u32, speeds: &[u32], weights: &[u32]) -> u64
+fn difference_of(startup: u32, speeds: &[u32], holds: &[u16], weights: &[u32]) -> u64
     ghost { Job }
-    requires { λ job. ⌜ jobOf startup (now speeds) (now weights) ≡ job ⌝ }
+    requires { λ job. ⌜ jobOf startup (now speeds) (now holds) (now weights) ≡ job ⌝ }
     requires { λ job. ⌜ Valid job ⌝ }
     ensures { λ job r. ⌜ r ≡ difference job ⌝ }
 {
@@ -87,10 +87,11 @@ pub fn allowance_of(
     second: bool,
     startup: u32,
     speeds: &[u32],
+    holds: &[u16],
     weights: &[u32],
 ) -> u32
     ghost { Job }
-    requires { λ job. ⌜ jobOf startup (now speeds) (now weights) ≡ job ⌝ }
+    requires { λ job. ⌜ jobOf startup (now speeds) (now holds) (now weights) ≡ job ⌝ }
     requires { λ job. ⌜ Valid job ⌝ }
     ensures { λ job r. ⌜ r ≡ allowance (editionOf second startup) method job ⌝ }
 {
@@ -99,7 +100,7 @@ pub fn allowance_of(
     match method {
         Method::Table => most as u32,
         Method::Bidding => bidding_allowance(second, last, most),
-        Method::Bisection => 1 + digits_of(difference_of(startup, speeds, weights)),
+        Method::Bisection => 1 + digits_of(difference_of(startup, speeds, holds, weights)),
         Method::Nicol => last as u32 * digits_of(weights.len() as u64),
     }
 }

@@ -11,12 +11,13 @@ use bound::Bound;
 pub fn imbalance_of(
     startup: u32,
     speeds: &[u32],
+    holds: &[u16],
     weights: &[u32],
     total: u64,
     bottleneck: Bound,
 ) -> u64
     ghost { Job }
-    requires { λ job. ⌜ jobOf startup (now speeds) (now weights) ≡ job ⌝ }
+    requires { λ job. ⌜ jobOf startup (now speeds) (now holds) (now weights) ≡ job ⌝ }
     requires { λ job. ⌜ Valid job ⌝ }
     requires { λ job. ⌜ (total ≡ sum (now weights)) × Small bottleneck × (ideal job ≼ bottleneck) ⌝ }
     ensures { λ job r. ⌜ r ≡ imbalance job bottleneck ⌝ }

@@ -11,7 +11,7 @@ ghost use Rattle.chain.specs.Probe.{walk};
 ghost use Rattle.refusals.specs.Inputs.{scratchNeeded};
 ghost use Rattle.parts.specs.Prefix.{Ready};
 ghost use Rattle.parts.specs.Kept.{KeptFrom};
-ghost use Rattle.planner.specs.Answers.{planRefusal, listsRefusal, planFigures, methodAnswer, methodWrites};
+ghost use Rattle.planner.specs.Answers.{planRefusal, methodRefusal, planFigures, methodAnswer, methodWrites};
 ghost use Rattle.planner.specs.Answers.{planAnswer, planWrites, ScratchAfter};
 
 mod allowance;
@@ -39,7 +39,7 @@ use refusals::MAX_TASKS;
 use refusals::SCRATCH_LISTS;
 use refusals::choose;
 use refusals::effective;
-use refusals::test_plan;
+use refusals::test_method;
 
 // The most separators and work numbers that any plan takes.
 pub const SEPARATORS: usize = MAX_PROCESSORS + 1;
@@ -65,12 +65,13 @@ fn run_method(
     method: Method,
     startup: u32,
     speeds: &[u32],
+    holds: &[u16],
     weights: &[u32],
     separators: &mut [u32],
     scratch: &mut [u32],
 ) -> Found
     ghost { Job }
-    requires { λ job. ⌜ jobOf startup (now speeds) (now weights) ≡ job ⌝ }
+    requires { λ job. ⌜ jobOf startup (now speeds) (now holds) (now weights) ≡ job ⌝ }
     requires { λ job. ⌜ Ready job (now scratch) ⌝ }
     requires { λ job. ⌜ (processors job < length (now separators)) × (scratchNeeded job ≤ length (now scratch)) ⌝ }
     ensures { λ job r. ⌜ MethodEnds method job (r .count) (r .bound) ⌝ }
@@ -80,10 +81,10 @@ fn run_method(
     ensures { λ job r. ⌜ KeptFrom (scratchNeeded job) (now (scratch .entry)) (now (scratch .exit)) ⌝ }
 {
     match method {
-        Method::Table => table_in(startup, speeds, weights, scratch),
-        Method::Bidding => bidding_in(startup, speeds, weights, scratch, separators),
-        Method::Bisection => bisection_in(startup, speeds, weights, scratch, separators),
-        Method::Nicol => nicol_in(startup, speeds, weights, scratch, separators),
+        Method::Table => table_in(startup, speeds, holds, weights, scratch),
+        Method::Bidding => bidding_in(startup, speeds, holds, weights, scratch, separators),
+        Method::Bisection => bisection_in(startup, speeds, holds, weights, scratch, separators),
+        Method::Nicol => nicol_in(startup, speeds, holds, weights, scratch, separators),
     }
 }
 
@@ -91,20 +92,21 @@ fn run_method(
 fn close_walk(
     startup: u32,
     speeds: &[u32],
+    holds: &[u16],
     weights: &[u32],
     sums: &[u32],
     bound: Bound,
     separators: &mut [u32],
 )
     ghost { Job }
-    requires { λ job. ⌜ jobOf startup (now speeds) (now weights) ≡ job ⌝ }
+    requires { λ job. ⌜ jobOf startup (now speeds) (now holds) (now weights) ≡ job ⌝ }
     requires { λ job. ⌜ Ready job (now sums) ⌝ }
     requires { λ job. ⌜ processors job < length (now separators) ⌝ }
     requires { λ job. ⌜ walk job bound ≡ planOf job ⌝ }
     requires { λ job. ⌜ Lendable bound ⌝ }
     ensures { λ job _. ⌜ now (separators .exit) ≡ planOf job ++ drop (suc (processors job)) (now (separators .entry)) ⌝ }
 {
-    probe_in(startup, speeds, weights, sums, bound, separators);
+    probe_in(startup, speeds, holds, weights, sums, bound, separators);
 }
 
 // Inner. The closing walk, and the figures of the plan.
@@ -113,13 +115,14 @@ fn close_plan(
     second: bool,
     startup: u32,
     speeds: &[u32],
+    holds: &[u16],
     weights: &[u32],
     sums: &[u32],
     found: Found,
     separators: &mut [u32],
 ) -> Figures
     ghost { Job }
-    requires { λ job. ⌜ jobOf startup (now speeds) (now weights) ≡ job ⌝ }
+    requires { λ job. ⌜ jobOf startup (now speeds) (now holds) (now weights) ≡ job ⌝ }
     requires { λ job. ⌜ Ready job (now sums) ⌝ }
     requires { λ job. ⌜ processors job < length (now separators) ⌝ }
     requires { λ job. ⌜ MethodEnds method job (found .count) (found .bound) ⌝ }
@@ -129,11 +132,11 @@ fn close_plan(
 {
     let bound = found.bound;
     let count = found.count;
-    close_walk(startup, speeds, weights, sums, bound, separators);
-    let bottleneck = measure_in(startup, speeds, weights, sums, separators);
+    close_walk(startup, speeds, holds, weights, sums, bound, separators);
+    let bottleneck = measure_in(startup, speeds, holds, weights, sums, separators);
     let total = wide(sums[weights.len()]);
-    let allowance = allowance_of(method, second, startup, speeds, weights);
-    let imbalance = imbalance_of(startup, speeds, weights, total, bottleneck);
+    let allowance = allowance_of(method, second, startup, speeds, holds, weights);
+    let imbalance = imbalance_of(startup, speeds, holds, weights, total, bottleneck);
     Figures {
         count,
         allowance,
@@ -148,12 +151,13 @@ pub fn plan_in(
     second: bool,
     startup: u32,
     speeds: &[u32],
+    holds: &[u16],
     weights: &[u32],
     separators: &mut [u32],
     scratch: &mut [u32],
 ) -> Figures
     ghost { Job }
-    requires { λ job. ⌜ jobOf startup (now speeds) (now weights) ≡ job ⌝ }
+    requires { λ job. ⌜ jobOf startup (now speeds) (now holds) (now weights) ≡ job ⌝ }
     requires { λ job. ⌜ Valid job ⌝ }
     requires { λ job. ⌜ (processors job < length (now separators)) × (scratchNeeded job ≤ length (now scratch)) ⌝ }
     ensures { λ job r. ⌜ r ≡ planFigures (editionOf second startup) method job ⌝ }
@@ -162,12 +166,13 @@ pub fn plan_in(
     ensures { λ job _. ⌜ Ready job (now (scratch .exit)) ⌝ }
 {
     prefix_sums(weights, scratch);
-    let found = run_method(method, startup, speeds, weights, separators, scratch);
+    let found = run_method(method, startup, speeds, holds, weights, separators, scratch);
     close_plan(
         method,
         second,
         startup,
         speeds,
+        holds,
         weights,
         scratch,
         found,
@@ -175,28 +180,37 @@ pub fn plan_in(
     )
 }
 
-// Plans a job by a method that is known: the plan, or the refusal: 16, 5, 6, 7, 8 or 9, in this order.
+// Plans a job by a method that is known: the plan, or the refusal: 16, 5, 6, 7, 8, 9, 17 or 18, in this order.
 fn plan_by(
     method: Method,
     second: bool,
     startup: u32,
     speeds: &[u32],
+    holds: &[u16],
     weights: &[u32],
     separators: &mut [u32],
     scratch: &mut [u32],
 ) -> Planned
     ensures answer { λ r.
-        let job = jobOf startup (now (speeds .entry)) (now (weights .entry)) in
+        let job = jobOf startup (now (speeds .entry)) (now (holds .entry)) (now (weights .entry)) in
         ⌜ r ≡ methodAnswer (editionOf second startup) job method (now (separators .entry)) (now (scratch .entry)) ⌝ }
     ensures separators { λ _.
-        let job = jobOf startup (now (speeds .entry)) (now (weights .entry)) in
-        ⌜ now (separators .exit) ≡ methodWrites job (now (separators .entry)) (now (scratch .entry)) ⌝ }
+        let job = jobOf startup (now (speeds .entry)) (now (holds .entry)) (now (weights .entry)) in
+        ⌜ now (separators .exit) ≡ methodWrites job method (now (separators .entry)) (now (scratch .entry)) ⌝ }
     ensures scratch { λ _.
-        let job = jobOf startup (now (speeds .entry)) (now (weights .entry)) in
-        let number = listsRefusal job (length (now (separators .entry))) (length (now (scratch .entry))) in
+        let job = jobOf startup (now (speeds .entry)) (now (holds .entry)) (now (weights .entry)) in
+        let number = methodRefusal job method (length (now (separators .entry))) (length (now (scratch .entry))) in
         ⌜ ScratchAfter number job (now (scratch .entry)) (now (scratch .exit)) ⌝ }
 {
-    let tested = test_plan(startup, speeds, weights, separators.len(), scratch.len());
+    let tested = test_method(
+        method,
+        startup,
+        speeds,
+        holds,
+        weights,
+        separators.len(),
+        scratch.len(),
+    );
     if tested != 0 {
         return Planned::Refused(tested);
     }
@@ -205,6 +219,7 @@ fn plan_by(
         second,
         startup,
         speeds,
+        holds,
         weights,
         separators,
         scratch,
@@ -217,18 +232,19 @@ fn plan_with(
     second: bool,
     startup: u32,
     speeds: &[u32],
+    holds: &[u16],
     weights: &[u32],
     separators: &mut [u32],
     scratch: &mut [u32],
 ) -> Planned
     ensures answer { λ r.
-        let job = jobOf startup (now (speeds .entry)) (now (weights .entry)) in
+        let job = jobOf startup (now (speeds .entry)) (now (holds .entry)) (now (weights .entry)) in
         ⌜ r ≡ planAnswer (editionOf second startup) job method (now (separators .entry)) (now (scratch .entry)) ⌝ }
     ensures separators { λ _.
-        let job = jobOf startup (now (speeds .entry)) (now (weights .entry)) in
+        let job = jobOf startup (now (speeds .entry)) (now (holds .entry)) (now (weights .entry)) in
         ⌜ now (separators .exit) ≡ planWrites job method (now (separators .entry)) (now (scratch .entry)) ⌝ }
     ensures scratch { λ _.
-        let job = jobOf startup (now (speeds .entry)) (now (weights .entry)) in
+        let job = jobOf startup (now (speeds .entry)) (now (holds .entry)) (now (weights .entry)) in
         let number = planRefusal job method (length (now (separators .entry))) (length (now (scratch .entry))) in
         ⌜ ScratchAfter number job (now (scratch .entry)) (now (scratch .exit)) ⌝ }
 {
@@ -236,31 +252,41 @@ fn plan_with(
     match chosen {
         Chosen::Unknown => Planned::Refused(1),
         Chosen::Known(known) => {
-            plan_by(known, second, startup, speeds, weights, separators, scratch)
+            plan_by(
+                known,
+                second,
+                startup,
+                speeds,
+                holds,
+                weights,
+                separators,
+                scratch,
+            )
         }
     }
 }
 
-// Plans a job by the method with this number: the first P + 1 separators become the plan's, or the refusal: 1, 16, 5, 6, 7, 8 or 9, in
-// this order.
+// Plans a job by the method with this number: the first P + 1 separators become the plan's, or the refusal: 1, 16, 5, 6, 7, 8, 9, 17 or
+// 18, in this order.
 pub fn plan(
     method: u32,
     second: bool,
     startup: u32,
     speeds: &[u32],
+    holds: &[u16],
     weights: &[u32],
     separators: &mut [u32],
     scratch: &mut [u32],
 ) -> Planned
     ensures answer { λ r.
         let edition = editionOf second startup in
-        let job = jobOf (startupOf edition) (now (speeds .entry)) (now (weights .entry)) in
+        let job = jobOf (startupOf edition) (now (speeds .entry)) (now (holds .entry)) (now (weights .entry)) in
         ⌜ r ≡ planAnswer edition job method (now (separators .entry)) (now (scratch .entry)) ⌝ }
     ensures separators { λ _.
-        let job = jobOf (counts.effective second startup) (now (speeds .entry)) (now (weights .entry)) in
+        let job = jobOf (counts.effective second startup) (now (speeds .entry)) (now (holds .entry)) (now (weights .entry)) in
         ⌜ now (separators .exit) ≡ planWrites job method (now (separators .entry)) (now (scratch .entry)) ⌝ }
     ensures scratch { λ _.
-        let job = jobOf (counts.effective second startup) (now (speeds .entry)) (now (weights .entry)) in
+        let job = jobOf (counts.effective second startup) (now (speeds .entry)) (now (holds .entry)) (now (weights .entry)) in
         let number = planRefusal job method (length (now (separators .entry))) (length (now (scratch .entry))) in
         ⌜ ScratchAfter number job (now (scratch .entry)) (now (scratch .exit)) ⌝ }
 {
@@ -270,6 +296,7 @@ pub fn plan(
         second,
         counted,
         speeds,
+        holds,
         weights,
         separators,
         scratch,

@@ -18,14 +18,14 @@ measure-in-requires c κs = search needs
 
 bisection-in-requires : tie.Need-bisection-in-requires
 bisection-in-requires c κs =
-    let s = c .before .before .before .before .before .before .before in
+    let s = c .before .before .before .before .before .before .before .before in
     (s .pre .0, front-length (s .args .separators .now) (s .pre .1))
 
 at-most-requires : tie.Need-at-most-requires
 at-most-requires c κs =
     let f = c .before .before .bisection-in in
     let m = c .before .before .before .before .measure-in in
-    let s = c .before .before .before .before .before .before .before .before .before .before in
+    let s = c .before .before .before .before .before .before .before .before .before .before .before in
     measured-products (s .pre .0 .valid) (front s) (m .ensures .1) (f .ensures .0) (f .ensures .1 .0)
 
 same-length : tie.Need-same-length
@@ -35,7 +35,7 @@ returns : tie.Need-returns
 returns c =
     let f = c .before .before .before .before .bisection-in in
     let m = c .before .before .before .before .before .before .measure-in in
-    let s = c .before .before .before .before .before .before .before .before .before .before .before .before in
+    let s = c .before .before .before .before .before .before .before .before .before .before .before .before .before in
     graded-best (s .pre .0 .valid) (front s) (m .ensures .1) (f .ensures .0) (c .before .at-most .ensures) (c .if1 .taken)
 
 same-length-2 : tie.Need-same-length-2
@@ -45,7 +45,7 @@ returns-2 : tie.Need-returns-2
 returns-2 c =
     let f = c .before .before .before .before .bisection-in in
     let m = c .before .before .before .before .before .before .measure-in in
-    let s = c .before .before .before .before .before .before .before .before .before .before .before .before in
+    let s = c .before .before .before .before .before .before .before .before .before .before .before .before .before in
     graded-valid (s .pre .0 .valid) (front s) (m .ensures .1) (f .ensures .0) (c .before .at-most .ensures) (c .if1 .left)
 
 pub grade-partition-spec : {M : Type 1} → statement M

@@ -10,10 +10,10 @@ use Rattle.grading.proofs.take_separators.Statement.{statement}
 use Rattle.grading.proofs.take_separators.Tie as tie
 
 abbrev Inv-loop : tie.InvT-loop
-Inv-loop startup speeds weights plan separators₀ all₀ p₀ separators all p = Taking (jobOf startup speeds weights) plan separators₀ separators all p
+Inv-loop startup speeds holds weights plan separators₀ all₀ p₀ separators all p = Taking (jobOf startup speeds holds weights) plan separators₀ separators all p
 
 abbrev μ-loop : tie.MeasureT-loop
-μ-loop startup speeds weights plan separators₀ all₀ p₀ separators all p = length speeds - p
+μ-loop startup speeds holds weights plan separators₀ all₀ p₀ separators all p = length speeds - p
 
 get-field-requires : tie.Need-get-field-requires Inv-loop μ-loop
 get-field-requires c κs = omega arith
@@ -23,8 +23,8 @@ slice-write-separators c = omega arith
 
 loop-holds : tie.Need-loop-holds Inv-loop μ-loop
 loop-holds c =
-    let s = c .before .before .before .before .before in
-    taking-none (jobOf (s .args .startup) (s .args .speeds .now) (s .args .weights .now)) (s .args .plan .now) (s .args .separators .now) (s .pre .1 .1) (c .get-field .ensures)
+    let s = c .before .before .before .before .before .before in
+    taking-none (jobOf (s .args .startup) (s .args .speeds .now) (s .args .holds .now) (s .args .weights .now)) (s .args .plan .now) (s .args .separators .now) (s .pre .1 .1) (c .get-field .ensures)
 
 mul-place : tie.Need-mul-place Inv-loop μ-loop
 mul-place c = omega arith
@@ -62,19 +62,19 @@ loop-less c = omega arith
 loop-again : tie.Need-loop-again Inv-loop μ-loop
 loop-again c =
     let l = c .before .before .before .before .before in
-    let s = l .before .before .before .before .before .before in
-    taking-next (jobOf (s .args .startup) (s .args .speeds .now) (s .args .weights .now)) (s .args .plan .now) (l .loop .inv) (c .before .before .before .before .loop-test .taken) _ _
+    let s = l .before .before .before .before .before .before .before in
+    taking-next (jobOf (s .args .startup) (s .args .speeds .now) (s .args .holds .now) (s .args .weights .now)) (s .args .plan .now) (l .loop .inv) (c .before .before .before .before .loop-test .taken) _ _
     (c .before .before .before .get-field2 .ensures) (omega arith) refl (c .before .and-same .ensures) (c .get-field3 .ensures) (omega arith)
 
 same-length : tie.Need-same-length Inv-loop μ-loop
 same-length c =
-    let s = c .before .before .before .before .before .before .before in
-    taking-length (jobOf (s .args .startup) (s .args .speeds .now) (s .args .weights .now)) (s .args .plan .now) (s .args .separators .now) (c .before .before .get-field .result) (c .before .loop .inv)
+    let s = c .before .before .before .before .before .before .before .before in
+    taking-length (jobOf (s .args .startup) (s .args .speeds .now) (s .args .holds .now) (s .args .weights .now)) (s .args .plan .now) (s .args .separators .now) (c .before .before .get-field .result) (c .before .loop .inv)
 
 returns : tie.Need-returns Inv-loop μ-loop
 returns c =
-    let s = c .before .before .before .before .before .before .before in
-    taken-all (jobOf (s .args .startup) (s .args .speeds .now) (s .args .weights .now)) (s .args .plan .now) (s .args .separators .now) (c .before .before .get-field .result) (c .before .loop .inv)
+    let s = c .before .before .before .before .before .before .before .before in
+    taken-all (jobOf (s .args .startup) (s .args .speeds .now) (s .args .holds .now) (s .args .weights .now)) (s .args .plan .now) (s .args .separators .now) (c .before .before .get-field .result) (c .before .loop .inv)
     (c .loop-test .left)
 
 pub take-separators-spec : {M : Type 1} → statement M

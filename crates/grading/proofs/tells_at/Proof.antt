@@ -15,7 +15,7 @@ mul-index c = search needs
 
 shared-slice-read-index : tie.Need-shared-slice-read-index
 shared-slice-read-index c =
-    let s = c .before .before .before .before .before .before in
+    let s = c .before .before .before .before .before .before .before in
     omega (arith, front-length (s .args .separators .now) (s .pre .1 .0))
 
 index-requires : tie.Need-index-requires
@@ -29,7 +29,7 @@ mul-index-2 c = search needs
 
 shared-slice-read-index-2 : tie.Need-shared-slice-read-index-2
 shared-slice-read-index-2 c =
-    let s = c .before .before .before .before .before .before .before .before in
+    let s = c .before .before .before .before .before .before .before .before .before in
     omega (arith, front-length (s .args .separators .now) (s .pre .1 .0))
 
 index-requires-2 : tie.Need-index-requires-2
@@ -37,7 +37,7 @@ index-requires-2 c κs = search needs
 
 part-load-requires : tie.Need-part-load-requires
 part-load-requires c κs =
-    let s = c .before .before .before .before .before .before .before .before .before in
+    let s = c .before .before .before .before .before .before .before .before .before .before in
     let h = front-part (s .args .separators .now) (s .pre .1 .0) (s .pre .1 .1 .1) (c .before .before .index .ensures) (c .index2 .ensures) in
     (loads-to (s .pre .0) (h .1), h .0)
 
@@ -79,8 +79,8 @@ and-same-requires-2 c κs = search needs
 
 returns : tie.Need-returns
 returns c =
-    let s = c .before .before .before .before .before .before .before .before .before .before .before .before .before .before .before in
-    let job : Job = jobOf (s .args .startup) (s .args .speeds .now) (s .args .weights .now) in
+    let s = c .before .before .before .before .before .before .before .before .before .before .before .before .before .before .before .before in
+    let job : Job = jobOf (s .args .startup) (s .args .speeds .now) (s .args .holds .now) (s .args .weights .now) in
     let load = c .before .before .before .before .before in
     let i = load .before .before .before .index in
     let j = load .before .index2 in

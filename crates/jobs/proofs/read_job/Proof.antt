@@ -19,8 +19,9 @@ read-tested-requires c κs = search read-accepted
 
 returns : tie.Need-returns
 returns c =
-    let a = c .before .before .before .before .before .before .before .args in
-    read-refused (a .file .now) (a .speeds .now) (a .weights .now) (c .before .before .before .test-records .ensures) (c .before .records .given .1)
+    let a = c .before .before .before .before .before .before .before .before .args in
+    let w = read-refused (a .file .now) (a .speeds .now) (a .holds .now) (a .weights .now) (c .before .before .before .test-records .ensures) (c .before .records .given .1) in
+    (w .answers, (w .into-speeds, (w .into-holds, w .into-weights)))
 
 same-length : tie.Need-same-length
 same-length c = search needs
@@ -28,8 +29,13 @@ same-length c = search needs
 same-length-2 : tie.Need-same-length-2
 same-length-2 c = search needs
 
+same-length-3 : tie.Need-same-length-3
+same-length-3 c = search needs
+
 returns-2 : tie.Need-returns-2
-returns-2 c = search needs
+returns-2 c =
+    let w = c .before .before .before .before .before .before .read-tested .ensures in
+    (w .answers, (w .into-speeds, (w .into-holds, w .into-weights)))
 
 pub read-job-spec : {M : Type 1} → statement M
 read-job-spec =
@@ -42,4 +48,5 @@ read-job-spec =
     returns
     same-length
     same-length-2
+    same-length-3
     returns-2)

@@ -17,8 +17,8 @@ same-length c = search needs
 returns : tie.Need-returns
 returns c =
     let h = c .before .before .before .before in
-    let a = h .before .before .before .before .args in
-    write-effective (a .second) (a .startup) (a .speeds .now) (a .weights .now) (a .file .now) (h .effective .ensures) (c .before .before .write-counted .ensures)
+    let a = h .before .before .before .before .before .args in
+    write-effective (a .second) (a .startup) (a .speeds .now) (a .holds .now) (a .weights .now) (a .file .now) (h .effective .ensures) (c .before .before .write-counted .ensures)
 
 pub write-job-spec : {M : Type 1} → statement M
 write-job-spec = tie.close (tie.spec effective-requires write-counted-requires same-length returns)

@@ -19,7 +19,7 @@ mul-a c = search needs
 
 shared-slice-read-a : tie.Need-shared-slice-read-a
 shared-slice-read-a c =
-    let s = c .before .before .before .before .before .before in
+    let s = c .before .before .before .before .before .before .before in
     omega (arith, front-length (s .args .separators .now) (s .pre .1 .0))
 
 add-b : tie.Need-add-b
@@ -30,7 +30,7 @@ mul-b c = search needs
 
 shared-slice-read-b : tie.Need-shared-slice-read-b
 shared-slice-read-b c =
-    let s = c .before .before .before .before .before .before .before in
+    let s = c .before .before .before .before .before .before .before .before in
     omega (arith, front-length (s .args .separators .now) (s .pre .1 .0))
 
 put-field-requires : tie.Need-put-field-requires
@@ -50,7 +50,7 @@ index-requires-2 c κs = search needs
 
 part-load-requires : tie.Need-part-load-requires
 part-load-requires c κs =
-    let s = c .before .before .before .before .before .before .before .before .before .before .before .before .before .before .before .before .before in
+    let s = c .before .before .before .before .before .before .before .before .before .before .before .before .before .before .before .before .before .before in
     let h = front-part (s .args .separators .now) (s .pre .1 .0) (s .pre .1 .1 .0) (c .before .index .ensures) (c .index2 .ensures) in
     (loads-to (s .pre .0) (h .1), h .0)
 
@@ -83,8 +83,8 @@ same-length c = search needs
 
 returns : tie.Need-returns
 returns c =
-    let s = c .before .before .before .before .before .before .before .before .before .before .before .before .before .before .before .before .before .before .before .before .before .before .before .before .before .before .before in
-    let job : Job = jobOf (s .args .startup) (s .args .speeds .now) (s .args .weights .now) in
+    let s = c .before .before .before .before .before .before .before .before .before .before .before .before .before .before .before .before .before .before .before .before .before .before .before .before .before .before .before .before in
+    let job : Job = jobOf (s .args .startup) (s .args .speeds .now) (s .args .holds .now) (s .args .weights .now) in
     let load = c .before .before .before .before .before .before .before .before .before in
     let i = load .before .before .index in
     let j = load .before .index2 in

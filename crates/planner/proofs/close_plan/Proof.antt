@@ -14,17 +14,17 @@ use Rattle.planner.proofs.close_plan.Tie as tie
 
 -- The job that the lists make.
 abbrev job-at : tie.Start → Job
-job-at s = jobOf (s .args .startup) (s .args .speeds .now) (s .args .weights .now)
+job-at s = jobOf (s .args .startup) (s .args .speeds .now) (s .args .holds .now) (s .args .weights .now)
 
 close-walk-requires : tie.Need-close-walk-requires
 close-walk-requires c κs =
-    let s = c .before .before .before .before .before .before in
+    let s = c .before .before .before .before .before .before .before in
     let W : Bound = s .args .found .bound in
     (s .pre .0, (s .pre .1 .0, (walk-is-plan (s .pre .0 .valid) (s .args .method) (s .args .found .count) W (s .pre .1 .1 .0), s .pre .1 .1 .1)))
 
 measure-in-requires : tie.Need-measure-in-requires
 measure-in-requires c κs =
-    let s = c .before .before .before .before .before .before .before .before .before .before in
+    let s = c .before .before .before .before .before .before .before .before .before .before .before in
     let job : Job = job-at s in
     (s .pre .0, front-partition (planOf job) _ (plan-of-best (valid-plannable (s .pre .0 .valid)) .partition) (c .before .before .before .close-walk .ensures))
 
@@ -42,7 +42,7 @@ allowance-of-requires c κs = search needs
 
 imbalance-of-requires : tie.Need-imbalance-of-requires
 imbalance-of-requires c κs =
-    let s = c .before .before .before .before .before .before .before .before .before .before .before .before .before .before in
+    let s = c .before .before .before .before .before .before .before .before .before .before .before .before .before .before .before in
     let job : Job = job-at s in
     let v = s .pre .0 .valid in
     let b : c .before .before .before .measure-in .result ≡ bottleneck job (planOf job) =
@@ -54,7 +54,7 @@ same-length c = search needs
 
 returns : tie.Need-returns
 returns c =
-    let s = c .before .before .before .before .before .before .before .before .before .before .before .before .before .before .before in
+    let s = c .before .before .before .before .before .before .before .before .before .before .before .before .before .before .before .before in
     let job : Job = job-at s in
     let v = s .pre .0 .valid in
     let w = c .before .before .before .before .before .before .before .before .close-walk .ensures in

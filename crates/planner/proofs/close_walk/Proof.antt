@@ -18,7 +18,7 @@ same-length c = search needs
 
 returns : tie.Need-returns
 returns c =
-    let s = c .before .before .before .before .before .before .before .before in
+    let s = c .before .before .before .before .before .before .before .before .before in
     c .before .before .probe-in .ensures .1 ∙ ap (λ (x : List ℕ). x ++ drop (suc (length (s .args .speeds .now))) (s .args .separators .now)) (s .pre .1 .1 .0)
 
 pub close-walk-spec : {M : Type 1} → statement M

@@ -19,8 +19,8 @@ same-length-2 c = search needs
 
 returns : tie.Need-returns
 returns c =
-    let a = c .before .before .before .before .before .before .before .before .before .before .before .before .args in
-    number-effective (a .second) (a .startup) (a .speeds .now) (a .weights .now) (a .method) (a .separators .now) (a .scratch .now)
+    let a = c .before .before .before .before .before .before .before .before .before .before .before .before .before .args in
+    number-effective (a .second) (a .startup) (a .speeds .now) (a .holds .now) (a .weights .now) (a .method) (a .separators .now) (a .scratch .now)
     (c .before .before .before .before .before .before .before .effective .ensures) (c .before .before .before .before .plan-with .ensures)
 
 pub plan-spec : {M : Type 1} → statement M

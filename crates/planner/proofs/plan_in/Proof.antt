@@ -12,16 +12,16 @@ use Rattle.planner.proofs.plan_in.Tie as tie
 
 -- The job that the lists make.
 abbrev job-at : tie.Start → Job
-job-at s = jobOf (s .args .startup) (s .args .speeds .now) (s .args .weights .now)
+job-at s = jobOf (s .args .startup) (s .args .speeds .now) (s .args .holds .now) (s .args .weights .now)
 
 prefix-sums-requires : tie.Need-prefix-sums-requires
 prefix-sums-requires c κs =
-    let p = (c .before .before .before .before .before .pre) in
+    let p = (c .before .before .before .before .before .before .pre) in
     (weights-fit (p .0), omega (arith, p .1 .1))
 
 run-method-requires : tie.Need-run-method-requires
 run-method-requires c κs =
-    let s = c .before .before .before .before .before .before .before .before .before .before in
+    let s = c .before .before .before .before .before .before .before .before .before .before .before in
     let job : Job = job-at s in
     let v = s .pre .0 in
     let e = c .before .before .before .before .prefix-sums .ensures in
@@ -29,7 +29,7 @@ run-method-requires c κs =
 
 close-plan-requires : tie.Need-close-plan-requires
 close-plan-requires c κs =
-    let s = c .before .before .before .before .before .before .before .before .before .before .before .before .before .before .before .before .before in
+    let s = c .before .before .before .before .before .before .before .before .before .before .before .before .before .before .before .before .before .before in
     let job : Job = job-at s in
     let v = s .pre .0 in
     let r = c .before .before .before .before .before .before .run-method .ensures in
@@ -43,7 +43,7 @@ same-length-2 c = search needs
 
 returns : tie.Need-returns
 returns c =
-    let s = c .before .before .before .before .before .before .before .before .before .before .before .before .before .before .before .before .before .before .before .before in
+    let s = c .before .before .before .before .before .before .before .before .before .before .before .before .before .before .before .before .before .before .before .before .before in
     let job : Job = job-at s in
     let r = c .before .before .before .before .before .before .before .before .before .run-method .ensures in
     let p = c .before .before .close-plan .ensures in (

@@ -9,7 +9,7 @@ use Rattle.planner.proofs.plan_with.Tie as tie
 
 -- The job that the lists make.
 abbrev job-at : tie.Start → Job
-job-at s = jobOf (s .args .startup) (s .args .speeds .now) (s .args .weights .now)
+job-at s = jobOf (s .args .startup) (s .args .speeds .now) (s .args .holds .now) (s .args .weights .now)
 
 choose-requires : tie.Need-choose-requires
 choose-requires c κs = search needs
@@ -25,7 +25,7 @@ plan-by-requires c κs = search needs
 
 returns : tie.Need-returns
 returns c =
-    let s = c .before .before .before .before .before .before .before in
+    let s = c .before .before .before .before .before .before .before .before in
     number-unknown (editionOf (s .args .second) (s .args .startup)) (job-at s) (s .args .method) (s .args .separators .now) (s .args .scratch .now) (sym ((c .before .before .choose) .ensures) ∙ (c .enum-told) .given .1)
 
 same-length : tie.Need-same-length
@@ -36,7 +36,7 @@ same-length-2 c = search needs
 
 returns-2 : tie.Need-returns-2
 returns-2 c =
-    let s = c .before .before .before .before .before .before .before .before .before .before .before .before .before .before .before in
+    let s = c .before .before .before .before .before .before .before .before .before .before .before .before .before .before .before .before in
     number-known (editionOf (s .args .second) (s .args .startup)) (job-at s) (s .args .method) (s .args .separators .now) (s .args .scratch .now) (sym ((c .before .before .before .before .before .before .before .before .before .before .choose) .ensures) ∙ (c .before .before .before .before .before .before .before .before .chosen) .given .1) ((c .before .before .before .before .plan-by) .ensures)
 
 pub plan-with-spec : {M : Type 1} → statement M

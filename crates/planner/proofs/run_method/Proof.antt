@@ -16,7 +16,7 @@ use Rattle.planner.proofs.run_method.Tie as tie
 
 -- The job that the lists make.
 abbrev job-at : tie.Start → Job
-job-at s = jobOf (s .args .startup) (s .args .speeds .now) (s .args .weights .now)
+job-at s = jobOf (s .args .startup) (s .args .speeds .now) (s .args .holds .now) (s .args .weights .now)
 
 enum-told : tie.Need-enum-told
 enum-told c = search needs
@@ -47,8 +47,8 @@ same-length c = search needs
 
 returns : tie.Need-returns
 returns c =
-    let s = c .before .before .before .before .before .before .before .before .before .before in
-    let p = (c .before .before .before .before .before .before .before .before .before .before .pre) in
+    let s = c .before .before .before .before .before .before .before .before .before .before .before in
+    let p = (c .before .before .before .before .before .before .before .before .before .before .before .pre) in
     let t = (c .before .before .table-in) .ensures in (
       ends-table ((c .before .before .before .before .enum-told) .given .1) t,
       (
@@ -65,8 +65,8 @@ same-length-3 c = search needs
 
 returns-2 : tie.Need-returns-2
 returns-2 c =
-    let s = c .before .before .before .before .before .before .before .before .before .before .before in
-    let p = (c .before .before .before .before .before .before .before .before .before .before .before .pre) in
+    let s = c .before .before .before .before .before .before .before .before .before .before .before .before in
+    let p = (c .before .before .before .before .before .before .before .before .before .before .before .before .pre) in
     let job : Job = job-at s in
     let r = (c .before .before .bidding-in) in
     let b = kept-start (suc (length (s .args .speeds .now))) (s .args .separators .now) in (
@@ -88,8 +88,8 @@ same-length-5 c = search needs
 
 returns-3 : tie.Need-returns-3
 returns-3 c =
-    let s = c .before .before .before .before .before .before .before .before .before .before .before in
-    let p = (c .before .before .before .before .before .before .before .before .before .before .before .pre) in
+    let s = c .before .before .before .before .before .before .before .before .before .before .before .before in
+    let p = (c .before .before .before .before .before .before .before .before .before .before .before .before .pre) in
     let job : Job = job-at s in
     let r = (c .before .before .bisection-in) .ensures in
     (ends-bisection ((c .before .before .before .before .before .enum-told3) .given .1) (r .0), (r .1 .0, (r .1 .1, (p .0, kept-start (scratchNeeded job) (s .args .scratch .now)))))
@@ -102,8 +102,8 @@ same-length-7 c = search needs
 
 returns-4 : tie.Need-returns-4
 returns-4 c =
-    let s = c .before .before .before .before .before .before .before .before .before .before .before in
-    let p = (c .before .before .before .before .before .before .before .before .before .before .before .pre) in
+    let s = c .before .before .before .before .before .before .before .before .before .before .before .before in
+    let p = (c .before .before .before .before .before .before .before .before .before .before .before .before .pre) in
     let job : Job = job-at s in
     let r = (c .before .before .nicol-in) .ensures in
     (ends-nicol ((c .before .before .before .before .before .enum-told4) .given .1) (r .0), (r .1 .0, (r .1 .1, (p .0, kept-start (scratchNeeded job) (s .args .scratch .now)))))

@@ -40,10 +40,10 @@ add-breadth c = search needs
 -- What the four numbers are, once they are computed.
 module _ (c : tie.After-wide4) where
   abbrev start : tie.Start
-  start = c .before .before .before .before .before .before .before .before .before
+  start = c .before .before .before .before .before .before .before .before .before .before
 
   abbrev job : Job
-  job = jobOf (start .args .startup) (start .args .speeds .now) (start .args .weights .now)
+  job = jobOf (start .args .startup) (start .args .speeds .now) (start .args .holds .now) (start .args .weights .now)
 
   breadth-is : c .before .before .before .before .before .wide .result + c .wide4 .result ≡ breadth job
   breadth-is = ap₂ _+_ (c .before .before .before .before .before .wide .ensures ∙ c .before .before .before .before .before .before .greatest-of .ensures) (c .wide4 .ensures)

@@ -26,7 +26,7 @@ returns : tie.Need-returns
 unfolding hostWrites
 returns c =
     let a = (c .before .before .before .before .before .args) in
-    let e = host-unknown (a .job .now) (length (a .plan .now)) (a .method) (sym ((c .before .before .choose) .ensures) ∙ (c .enum-told) .given .1) in
+    let e = host-unknown (a .job .now) (a .method) (length (a .plan .now)) (sym ((c .before .before .choose) .ensures) ∙ (c .enum-told) .given .1) in
     (e, bytes-stay (a .job .now) (a .plan .now) e (λ x. omega arith))
 
 same-length : tie.Need-same-length
@@ -37,7 +37,7 @@ unfolding fileWrites hostWrites
 returns-2 c =
     let a = (c .before .before .before .before .before .before .before .before .before .before .args) in
     let r = (c .before .before .plan-file) .ensures in
-    let e = host-known (a .job .now) (length (a .plan .now)) (a .method) (sym ((c .before .before .before .before .before .before .before .choose) .ensures) ∙ (c .before .before .before .before .before .chosen) .given .1) in
+    let e = host-known (a .job .now) (a .method) (length (a .plan .now)) (sym ((c .before .before .before .before .before .before .before .choose) .ensures) ∙ (c .before .before .before .before .before .chosen) .given .1) in
     (r .0 ∙ e, r .1 ∙ ap (λ (n : ℕ). bytesAfter n (a .job .now) (a .plan .now)) e)
 
 pub plan-job-spec : {M : Type 1} → statement M

@@ -15,7 +15,7 @@ use Rattle.planner.proofs.host.write_best.Tie as tie
 
 -- The job that the lists make.
 abbrev job-at : tie.Start → Job
-job-at s = jobOf (s .args .startup) (s .args .speeds .now) (s .args .weights .now)
+job-at s = jobOf (s .args .startup) (s .args .speeds .now) (s .args .holds .now) (s .args .weights .now)
 
 slice-aggregate-plan-in : tie.Need-slice-aggregate-plan-in
 slice-aggregate-plan-in c = search needs
@@ -26,7 +26,7 @@ slice-aggregate-plan-in-2 c = search needs
 plan-in-requires : tie.Need-plan-in-requires
 unfolding maxProcessors maxTasks
 plan-in-requires c κs =
-    let v = c .before .before .before .before .before .pre .0 in
+    let v = c .before .before .before .before .before .before .pre .0 in
     (v, (omega (arith, v .processors-limit), omega (arith, v .tasks-limit)))
 
 slice-aggregate-put-plan : tie.Need-slice-aggregate-put-plan
@@ -37,7 +37,7 @@ slice-aggregate-put-plan-2 c = search needs
 
 put-plan-requires : tie.Need-put-plan-requires
 put-plan-requires c κs =
-    let s = c .before .before .before .before .before .before .before .before .before .before .before in
+    let s = c .before .before .before .before .before .before .before .before .before .before .before .before in
     let job : Job = job-at s in
     let g = c .before .before .before .before .before .plan-in .ensures in
     (g .1 .1 .1, (front-partition (planOf job) _ (plan-of-best (valid-plannable (s .pre .0)) .partition) (g .1 .0), s .pre .1))
@@ -47,7 +47,7 @@ same-length c = search needs
 
 returns : tie.Need-returns
 returns c =
-    let s = c .before .before .before .before .before .before .before .before .before .before .before .before .before .before in
+    let s = c .before .before .before .before .before .before .before .before .before .before .before .before .before .before .before in
     let job : Job = job-at s in
     let g = c .before .before .before .before .before .before .before .before .plan-in .ensures in
     best-bytes job _ _ _ (plan-length (s .pre .0)) (g .1 .0) (c .before .before .put-plan .ensures)

@@ -1,22 +1,23 @@
--- `put_records` meets its contract: after j turns the first j records stand in the file.
+-- `put_tasks` meets its contract: after j turns the first j records stand in the file.
 -- Assumes nothing.
 use Prim.Native.Nat.{_-_}
 use native.Mathlib.Omega.{arith}
 use lib.ListN.{length}
+use Rattle.jobs.specs.JobFile.{taskKind, noHold}
 use Rattle.jobs.proofs.Records.{Putting, putting-none, putting-next, putting-all}
-use Rattle.jobs.proofs.put_records.Statement.{statement}
-use Rattle.jobs.proofs.put_records.Tie as tie
+use Rattle.jobs.proofs.put_tasks.Statement.{statement}
+use Rattle.jobs.proofs.put_tasks.Tie as tie
 
 abbrev Inv-loop : tie.InvT-loop
-Inv-loop kind values from file₀ j₀ file j = Putting kind values from file₀ file j
+Inv-loop weights from file₀ j₀ file j = Putting taskKind noHold weights from file₀ file j
 
 abbrev μ-loop : tie.MeasureT-loop
-μ-loop kind values from file₀ j₀ file j = length values - j
+μ-loop weights from file₀ j₀ file j = length weights - j
 
 loop-holds : tie.Need-loop-holds Inv-loop μ-loop
 loop-holds c =
     let s = c .before .before in
-    putting-none (s .args .kind) (s .args .values .now) (s .args .from) (s .args .file .now) (s .pre)
+    putting-none taskKind noHold (s .args .weights .now) (s .args .from) (s .args .file .now) (s .pre)
 
 mul-put-record : tie.Need-mul-put-record Inv-loop μ-loop
 mul-put-record c = omega arith
@@ -40,7 +41,7 @@ loop-again : tie.Need-loop-again Inv-loop μ-loop
 loop-again c =
     let l = c .before .before .before .before .before .before in
     let s = l .before .before .before in
-    putting-next (s .args .kind) (s .args .values .now) (s .args .from) (s .args .file .now) (s .pre) (l .loop .inv) (c .before .before .before .before .before .loop-test .taken) (c .before .before .put-record .ensures)
+    putting-next taskKind noHold (s .args .weights .now) (s .args .from) (s .args .file .now) (s .pre) (l .loop .inv) (c .before .before .before .before .before .loop-test .taken) (c .before .before .put-record .ensures)
 
 same-length : tie.Need-same-length Inv-loop μ-loop
 same-length c = c .before .loop .inv .room
@@ -48,10 +49,10 @@ same-length c = c .before .loop .inv .room
 returns : tie.Need-returns Inv-loop μ-loop
 returns c =
     let s = c .before .before .before .before in
-    putting-all (s .args .kind) (s .args .values .now) (s .args .from) (s .args .file .now) (s .pre) (c .before .loop .inv) (c .loop-test .left)
+    putting-all taskKind noHold (s .args .weights .now) (s .args .from) (s .args .file .now) (s .pre) (c .before .loop .inv) (c .loop-test .left)
 
-pub put-records-spec : {M : Type 1} → statement M
-put-records-spec =
+pub put-tasks-spec : {M : Type 1} → statement M
+put-tasks-spec =
     tie.close
     (tie.spec
     Inv-loop
