@@ -15,6 +15,7 @@ use Rattle.chain.specs.Heuristic.{heuristic}
 use Rattle.chain.specs.Halving.{halving}
 use Rattle.chain.specs.Refusal.{Inputs, measureInputs, halvingInputs, refusal}
 use Rattle.chain.proofs.Parts.{valid-proper}
+use Rattle.chain.proofs.Within.{free-of}
 use Rattle.chain.proofs.Heuristic.{heuristic-partition}
 use Rattle.chain.proofs.Halving.{halving-partition}
 use Rattle.chain.proofs.Walk.{walked-length}
@@ -75,7 +76,7 @@ module _ (job : Job) (s : List ℕ) where
       → now ≡ heuristic job ++ drop (suc (processors job)) s → Guessed (Bottleneck B) now
   unfolding heuristicAnswer heuristicWrites
   heuristic-accepted e z f g =
-      divides-accepted (heuristicInputs job (length s)) (heuristic job) e z (heuristic-partition (valid-proper ((passed e z) .valid))) f g
+      divides-accepted (heuristicInputs job (length s)) (heuristic job) e z (heuristic-partition (valid-proper ((passed e z) .valid)) (free-of ((passed e z) .free .0))) f g
 
   -- and halving the row.
   abbrev pub Halved : Measured → List ℕ → Type 0
@@ -89,7 +90,7 @@ module _ (job : Job) (s : List ℕ) where
       → now ≡ halving job ++ drop (suc (processors job)) s → Halved (Bottleneck B) now
   unfolding halvingAnswer halvingWrites
   halving-accepted e z f g =
-      divides-accepted (halvingInputs job (length s)) (halving job) e z (halving-partition job ((passed e z) .rows .0)) f g
+      divides-accepted (halvingInputs job (length s)) (halving job) e z (halving-partition job ((passed e z) .rows .0) (free-of ((passed e z) .free .0))) f g
 
   -- What a probe answers, and the list then.
   module _ (B : Bound) where

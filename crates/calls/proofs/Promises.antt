@@ -24,6 +24,8 @@ use Rattle.chain.proofs.Refusals.{gives, given-number}
 use Rattle.chain.proofs.Parts.{Proper, valid-proper, valid-plannable}
 use Rattle.chain.proofs.Walk as walks
 use Rattle.chain.proofs.NextBid as bids
+use Rattle.chain.proofs.Within.{Free, free-of}
+use Rattle.chain.proofs.Enough.{free-plannable}
 use Rattle.chain.proofs.Heuristic.{heuristic-partition, heuristic-bound}
 use Rattle.chain.proofs.Halving.{halving-partition, halving-bound, halving-greatest}
 use Rattle.chain.proofs.Demand.{plan-of-best}
@@ -147,7 +149,7 @@ module _ (job : Job) (s : List ℕ) where
       record {
         partition = subst (Partition job) (sym (w .front pa)) pa;
         measured = w .measured ∙ ap (bottleneck job) (sym (w .front pa));
-        close = subst (λ (B : Bound). B ≼ plus (ideal job) (margin job)) (sym (w .measured)) (heuristic-bound (valid-proper v));
+        close = subst (λ (B : Bound). B ≼ plus (ideal job) (margin job)) (sym (w .measured)) (heuristic-bound (valid-proper v) free);
         behind = w .behind pa;
       }
     where
@@ -157,8 +159,11 @@ module _ (job : Job) (s : List ℕ) where
       v : Valid job
       v = (accepted (w .passed)) .valid
 
+      free : Free job
+      free = free-of ((accepted (w .passed)) .free .0)
+
       pa : Partition job (heuristic job)
-      pa = heuristic-partition (valid-proper v)
+      pa = heuristic-partition (valid-proper v) free
 
 -- Halving the row.
 module _ (job : Job) (s : List ℕ) where
@@ -209,7 +214,7 @@ module _ (job : Job) (s : List ℕ) where
         greatest = λ p h.
             subst (λ (B : Bound). partLoad job (at (halving job) p) (at (halving job) (suc p)) ≤ B .load) (sym (w .measured))
             (halving-greatest job row (valid-proper v) p h);
-        least = subst (λ (B : Bound). bottleneck job (planOf job) ≼ B) (sym (w .measured)) ((plan-of-best (valid-plannable v)) .least (halving job) pa);
+        least = subst (λ (B : Bound). bottleneck job (planOf job) ≼ B) (sym (w .measured)) ((plan-of-best (free-plannable (valid-proper v) free)) .least (halving job) pa);
         behind = w .behind pa;
       }
     where
@@ -222,8 +227,11 @@ module _ (job : Job) (s : List ℕ) where
       row : Halvable (job .speeds)
       row = (accepted (w .passed)) .rows .0
 
+      free : Free job
+      free = free-of ((accepted (w .passed)) .free .0)
+
       pa : Partition job (halving job)
-      pa = halving-partition job row
+      pa = halving-partition job row free
 
 -- The probe.
 answered : {n : ℕ} {r o : Outcome} → probedOf n r ≡ Answered o → (n ≡ 0) × (r ≡ o)
@@ -317,7 +325,7 @@ module _ (job : Job) (B : Bound) (s : List ℕ) where
   unfolding probeAnswer
   probe-failed {C} e =
       record {
-        above = subst (λ (D : Bound). B ≺ D) (sym (m .2)) (bids.next-above (valid-plannable v) B (m .1));
+        above = subst (λ (D : Bound). B ≺ D) (sym (m .2)) (bids.next-above (valid-plannable v ((accepted (m .0)) .keeping .0)) B (m .1));
         least = λ D t pa w.
             subst (λ (E : Bound). E ≼ D) (sym (m .2)) (bids.next-least (valid-proper v) B D (m .1) (walks.partition-fits (valid-proper v) pa w));
       }

@@ -4,9 +4,11 @@
 ghost use Prim.Native.Nat.{suc, _<_};
 ghost use mathlib.Core.Path.{_≡_};
 ghost use mathlib.Core.List.{_++_};
+ghost use mathlib.Core.Bool.{not};
+ghost use lib.Dec.{T};
 ghost use lib.ListN.{length, take, drop};
 ghost use Rattle.chain.specs.Job as counts;
-ghost use Rattle.chain.specs.Job.{Job, jobOf, Valid, processors, Partition, bottleneck};
+ghost use Rattle.chain.specs.Job.{Job, jobOf, Valid, processors, held, Partition, bottleneck};
 ghost use Rattle.chain.specs.Probe as trial;
 ghost use Rattle.chain.specs.Heuristic as quick;
 ghost use Rattle.chain.specs.Halving as row;
@@ -183,7 +185,7 @@ fn heuristic_tested(
 ) -> Bound
     ghost { Job }
     requires { λ job. ⌜ jobOf startup (now speeds) (now holds) (now weights) ≡ job ⌝ }
-    requires { λ job. ⌜ Valid job ⌝ }
+    requires { λ job. ⌜ Valid job × T (not (held job)) ⌝ }
     requires { λ job. ⌜ processors job < length (now separators) ⌝ }
     ensures { λ job r. ⌜ r ≡ bottleneck job (quick.heuristic job) ⌝ }
     ensures { λ job r. ⌜ now (separators .exit) ≡ quick.heuristic job ++ drop (suc (processors job)) (now (separators .entry)) ⌝ }
@@ -252,7 +254,7 @@ fn halving_tested(
 ) -> Bound
     ghost { Job }
     requires { λ job. ⌜ jobOf startup (now speeds) (now holds) (now weights) ≡ job ⌝ }
-    requires { λ job. ⌜ Valid job ⌝ }
+    requires { λ job. ⌜ Valid job × T (not (held job)) ⌝ }
     requires { λ job. ⌜ Halvable (now speeds) ⌝ }
     requires { λ job. ⌜ processors job < length (now separators) ⌝ }
     ensures { λ job r. ⌜ r ≡ bottleneck job (row.halving job) ⌝ }

@@ -18,7 +18,7 @@ returns c =
 halving-tested-requires : tie.Need-halving-tested-requires
 halving-tested-requires c κs =
     let e = c .before in
-    let a = passed (e .before .test-halving .ensures) (e .if1 .left) in (a .valid, (a .rows .0, a .lists .0))
+    let a = passed (e .before .test-halving .ensures) (e .if1 .left) in ((a .valid, a .free .0), (a .rows .0, a .lists .0))
 
 same-length : tie.Need-same-length
 same-length c = search needs

@@ -10,6 +10,7 @@ use Rattle.chain.proofs.Parts.{valid-proper}
 use Rattle.chain.proofs.Heuristic.{heuristic-partition}
 use Rattle.parts.proofs.Front.{front-partition, front-bottleneck}
 use Rattle.parts.proofs.Laws.{sums-ready, weights-fit}
+use Rattle.chain.proofs.Within.{free-of}
 use borrow.Author.Needs.{needs}
 use Rattle.calls.proofs.heuristic_tested.Statement.{statement}
 use Rattle.calls.proofs.heuristic_tested.Tie as tie
@@ -24,14 +25,14 @@ slice-aggregate-prefix-sums c = search needs
 prefix-sums-requires : tie.Need-prefix-sums-requires
 unfolding maxTasks
 prefix-sums-requires c κs =
-    let s = c .before .before .before .before .before in (weights-fit (s .pre .0), omega (arith, s .pre .0 .tasks-limit))
+    let s = c .before .before .before .before .before in (weights-fit (s .pre .0 .0), omega (arith, s .pre .0 .0 .tasks-limit))
 
 slice-aggregate-heuristic-in : tie.Need-slice-aggregate-heuristic-in
 slice-aggregate-heuristic-in c = search needs
 
 heuristic-in-requires : tie.Need-heuristic-in-requires
 heuristic-in-requires c κs =
-    let s = c .before .before .before .before .before .before .before .before .before in (sums-ready _ (s .pre .0) (c .before .before .before .prefix-sums .ensures), s .pre .1)
+    let s = c .before .before .before .before .before .before .before .before .before in (sums-ready _ (s .pre .0 .0) (c .before .before .before .prefix-sums .ensures), s .pre .1)
 
 slice-aggregate-measure-in : tie.Need-slice-aggregate-measure-in
 slice-aggregate-measure-in c = search needs
@@ -40,8 +41,8 @@ measure-in-requires : tie.Need-measure-in-requires
 measure-in-requires c κs =
     let s = c .before .before .before .before .before .before .before .before .before .before .before .before .before .before in
     let job : Job = job-at s in (
-      sums-ready _ (s .pre .0) (c .before .before .before .before .before .before .before .before .prefix-sums .ensures),
-      front-partition (heuristic job) (drop (suc (length (s .args .speeds .now))) (s .args .separators .now)) (heuristic-partition (valid-proper (s .pre .0)))
+      sums-ready _ (s .pre .0 .0) (c .before .before .before .before .before .before .before .before .prefix-sums .ensures),
+      front-partition (heuristic job) (drop (suc (length (s .args .speeds .now))) (s .args .separators .now)) (heuristic-partition (valid-proper (s .pre .0 .0)) (free-of (s .pre .0 .1)))
           (c .before .before .before .before .heuristic-in .ensures),
     )
 
@@ -53,7 +54,7 @@ returns c =
     let s = c .before .before .before .before .before .before .before .before .before .before .before .before .before .before .before in
     let job : Job = job-at s in
     let written = c .before .before .before .before .before .heuristic-in .ensures in (
-      front-bottleneck (heuristic job) (drop (suc (length (s .args .speeds .now))) (s .args .separators .now)) (heuristic-partition (valid-proper (s .pre .0))) written
+      front-bottleneck (heuristic job) (drop (suc (length (s .args .speeds .now))) (s .args .separators .now)) (heuristic-partition (valid-proper (s .pre .0 .0)) (free-of (s .pre .0 .1))) written
           (c .measure-in .ensures .1),
       written,
     )

@@ -18,7 +18,7 @@ returns c =
 heuristic-tested-requires : tie.Need-heuristic-tested-requires
 heuristic-tested-requires c κs =
     let e = c .before in
-    let a = passed (e .before .test-heuristic .ensures) (e .if1 .left) in (a .valid, a .lists .0)
+    let a = passed (e .before .test-heuristic .ensures) (e .if1 .left) in ((a .valid, a .free .0), a .lists .0)
 
 same-length : tie.Need-same-length
 same-length c = search needs
