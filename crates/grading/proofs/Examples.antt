@@ -5,8 +5,8 @@ use mathlib.Core.List.{[], _∷_}
 use Rattle.bound.specs.Order.{le, greater}
 use Rattle.chain.specs.Limits.{maxTasks, maxWeight, maxStartup, maxProcessors, maxSpeed}
 use Rattle.chain.specs.Lists.{sum, tabulate, all}
-use Rattle.chain.specs.Job.{Job, freeJob, speedOf, holdOf, partOf, partWeight, partLoad, partBound, boundAt, bottleneckTo, bottleneck, First, editionOf, startupOf, loadOf, Second}
-use Rattle.chain.specs.Plan.{spread, onward, partitions}
+use Rattle.chain.specs.Job.{Job, freeJob, speedOf, holdOf, keeps, allKept, partOf, partWeight, partLoad, partBound, boundAt, bottleneckTo, bottleneck, First, editionOf, startupOf, loadOf, Second}
+use Rattle.chain.specs.Plan.{spread, onward, those, partitions}
 use Rattle.chain.specs.Grade.{every, unbeaten}
 use Rattle.chain.specs.Refusal.{processorsTest, tasksTest, lengthTest, isPartition, separatorsOf, planLengthTest, joined, joinedTest, trueAt, trueTest, firstRefusal, planTests}
 use Rattle.fields.specs.Field.{fieldBytes, fieldAt, halfBytes, halfAt}
@@ -27,7 +27,7 @@ pub host-grades-of-A : (hostGrade (1 ∷ []) [] 0 ≡ 2) × (hostGrade (jobBytes
     × (hostGrades (jobBytes First A) [] (7 ∷ 8 ∷ []) ≡ 7 ∷ 8 ∷ [])
     × (hostGrades (jobBytes First A) (planBytes A (0 ∷ 1 ∷ 3 ∷ [])) (7 ∷ 8 ∷ []) ≡ 1 ∷ 8 ∷ [])
     × (hostGrades (jobBytes First A) (planBytes A (0 ∷ 2 ∷ 3 ∷ [])) (7 ∷ 8 ∷ []) ≡ 2 ∷ 8 ∷ [])
-unfolding le greater maxTasks maxWeight maxStartup maxProcessors maxSpeed sum tabulate all speedOf holdOf partOf partWeight loadOf partLoad partBound boundAt bottleneckTo bottleneck spread onward partitions every unbeaten processorsTest tasksTest lengthTest isPartition separatorsOf planLengthTest joined joinedTest trueAt trueTest firstRefusal planTests fieldBytes fieldAt halfBytes halfAt lentAfter recordBytes recordsBytes editionBytes jobBytes byteAt kindAt valueAt holdAt isKind taskBefore multipleTest blank formTest orderTest placeTest speedTest weightTest workTest recordTests recordsTests standing speedsOf holdsOf weightsOf secondIn editionOf startupOf fileTests planRecord planBytesTo planBytes gradeOf readGrade gradeTests gradeRefusal hostGrade hostGrades
+unfolding le greater maxTasks maxWeight maxStartup maxProcessors maxSpeed sum tabulate all speedOf holdOf keeps allKept partOf partWeight loadOf partLoad partBound boundAt bottleneckTo bottleneck spread onward those partitions every unbeaten processorsTest tasksTest lengthTest isPartition separatorsOf planLengthTest joined joinedTest trueAt trueTest firstRefusal planTests fieldBytes fieldAt halfBytes halfAt lentAfter recordBytes recordsBytes editionBytes jobBytes byteAt kindAt valueAt holdAt isKind taskBefore multipleTest blank formTest orderTest placeTest speedTest weightTest workTest recordTests recordsTests standing speedsOf holdsOf weightsOf secondIn editionOf startupOf fileTests planRecord planBytesTo planBytes gradeOf readGrade gradeTests gradeRefusal hostGrade hostGrades
 host-grades-of-A = (refl, refl, refl, refl, refl, refl, refl)
 
 abbrev N : Job
@@ -37,5 +37,5 @@ N = freeJob 3 (1 ∷ 4 ∷ []) (1 ∷ 4 ∷ 4 ∷ [])
 pub host-grades-of-N : (hostGrades (jobBytes (Second 3) N) (planBytes N (0 ∷ 0 ∷ 3 ∷ [])) (7 ∷ []) ≡ 1 ∷ [])
     × (hostGrades (jobBytes (Second 3) N) (planBytes N (0 ∷ 1 ∷ 3 ∷ [])) (7 ∷ []) ≡ 2 ∷ [])
     × (hostGrade (jobBytes (Second 3) N) (planBytes (freeJob 0 (N .speeds) (N .weights)) (0 ∷ 0 ∷ 3 ∷ [])) 1 ≡ 13)
-unfolding le greater maxTasks maxWeight maxStartup maxProcessors maxSpeed sum tabulate all speedOf holdOf partOf partWeight loadOf partLoad partBound boundAt bottleneckTo bottleneck spread onward partitions every unbeaten processorsTest tasksTest lengthTest isPartition separatorsOf planLengthTest joined joinedTest trueAt trueTest firstRefusal planTests fieldBytes fieldAt halfBytes halfAt lentAfter recordBytes recordsBytes editionBytes jobBytes byteAt kindAt valueAt holdAt isKind taskBefore multipleTest blank formTest orderTest placeTest speedTest weightTest workTest recordTests recordsTests standing speedsOf holdsOf weightsOf secondIn editionOf startupOf fileTests planRecord planBytesTo planBytes gradeOf readGrade gradeTests gradeRefusal hostGrade hostGrades
+unfolding le greater maxTasks maxWeight maxStartup maxProcessors maxSpeed sum tabulate all speedOf holdOf keeps allKept partOf partWeight loadOf partLoad partBound boundAt bottleneckTo bottleneck spread onward those partitions every unbeaten processorsTest tasksTest lengthTest isPartition separatorsOf planLengthTest joined joinedTest trueAt trueTest firstRefusal planTests fieldBytes fieldAt halfBytes halfAt lentAfter recordBytes recordsBytes editionBytes jobBytes byteAt kindAt valueAt holdAt isKind taskBefore multipleTest blank formTest orderTest placeTest speedTest weightTest workTest recordTests recordsTests standing speedsOf holdsOf weightsOf secondIn editionOf startupOf fileTests planRecord planBytesTo planBytes gradeOf readGrade gradeTests gradeRefusal hostGrade hostGrades
 host-grades-of-N = (refl, refl, refl)

@@ -15,8 +15,8 @@ use Rattle.bound.specs.Order.{le}
 use Rattle.chain.specs.declared.Method.the-variants.{Bisection}
 use Rattle.chain.specs.Lists.{all}
 use Rattle.chain.specs.Ranges.{Lendable}
-use Rattle.chain.specs.Job.{Job, Valid, processors, speedOf, partLoad, at, bottleneck}
-use Rattle.chain.specs.Plan.{BisectionEnds}
+use Rattle.chain.specs.Job.{Job, Valid, processors, speedOf, partLoad, at, Partition, bottleneck}
+use Rattle.chain.specs.Plan.{BisectionEnds, takes}
 use Rattle.chain.specs.Grade.{unbeaten}
 use Rattle.chain.specs.Refusal.{PlanRecords, separatorsOf, joined}
 use Rattle.chain.proofs.Indices.{all-at, table-of}
@@ -24,6 +24,7 @@ use Rattle.chain.proofs.Tests.{same-test}
 use Rattle.chain.proofs.Parts.{valid-proper, valid-plannable}
 use Rattle.chain.proofs.Ranges.{probe-products, bottleneck-small}
 use Rattle.chain.proofs.Demand.{method-least}
+use Rattle.chain.proofs.Enough.{partition-enough}
 use Rattle.chain.proofs.Grade.{unbeaten-at}
 use Rattle.fields.specs.Field.{fieldAt}
 use Rattle.parts.proofs.Front.{Front, front-next, front-end}
@@ -147,13 +148,14 @@ tells-read job s plan p m n {x} {y} {v} {w} ex em ev ey en ew eb ec =
     ∙ ap₂ (λ (i j : ℕ). eqb (fieldAt plan (16 * p + 8)) (partLoad job (at s p) (at s (suc p))) && eqb i j) (ey ∙ ap (fieldAt plan) en) ew
 
 -- The grade of a partition: C is its bottleneck, B what bisection found.
-module _ {job : Job} (v : Valid job) (s : List ℕ) {n : ℕ} {B C : Bound} (is : C ≡ bottleneck job s) (ended : BisectionEnds job n B) where
+module _ {job : Job} (v : Valid job) {s : List ℕ} (part : Partition job s) {n : ℕ} {B C : Bound} (is : C ≡ bottleneck job s) (ended : BisectionEnds job n B) where
   pub measured-products : Lendable B → (C .load * B .speed < 2 ^ 64) × (B .load * C .speed < 2 ^ 64)
   measured-products l = subst (λ (D : Bound). (D .load * B .speed < 2 ^ 64) × (B .load * D .speed < 2 ^ 64)) (sym is) (probe-products (bottleneck-small v s) l)
 
   graded : le C B ≡ unbeaten job s
+  unfolding takes
   graded =
-      ap (λ (D : Bound). le D B) is ∙ unbeaten-at (valid-proper v) s (method-least (valid-plannable v) Bisection n B ended)
+      ap (λ (D : Bound). le D B) is ∙ unbeaten-at (valid-proper v) s (method-least (valid-plannable v (partition-enough job part)) Bisection tt n B ended)
 
   pub graded-by : (b : Bool) → b ≡ le C B → cond b Graded.Best Graded.Valid ≡ gradeOf job s
   unfolding gradeOf

@@ -7,10 +7,10 @@ use mathlib.Core.List.{List, [], _∷_, _++_, List·Memᴰ}
 use mathlib.Core.Logic.{_≢_, _↔_}
 use native.Mathlib.Omega.{arith}
 use native.Mathlib.Decide.{decLe}
-use lib.Dec.{eqb}
+use lib.Dec.{T, eqb}
 use lib.ListN.{length, drop}
 use Rattle.bound.specs.Order.{_≼_, _≺_}
-use Rattle.chain.specs.Job.{Job, Valid, Partition, bottleneck}
+use Rattle.chain.specs.Job.{Job, Valid, enough, Partition, bottleneck}
 use Rattle.chain.specs.Plan.{planOf}
 use Rattle.chain.specs.Grade.{unbeaten}
 use Rattle.chain.specs.Refusal.{Test, separatorsOf, startupTest, speedsTest, weightsTest, processorsTest, tasksTest, holdsTest, lengthTest, planLengthTest, joinedTest, trueTest, firstRefusal, FirstFailing, jobTests, nothing, planTests, callTests, refusal}
@@ -106,11 +106,11 @@ module _ {job : Job} (v : Valid job) (s : List ℕ) where
       is-best true e = refl
       is-best false e = let z : _≡_ {A = ℕ} 0 1 = cc e in absurd (let w : ⊥ = omega arith in w)
 
-  pub valid-exactly : (gradeOf job s ≡ Graded.Valid) ↔ ((t : List ℕ) × Partition job t × (bottleneck job t ≺ bottleneck job s))
+  pub valid-exactly : T (enough job) → (gradeOf job s ≡ Graded.Valid) ↔ ((t : List ℕ) × Partition job t × (bottleneck job t ≺ bottleneck job s))
   unfolding gradeOf
-  valid-exactly = (
-    λ e. beaten-exactly (valid-plannable v) s .0 (is-valid (unbeaten job s) e),
-    λ h. ap (λ (b : Bool). cond b Graded.Best Graded.Valid) (beaten-exactly (valid-plannable v) s .1 h),
+  valid-exactly h = (
+    λ e. beaten-exactly (valid-plannable v h) s .0 (is-valid (unbeaten job s) e),
+    λ x. ap (λ (b : Bool). cond b Graded.Best Graded.Valid) (beaten-exactly (valid-plannable v h) s .1 x),
   )
     where
       is-valid : (b : Bool) → cond b Graded.Best Graded.Valid ≡ Graded.Valid → b ≡ false
@@ -127,11 +127,11 @@ module _ {job : Job} (v : Valid job) {s : List ℕ} (w : Partition job s) where
   division-graded = grade-accepted job (planBytes job s) division-accepted ∙ ap (gradeOf job) (read-back v w)
 
 -- that of our own plan is best.
-pub plan-graded : {job : Job} → Valid job → gradeAnswer job (planBytes job (planOf job)) ≡ Graded.Best
+pub plan-graded : {job : Job} → Valid job → T (enough job) → gradeAnswer job (planBytes job (planOf job)) ≡ Graded.Best
 unfolding gradeOf
-plan-graded {job} v =
-    division-graded v ((plan-of-best (valid-plannable v)) .partition)
-    ∙ ap (λ (b : Bool). cond b Graded.Best Graded.Valid) (plan-unbeaten (valid-plannable v))
+plan-graded {job} v e =
+    division-graded v ((plan-of-best (valid-plannable v e)) .partition)
+    ∙ ap (λ (b : Bool). cond b Graded.Best Graded.Valid) (plan-unbeaten (valid-plannable v e))
 
 -- By files: 0, or one of 2 to 9, 15, 16, 12, 11 and 13; that of the first test that fails.
 module _ (file plan : List ℕ) (lent : ℕ) where

@@ -1,17 +1,11 @@
 -- `grade_partition` meets its contract: the bottleneck is compared with the least.
 -- Assumes nothing.
-use Prim.Native.Nat.{ℕ, suc}
-use mathlib.Core.List.{List}
-use lib.ListN.{length, take}
+use Rattle.chain.proofs.Enough.{partition-enough}
 use Rattle.parts.proofs.Measure.{front-length}
 use Rattle.grading.proofs.Laws.{measured-products, graded-best, graded-valid}
 use borrow.Author.Needs.{needs}
 use Rattle.grading.proofs.grade_partition.Statement.{statement}
 use Rattle.grading.proofs.grade_partition.Tie as tie
-
--- The separators that are graded.
-abbrev front : tie.Start → List ℕ
-front s = take (suc (length (s .args .speeds .now))) (s .args .separators .now)
 
 measure-in-requires : tie.Need-measure-in-requires
 measure-in-requires c κs = search needs
@@ -19,14 +13,14 @@ measure-in-requires c κs = search needs
 bisection-in-requires : tie.Need-bisection-in-requires
 bisection-in-requires c κs =
     let s = c .before .before .before .before .before .before .before .before in
-    (s .pre .0, front-length (s .args .separators .now) (s .pre .1))
+    (record { ready = s .pre .0; enough-holds = partition-enough _ (s .pre .1) }, front-length (s .args .separators .now) (s .pre .1))
 
 at-most-requires : tie.Need-at-most-requires
 at-most-requires c κs =
     let f = c .before .before .bisection-in in
     let m = c .before .before .before .before .measure-in in
     let s = c .before .before .before .before .before .before .before .before .before .before .before in
-    measured-products (s .pre .0 .valid) (front s) (m .ensures .1) (f .ensures .0) (f .ensures .1 .0)
+    measured-products (s .pre .0 .valid) (s .pre .1) (m .ensures .1) (f .ensures .0) (f .ensures .1 .0)
 
 same-length : tie.Need-same-length
 same-length c = search needs
@@ -36,7 +30,7 @@ returns c =
     let f = c .before .before .before .before .bisection-in in
     let m = c .before .before .before .before .before .before .measure-in in
     let s = c .before .before .before .before .before .before .before .before .before .before .before .before .before in
-    graded-best (s .pre .0 .valid) (front s) (m .ensures .1) (f .ensures .0) (c .before .at-most .ensures) (c .if1 .taken)
+    graded-best (s .pre .0 .valid) (s .pre .1) (m .ensures .1) (f .ensures .0) (c .before .at-most .ensures) (c .if1 .taken)
 
 same-length-2 : tie.Need-same-length-2
 same-length-2 c = search needs
@@ -46,7 +40,7 @@ returns-2 c =
     let f = c .before .before .before .before .bisection-in in
     let m = c .before .before .before .before .before .before .measure-in in
     let s = c .before .before .before .before .before .before .before .before .before .before .before .before .before in
-    graded-valid (s .pre .0 .valid) (front s) (m .ensures .1) (f .ensures .0) (c .before .at-most .ensures) (c .if1 .left)
+    graded-valid (s .pre .0 .valid) (s .pre .1) (m .ensures .1) (f .ensures .0) (c .before .at-most .ensures) (c .if1 .left)
 
 pub grade-partition-spec : {M : Type 1} → statement M
 grade-partition-spec =
