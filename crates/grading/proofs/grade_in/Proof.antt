@@ -39,7 +39,7 @@ is-partition-requires : tie.Need-is-partition-requires
 unfolding maxProcessors
 is-partition-requires c κs =
     let s = c .before .before .before .before .before .before .before .before .before .before in
-    omega (arith, s .pre .processors-limit)
+    (s .pre, omega (arith, s .pre .processors-limit))
 
 returns-3 : tie.Need-returns-3
 returns-3 c =
