@@ -91,9 +91,9 @@ fn plan_read(
     if plan.len() < PLAN_RECORD * speeds.len() {
         return 9;
     }
-    let by_holds = test_kept(method, startup, speeds, holds, weights);
-    if by_holds != 0 {
-        return by_holds;
+    let kept = test_kept(method, startup, speeds, holds, weights);
+    if kept != 0 {
+        return kept;
     }
     write_best(method, second, startup, speeds, holds, weights, plan);
     0
