@@ -2,10 +2,11 @@
 -- Assumes nothing.
 use Prim.Native.Nat.{ℕ, zero, suc, _≤_}
 use mathlib.Core.Path.{_≡_, refl, sym, ap, ap₂, subst, _∙_}
+use mathlib.Core.Bool.{Bool, true, false, cond}
 use mathlib.Core.List.{List, [], _∷_, _++_, map, List·Memᴰ}
 use mathlib.Core.Logic.{_≢_, _↔_}
 use native.Mathlib.Omega.{arith}
-use lib.Dec.{T}
+use lib.Dec.{T, eqb}
 use lib.ListN.{length, take}
 use Rattle.bound.specs.declared.Bound.{Bound}
 use Rattle.chain.specs.declared.Outcome.{Outcome}
@@ -14,20 +15,20 @@ use Rattle.chain.specs.Job.{Edition, startupOf, Job, jobOf, bottleneck}
 use Rattle.chain.specs.Plan.{planOf, Best}
 use Rattle.chain.specs.Probe as probing
 use Rattle.chain.specs.Heuristic as guessing
-use Rattle.chain.specs.Refusal.{Test, eachBetween, methodTest, startupTest, speedsTest, weightsTest, processorsTest, tasksTest, rowTest, lengthTest, boundTest, partitionTest, planLengthTest, joinedTest, trueTest, firstRefusal, jobTests, planTests, callTests, refusal, measureInputs, halvingInputs}
+use Rattle.chain.specs.Refusal.{Test, eachBetween, methodTest, startupTest, speedsTest, weightsTest, processorsTest, tasksTest, rowTest, lengthTest, holdsTest, enoughTest, freeTest, boundTest, partitionTest, planLengthTest, joinedTest, trueTest, firstRefusal, jobTests, planTests, nothing, callTests, refusal, measureInputs, halvingInputs}
 use Rattle.chain.proofs.Demand.{plan-of-best}
 use Rattle.chain.proofs.Parts.{valid-plannable}
-use Rattle.chain.proofs.Refusals.{Numbered, numbered-nil, numbered-cons, numbered-append, job-numbered, call-numbered, plan-numbered, accepted-passes, passes-accepted, gives}
+use Rattle.chain.proofs.Refusals.{Numbered, numbered-nil, numbered-cons, numbered-append, numbered-map, call-numbered, plan-numbered, accepted-passes, passes-accepted, gives}
 use Rattle.fields.specs.Field.{Bytes}
-use Rattle.refusals.specs.Inputs.{planNeeded, probeInputs, heuristicInputs, planInputs, writeInputs, writePlanInputs}
+use Rattle.refusals.specs.Inputs.{planNeeded, freeBy, probeInputs, heuristicInputs, planInputs, writeInputs, writePlanInputs}
 use Rattle.refusals.specs.Answers.{Said, saidBy}
 use Rattle.refusals.proofs.Answering.{said-alone, said-nothing, number-of}
 use Rattle.refusals.proofs.Lent.{lent-refused}
 use Rattle.refusals.proofs.Promises.{job-numbers}
 use Rattle.jobs.specs.declared.JobRead.{JobRead}
 use Rattle.jobs.specs.JobFile.{jobBytes}
-use Rattle.jobs.specs.Parse.{multipleTest, formTest, orderTest, placeTest, speedTest, weightTest, workTest, recordTests, recordsTests, recordCount, secondIn, startupIn, valueAt, speedsOf, weightsOf, editionIn, jobIn, fileTests}
-use Rattle.jobs.specs.Answers.{readTests, readRefusal, readAnswer, readSpeeds, readWeights, writeAnswer, writeBytes}
+use Rattle.jobs.specs.Parse.{multipleTest, formTest, orderTest, placeTest, speedTest, weightTest, workTest, recordTests, recordsTests, recordCount, secondIn, startupIn, valueAt, speedsOf, holdsOf, weightsOf, editionIn, jobIn, fileTests}
+use Rattle.jobs.specs.Answers.{readTests, readRefusal, readAnswer, readSpeeds, readHolds, readWeights, writeAnswer, writeBytes}
 use Rattle.jobs.proofs.AllRecords.{answer-read}
 use Rattle.jobs.proofs.Calls.{file-numbered, read-numbered, read-said, read-number, write-said, WrittenAgain, written-again}
 use Rattle.jobs.proofs.Promises.{read-numbers, write-numbers}
@@ -43,21 +44,21 @@ use Rattle.grading.proofs.Promises.{grade-said, grade-numbers, host-grade-numbe
 use Rattle.planner.specs.declared.Figures.{Figures}
 use Rattle.planner.specs.declared.Planned.the-variants.{Accepted}
 use Rattle.planner.specs.Answers.{planRefusal, planAnswer, planWrites}
-use Rattle.planner.specs.HostCall.{hostFileTests, hostTests, hostAnswer}
+use Rattle.planner.specs.HostCall.{holdTests, hostFileTests, hostTests, hostAnswer}
 use Rattle.planner.proofs.Promises.{plan-said, plan-number, plan-accepted, plan-keeps, given, accepted-best, accepted-plan, accepted-count, accepted-separators}
-use Rattle.planner.proofs.Numbers.{plan-numbers, host-numbers, host-plan, host-keeps, host-valid}
+use Rattle.planner.proofs.Numbers.{plan-numbers, host-numbers, host-plan, host-keeps, host-valid, host-enough}
 use Rattle.listing.specs.Answers.{listTests, listRefusal}
 use Rattle.listing.proofs.Promises.{list-said, list-numbers, list-keeps}
-use Rattle.jobs.proofs.Taken.{Taken, read-taken}
+use Rattle.jobs.proofs.Taken.{Taken, read-taken, taken-job}
 use Rattle.refusals.proofs.Editions.{edition-effective}
-use Rattle.demands.specs.Call.{ByLists, editionBy, jobBy, listsIn, Call, TestJob, ReadJob, WriteJob, Measure, Probe, Heuristic, Halving, Plan, WritePlan, Grade, ListJob, PlanJob, GradePlan, said, values, tests, numbers, recordsOrder, fileOrder, order, lent, Leaves}
+use Rattle.demands.specs.Call.{ByLists, editionBy, jobBy, listsIn, Call, TestJob, ReadJob, WriteJob, Measure, Probe, Heuristic, Halving, Plan, WritePlan, Grade, ListJob, PlanJob, GradePlan, said, values, tests, numbers, recordsOrder, fileOrder, freeOrder, order, lent, Leaves}
 use Rattle.demands.specs.Demands.{number, Accepts, DemandOne, front, SomeWithin, Trial, QuickPlan, listsRead, WrittenBack, DemandTwo, PlanLeft, HostLeft, DemandThree}
 
 -- Demand 1. What each call says;
 says : (call : Call) → said call ≡ saidBy (firstRefusal (tests call)) (values call)
 unfolding readRefusal refusal planRefusal hostAnswer listRefusal hostGrade gradeRefusal
-says (TestJob g) = said-nothing (firstRefusal (jobTests (jobBy g)))
-says (ReadJob file es ws) = read-said file (length es) (length ws)
+says (TestJob g) = said-nothing (refusal (jobBy g) nothing)
+says (ReadJob file es hs ws) = read-said file (length es) (length hs) (length ws)
 says (WriteJob g file) = write-said (editionBy g) (jobBy g) (length file)
 says (Measure g s) = measure-said (jobBy g) s
 says (Probe g B s) = probe-said (jobBy g) B s
@@ -95,32 +96,42 @@ file-ordered file =
     (numbers-after (recordsTests file (recordCount file)) (processorsTest (speedsOf file) ∷ tasksTest (weightsOf file) ∷ [])
     ∙ ap (λ (ns : List ℕ). ns ++ 7 ∷ 8 ∷ []) (records-ordered file (recordCount file)))
 
+-- That of the holds, by method 4.
+free-ordered : (m : ℕ) (job : Job) → numbersOf (map freeTest (freeBy m job)) ≡ freeOrder m
+unfolding freeBy freeOrder freeTest
+free-ordered m job = go (eqb m 4)
+  where
+    go : (b : Bool) → numbersOf (map freeTest (cond b (job ∷ []) [])) ≡ cond b (18 ∷ []) []
+    go true = unfold freeTest in refl
+    go false = refl
+
 ordered : (call : Call) → numbersOf (tests call) ≡ order call
-unfolding readTests hostTests hostFileTests listTests gradeTests planTests callTests jobTests methodTest startupTest speedsTest weightsTest processorsTest tasksTest rowTest lengthTest boundTest partitionTest planLengthTest joinedTest trueTest
+unfolding readTests hostTests hostFileTests holdTests listTests gradeTests planTests callTests jobTests methodTest startupTest speedsTest weightsTest processorsTest tasksTest rowTest lengthTest holdsTest enoughTest freeTest boundTest partitionTest planLengthTest joinedTest trueTest
 ordered (TestJob g) = refl
-ordered (ReadJob file es ws) =
-    numbers-after (fileTests file) (lengthTest (length (weightsOf file)) (length ws) ∷ lengthTest (length (speedsOf file)) (length es) ∷ [])
-    ∙ ap (λ (ns : List ℕ). ns ++ 9 ∷ 9 ∷ []) (file-ordered file)
+ordered (ReadJob file es hs ws) =
+    numbers-after (fileTests file) (lengthTest (length (weightsOf file)) (length ws) ∷ lengthTest (length (speedsOf file)) (length es) ∷ lengthTest (length (holdsOf file)) (length hs) ∷ [])
+    ∙ ap (λ (ns : List ℕ). ns ++ 9 ∷ 9 ∷ 9 ∷ []) (file-ordered file)
 ordered (WriteJob g file) = refl
 ordered (Measure g s) = refl
 ordered (Probe g B s) = refl
 ordered (Heuristic g s) = refl
 ordered (Halving g s) = refl
-ordered (Plan m g s t) = refl
+ordered (Plan m g s t) = ap (λ (ns : List ℕ). 1 ∷ 16 ∷ 5 ∷ 6 ∷ 7 ∷ 8 ∷ 9 ∷ 9 ∷ 9 ∷ 17 ∷ ns) (free-ordered m (jobBy g))
 ordered (WritePlan g s plan) = refl
 ordered (Grade g plan) = refl
 ordered (ListJob file out) = refl
 ordered (PlanJob file m plan) =
     ap (λ (ns : List ℕ). 1 ∷ ns)
-    (numbers-after (fileTests file) (lengthTest (planNeeded (jobIn file)) (length plan) ∷ []) ∙ ap (λ (ns : List ℕ). ns ++ 9 ∷ []) (file-ordered file))
+    (numbers-after (fileTests file) (lengthTest (planNeeded (jobIn file)) (length plan) ∷ holdTests m (jobIn file))
+    ∙ ap₂ (λ (ns ms : List ℕ). ns ++ 9 ∷ 17 ∷ ms) (file-ordered file) (free-ordered m (jobIn file)))
 ordered (GradePlan file plan grade) =
     numbers-after (fileTests file) (lengthTest 1 (length grade) ∷ planTests (jobIn file) (planRead (jobIn file) plan))
     ∙ ap (λ (ns : List ℕ). ns ++ 9 ∷ 12 ∷ 11 ∷ 13 ∷ []) (file-ordered file)
 
--- It is one of the row, which are from 1 to 16.
+-- It is one of the row, which are from 1 to 18.
 listed : (call : Call) → List·Memᴰ (number call) (0 ∷ numbers call)
 listed (TestJob g) = job-numbers (jobBy g)
-listed (ReadJob file es ws) = read-numbers file (length es) (length ws)
+listed (ReadJob file es hs ws) = read-numbers file (length es) (length hs) (length ws)
 listed (WriteJob g file) = write-numbers (editionBy g) (jobBy g) (length file)
 listed (Measure g s) = measure-numbers (jobBy g) s
 listed (Probe g B s) = probe-numbers (jobBy g) B s
@@ -133,10 +144,10 @@ listed (ListJob file out) = list-numbers file out
 listed (PlanJob file m plan) = host-numbers file m (length plan)
 listed (GradePlan file plan grade) = host-grade-numbers file plan (length grade)
 
-ranged : (call : Call) → T (eachBetween 1 16 (numbers call))
+ranged : (call : Call) → T (eachBetween 1 18 (numbers call))
 unfolding eachBetween
 ranged (TestJob g) = tt
-ranged (ReadJob file es ws) = tt
+ranged (ReadJob file es hs ws) = tt
 ranged (WriteJob g file) = tt
 ranged (Measure g s) = tt
 ranged (Probe g B s) = tt
@@ -151,9 +162,9 @@ ranged (GradePlan file plan grade) = tt
 
 -- No test has the number 0.
 pub numbered : (call : Call) → Numbered (tests call)
-unfolding hostTests hostFileTests listTests gradeTests methodTest lengthTest
-numbered (TestJob g) = job-numbered (jobBy g)
-numbered (ReadJob file es ws) = read-numbered file (length es) (length ws)
+unfolding hostTests hostFileTests holdTests listTests gradeTests methodTest lengthTest enoughTest freeTest
+numbered (TestJob g) = call-numbered (jobBy g) nothing
+numbered (ReadJob file es hs ws) = read-numbered file (length es) (length hs) (length ws)
 numbered (WriteJob g file) = call-numbered (jobBy g) (writeInputs (editionBy g) (jobBy g) (length file))
 numbered (Measure g s) = call-numbered (jobBy g) (measureInputs (jobBy g) s)
 numbered (Probe g B s) = call-numbered (jobBy g) (probeInputs (jobBy g) B (length s))
@@ -164,14 +175,17 @@ numbered (WritePlan g s plan) = call-numbered (jobBy g) (writePlanInputs (jobBy 
 numbered (Grade g plan) = call-numbered (jobBy g) (gradeInputs (jobBy g) plan)
 numbered (ListJob file out) = numbered-cons (omega arith) numbered-nil
 numbered (PlanJob file m plan) =
-    numbered-cons (omega arith) (numbered-append (file-numbered file) (numbered-cons (omega arith) numbered-nil))
+    numbered-cons (omega arith)
+    (numbered-append (file-numbered file) (numbered-cons (omega arith) (numbered-cons (omega arith) (numbered-map freeTest (λ j. omega arith) (freeBy m (jobIn file))))))
 numbered (GradePlan file plan grade) =
     numbered-append (file-numbered file) (numbered-cons (omega arith) (plan-numbered (jobIn file) (planRead (jobIn file) plan)))
 
 kept : (call : Call) → firstRefusal (tests call) ≢ 0 → (left : List (List ℕ)) → Leaves call left → left ≡ lent call
-unfolding readRefusal refusal planRefusal hostAnswer listRefusal hostGrade gradeRefusal readSpeeds readWeights writeBytes writePlanBytes
+unfolding readRefusal refusal planRefusal hostAnswer listRefusal hostGrade gradeRefusal readSpeeds readHolds readWeights writeBytes writePlanBytes
 kept (TestJob g) h left e = e
-kept (ReadJob file es ws) h left e = e ∙ ap₂ (λ (x y : List ℕ). x ∷ y ∷ []) (lent-refused h (speedsOf file) es) (lent-refused h (weightsOf file) ws)
+kept (ReadJob file es hs ws) h left e =
+    e ∙ ap₂ (λ (x y : List ℕ). x ∷ y ∷ readWeights file es hs ws ∷ []) (lent-refused h (speedsOf file) es) (lent-refused h (holdsOf file) hs)
+    ∙ ap (λ (x : List ℕ). es ∷ hs ∷ x ∷ []) (lent-refused h (weightsOf file) ws)
 kept (WriteJob g file) h left e = e ∙ ap (λ (x : List ℕ). x ∷ []) (lent-refused h (jobBytes (editionBy g) (jobBy g)) file)
 kept (Measure g s) h left e = e
 kept (Probe g B s) h left e = e ∙ ap (λ (x : List ℕ). x ∷ []) (probe-keeps (jobBy g) B s h)
@@ -238,9 +252,9 @@ quick g s e =
     record { bound = bound; answer = answer; partition = h .partition; measured = h .measured; close = h .close }
 
 -- and an accepted file, whose job is the one that was read.
-again : (file es ws buffer : List ℕ) → Bytes file → Accepts (ReadJob file es ws) → length file ≤ length buffer → WrittenBack file es ws buffer
+again : (file es hs ws buffer : List ℕ) → Bytes file → Accepts (ReadJob file es hs ws) → length file ≤ length buffer → WrittenBack file es hs ws buffer
 unfolding readAnswer
-again file es ws buffer b e l =
+again file es hs ws buffer b e l =
     record {
       second = secondIn file;
       startup = startupIn file;
@@ -251,16 +265,16 @@ again file es ws buffer b e l =
       bytes = ap₂ (λ (d : Edition) (job : Job). writeBytes d job buffer) (t .edition) job-is ∙ w .bytes;
     }
   where
-    answer : readAnswer file (length es) (length ws) ≡ JobRead.Read (secondIn file) (startupIn file) (length (speedsOf file)) (length (weightsOf file))
-    answer = sym (answer-read file (sym (read-number file (length es) (length ws)) ∙ e) refl refl refl refl)
+    answer : readAnswer file (length es) (length hs) (length ws) ≡ JobRead.Read (secondIn file) (startupIn file) (length (speedsOf file)) (length (weightsOf file))
+    answer = sym (answer-read file (sym (read-number file (length es) (length hs) (length ws)) ∙ e) refl refl refl refl)
 
-    t : Taken file (readSpeeds file es ws) (readWeights file es ws) (secondIn file) (startupIn file) (length (speedsOf file)) (length (weightsOf file))
-    t = read-taken file es ws refl answer refl refl
+    t : Taken file (readSpeeds file es hs ws) (readHolds file es hs ws) (readWeights file es hs ws) (secondIn file) (startupIn file) (length (speedsOf file)) (length (weightsOf file))
+    t = read-taken file es hs ws refl answer refl refl refl
 
-    job-is : jobBy (listsRead file es ws (secondIn file) (startupIn file) (length (speedsOf file)) (length (weightsOf file))) ≡ jobIn file
+    job-is : jobBy (listsRead file es hs ws (secondIn file) (startupIn file) (length (speedsOf file)) (length (weightsOf file))) ≡ jobIn file
     job-is =
-        ap (λ (d : Edition). jobOf (startupOf d) (take (length (speedsOf file)) (readSpeeds file es ws)) (take (length (weightsOf file)) (readWeights file es ws))) (t .edition)
-        ∙ ap₂ (jobOf (startupIn file)) (t .speeds) (t .weights)
+        ap (λ (d : Edition). jobOf (startupOf d) (take (length (speedsOf file)) (readSpeeds file es hs ws)) (take (length (speedsOf file)) (readHolds file es hs ws)) (take (length (weightsOf file)) (readWeights file es hs ws))) (t .edition)
+        ∙ taken-job t
 
     w : WrittenAgain file buffer
     w = written-again file buffer b (t .accepted) l
@@ -300,11 +314,14 @@ pub lists-edition : (file : List ℕ) → editionBy (listsIn file) ≡ editionIn
 lists-edition file = edition-effective (secondIn file) (valueAt file 0)
 
 pub lists-job : (file : List ℕ) → jobBy (listsIn file) ≡ jobIn file
-lists-job file = ap (λ (d : Edition). jobOf (startupOf d) (speedsOf file) (weightsOf file)) (lists-edition file)
+lists-job file = ap (λ (d : Edition). jobOf (startupOf d) (speedsOf file) (holdsOf file) (weightsOf file)) (lists-edition file)
 
 host : (file plan : List ℕ) (m : ℕ) → Accepts (PlanJob file m plan) → HostLeft file plan m (planOf (jobIn file))
 host file plan m e =
-    record { best = plan-of-best (valid-plannable (host-valid file m (length plan) e)); bytes = host-plan file plan m e }
+    record {
+      best = plan-of-best (valid-plannable (host-valid file m (length plan) e) (host-enough file m (length plan) e));
+      bytes = host-plan file plan m e;
+    }
 
 pub demand-three : DemandThree
 demand-three =

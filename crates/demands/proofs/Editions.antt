@@ -12,23 +12,25 @@ use borrow.Author.Tests.{ne-eqb}
 use Rattle.bound.specs.declared.Bound.{Bound}
 use Rattle.bound.specs.Order.{over}
 use Rattle.bound.proofs.Order.{make-lt}
-use Rattle.chain.specs.Job.{Edition, First, Second, startupOf, editionOf, OfEdition, Job, jobOf, tasks, processors, last, speedOf, partLoad, heaviest, fastest, slowest, partBound, at}
+use Rattle.chain.specs.Job.{Edition, First, Second, startupOf, editionOf, OfEdition, Job, jobOf, tasks, processors, last, speedOf, held, Valid, partLoad, totalWeight, heaviest, fastest, slowest, partBound, at}
 use Rattle.chain.specs.declared.Method.{Method}
 use Rattle.chain.specs.declared.Method.the-variants.{Table, Bidding, Bisection, Nicol}
 use Rattle.chain.specs.Limits.{maxStartup}
 use Rattle.chain.specs.Probe.{reach, separator}
-use Rattle.chain.specs.Plan.{difference, biddingAllowance, allowance}
-use Rattle.chain.specs.Refusal.{Test, between, startupTest, processorsTest, tasksTest, firstRefusal, jobTests, refusal}
+use Rattle.chain.specs.Plan.{breadth, difference, biddingAllowance, allowance}
+use Rattle.chain.specs.Refusal.{Test, between, startupTest, processorsTest, tasksTest, firstRefusal, jobTests, callTests, refusal}
 use Rattle.chain.proofs.Parts.{load-plain, load-some}
-use Rattle.chain.proofs.Refusals.{first-refusal-same, job-accepted}
+use Rattle.chain.proofs.Refusals.{first-refusal-same}
 use Rattle.chain.proofs.Walk.{reach-unique, separator-to, walked-at}
 use Rattle.chain.proofs.Within.{within-empty, past-of}
 use Rattle.refusals.specs.Inputs.{probeInputs}
+use Rattle.refusals.proofs.Accepted.{accepted}
+use Rattle.refusals.proofs.Holds.{holds-long}
 use Rattle.jobs.specs.declared.JobRead.{JobRead}
-use Rattle.jobs.specs.JobFile.{processorKind, taskKind, startupKind, jobBytes}
-use Rattle.jobs.specs.Parse.{recordCount, multipleTest, speedsOf, weightsOf, kindAt, isKind, blank, secondIn, editionIn, formTest, orderTest, placeTest, speedTest, weightTest, workTest, recordTests, recordsTests, valueAt, fileTests, fileRefusal}
+use Rattle.jobs.specs.JobFile.{processorKind, taskKind, startupKind, jobBytes, ExactHolds}
+use Rattle.jobs.specs.Parse.{recordCount, multipleTest, speedsOf, holdsOf, weightsOf, kindAt, isKind, blank, secondIn, editionIn, formTest, orderTest, placeTest, speedTest, weightTest, workTest, recordTests, recordsTests, valueAt, fileTests, fileRefusal}
 use Rattle.jobs.proofs.Calls.{read-again}
-use Rattle.jobs.proofs.RoundTrip.{first-bytes, same-bytes}
+use Rattle.jobs.proofs.RoundTrip.{first-bytes, given-exact, same-bytes}
 use Rattle.calls.specs.Answers.{probeWrites}
 use Rattle.calls.proofs.Promises.{probe-number, probe-front}
 use Rattle.planfile.proofs.Promises.{write-plan-number, written-loads-add-up}
@@ -38,13 +40,13 @@ use Rattle.planner.proofs.Promises.{plan-number, Given, given}
 use Rattle.planner.proofs.Numbers.{host-loads-add-up}
 use Rattle.demands.specs.Call.{ByLists, editionBy, jobBy, Call, TestJob, ReadJob, WriteJob, Measure, Probe, Heuristic, Halving, Plan, WritePlan, Grade, ListJob, PlanJob, GradePlan}
 use Rattle.demands.specs.Demands.{Accepts, front}
-use Rattle.demands.specs.Editions.{inEdition, callAs, Same, namesEdition, ByWeights, twoKinds, formerRecords, formerTests, NoStartup, AsBefore, SameFigures, SamePlan, ReadBack, Editions}
+use Rattle.demands.specs.Editions.{inEdition, callAs, Same, namesEdition, ByWeights, twoKinds, formerRecords, formerTests, NoStartup, AsBefore, SameFigures, SamePlan, Halves, ReadBack, Editions}
 
 -- The first edition does not look at c: all that a call says and leaves computes to the same.
 whatever : (c d : ℕ) (call : Call) → Same (callAs false c call) (callAs false d call)
 unfolding editionOf startupOf
 whatever c d (TestJob g) = record { says = refl; leaves = λ left. (λ e. e, λ e. e) }
-whatever c d (ReadJob file es ws) = record { says = refl; leaves = λ left. (λ e. e, λ e. e) }
+whatever c d (ReadJob file es hs ws) = record { says = refl; leaves = λ left. (λ e. e, λ e. e) }
 whatever c d (WriteJob g file) = record { says = refl; leaves = λ left. (λ e. e, λ e. e) }
 whatever c d (Measure g s) = record { says = refl; leaves = λ left. (λ e. e, λ e. e) }
 whatever c d (Probe g B s) = record { says = refl; leaves = λ left. (λ e. e, λ e. e) }
@@ -61,7 +63,7 @@ whatever c d (GradePlan file plan grade) = record { says = refl; leaves = λ lef
 nought : (c : ℕ) (call : Call) → namesEdition call ≡ false → Same (callAs true 0 call) (callAs false c call)
 unfolding editionOf startupOf
 nought c (TestJob g) n = record { says = refl; leaves = λ left. (λ e. e, λ e. e) }
-nought c (ReadJob file es ws) n = record { says = refl; leaves = λ left. (λ e. e, λ e. e) }
+nought c (ReadJob file es hs ws) n = record { says = refl; leaves = λ left. (λ e. e, λ e. e) }
 nought c (WriteJob g file) n = absurd (let z : _≡_ {A = ℕ} 0 1 = cc n in let y : ⊥ = omega arith in y)
 nought c (Measure g s) n = record { says = refl; leaves = λ left. (λ e. e, λ e. e) }
 nought c (Probe g B s) n = record { says = refl; leaves = λ left. (λ e. e, λ e. e) }
@@ -75,23 +77,23 @@ nought c (PlanJob file m plan) n = record { says = refl; leaves = λ left. (λ e
 nought c (GradePlan file plan grade) n = record { says = refl; leaves = λ left. (λ e. e, λ e. e) }
 
 -- Any job without start-up work, taken for one of the first edition, is by weights.
-by-weights : (es ws : List ℕ) → ByWeights First (jobOf 0 es ws)
-unfolding difference allowance biddingAllowance jobTests startupTest firstRefusal maxStartup
-by-weights es ws =
+by-weights : (es hs ws : List ℕ) → ByWeights First (jobOf 0 es hs ws)
+unfolding difference allowance biddingAllowance refusal callTests jobTests startupTest firstRefusal maxStartup
+by-weights es hs ws =
     record {
-      loads = load-plain (jobOf 0 es ws) refl;
+      loads = load-plain (jobOf 0 es hs ws) refl;
       tests = refl;
-      close = ap (λ (n : ℕ). over n (slowest (jobOf 0 es ws))) (let e : heaviest (jobOf 0 es ws) + 0 ≡ heaviest (jobOf 0 es ws) = omega arith in e);
+      close = ap (λ (n : ℕ). over n (slowest (jobOf 0 es hs ws))) (let e : heaviest (jobOf 0 es hs ws) + 0 ≡ heaviest (jobOf 0 es hs ws) = omega arith in e);
       width =
-          ap (λ (n : ℕ). n * (fastest (jobOf 0 es ws) * fastest (jobOf 0 es ws)) / slowest (jobOf 0 es ws))
-          (let e : heaviest (jobOf 0 es ws) + 0 ≡ heaviest (jobOf 0 es ws) = omega arith in e);
+          ap (λ (n : ℕ). n * (fastest (jobOf 0 es hs ws) * fastest (jobOf 0 es hs ws)) / slowest (jobOf 0 es hs ws))
+          (let e : breadth (jobOf 0 es hs ws) ≡ cond (held (jobOf 0 es hs ws)) (totalWeight (jobOf 0 es hs ws)) (heaviest (jobOf 0 es hs ws)) = omega arith in e);
       trials = refl;
-      bytes = first-bytes (jobOf 0 es ws);
+      bytes = first-bytes (jobOf 0 es hs ws);
     }
 
 weights : (c : ℕ) (g : ByLists) → ByWeights (editionBy (inEdition false c g)) (jobBy (inEdition false c g))
 unfolding editionOf startupOf
-weights c g = by-weights (g .speeds) (g .weights)
+weights c g = by-weights (g .speeds) (g .holds) (g .weights)
 
 -- A file without a record of kind 3: record by record its tests give what the former ones do. Here b says that the record is of kind 3.
 without-startup : (k l b z o s w y x : Bool) (r : ℕ) → b ≡ false
@@ -136,8 +138,8 @@ module _ (file : List ℕ) (none : NoStartup file) where
             first-refusal-same (multipleTest file ∷ []) (recordsTests file (recordCount file) ++ ends) (formerRecords file (recordCount file) ++ ends)
             (records-same (recordCount file) ends);
         weights =
-            subst (λ (d : Edition). ByWeights d (jobOf (startupOf d) (speedsOf file) (weightsOf file))) (sym first-of)
-            (by-weights (speedsOf file) (weightsOf file));
+            subst (λ (d : Edition). ByWeights d (jobOf (startupOf d) (speedsOf file) (holdsOf file) (weightsOf file))) (sym first-of)
+            (by-weights (speedsOf file) (holdsOf file) (weightsOf file));
       }
     where
       ends : List Test
@@ -171,7 +173,7 @@ nought-plan c m g s t =
     }
   where
     job : Job
-    job = jobOf 0 (g .speeds) (g .weights)
+    job = jobOf 0 (g .speeds) (g .holds) (g .weights)
 
     both : {f h : Figures} → Given (Second 0) job m s t f → Given First job m s t h → SameFigures (processors job) f h
     both {f} {h} x y =
@@ -189,21 +191,32 @@ told-second false false c e h = refl
 of-edition : (g : ByLists) → OfEdition (editionBy g) (jobBy g)
 of-edition g = record { counts = refl }
 
-back : (g : ByLists) (es ws : List ℕ) → Accepts (TestJob g) → length (g .speeds) ≤ length es → length (g .weights) ≤ length ws → ReadBack g es ws
-back g es ws e h k =
-    let r = read-again (editionBy g) (jobBy g) es ws (of-edition g) (job-accepted .0 e) h k in
+-- An accepted job is valid and has one hold of 16 bits for each processor.
+valid-by : (g : ByLists) → Accepts (TestJob g) → Valid (jobBy g)
+valid-by g e = (accepted e) .valid
+
+exact-by : (g : ByLists) → Halves (g .holds) → Accepts (TestJob g) → ExactHolds (jobBy g)
+exact-by g b e =
+    given-exact (startupOf (editionBy g)) (g .speeds) (g .holds) (g .weights)
+    (holds-long (startupOf (editionBy g)) (g .speeds) (g .holds) (g .weights) (valid-by g e)) b
+
+back : (g : ByLists) (es hs ws : List ℕ) → Halves (g .holds) → Accepts (TestJob g) → length (g .speeds) ≤ length es → length (g .speeds) ≤ length hs
+    → length (g .weights) ≤ length ws → ReadBack g es hs ws
+back g es hs ws b e h k l =
+    let r = read-again (editionBy g) (jobBy g) es hs ws (of-edition g) (valid-by g e) (exact-by g b e) h k l in
     record {
       answer =
           r .answer
           ∙ ap (λ (b : Bool). JobRead.Read b ((jobBy g) .startup) (length (g .speeds)) (length (g .weights)))
           (told-second (r .second) (g .second) ((jobBy g) .startup) (g .startup) (r .same-edition));
       speeds = r .speeds;
+      holds = r .holds;
       weights = r .weights;
     }
 
-one-job : (g h : ByLists) → Accepts (TestJob g) → Accepts (TestJob h) → jobBytes (editionBy g) (jobBy g) ≡ jobBytes (editionBy h) (jobBy h)
-    → (editionBy g ≡ editionBy h) × (jobBy g ≡ jobBy h)
-one-job g h d e same = same-bytes (of-edition g) (job-accepted .0 d) (of-edition h) (job-accepted .0 e) same
+one-job : (g h : ByLists) → Halves (g .holds) → Halves (h .holds) → Accepts (TestJob g) → Accepts (TestJob h)
+    → jobBytes (editionBy g) (jobBy g) ≡ jobBytes (editionBy h) (jobBy h) → (editionBy g ≡ editionBy h) × (jobBy g ≡ jobBy h)
+one-job g h b c d e same = same-bytes (of-edition g) (valid-by g d) (exact-by g b d) (of-edition h) (valid-by h e) (exact-by h c e) same
 
 -- A bound without room for the start-up work: no part with a task is within it.
 reach-none : (job : Job) (p a : ℕ) (B : Bound) → a ≤ tasks job → B .load * speedOf job p < job .startup * B .speed → reach job p a B ≡ a

@@ -4,14 +4,16 @@ use Prim.Native.Nat.{ℕ, suc, _≤_}
 use mathlib.Core.Path.{_≡_, sym, ap, subst, _∙_}
 use mathlib.Core.List.{List, _∷_, _++_}
 use mathlib.Core.Logic.{_↔_}
+use lib.Dec.{T}
 use lib.ListN.{length, take, drop}
 use lib.Seq.{take-at}
-use Rattle.chain.specs.Job.{Job, Valid, processors, Partition}
+use Rattle.chain.specs.Job.{Job, Valid, processors, enough, Partition}
 use Rattle.chain.specs.Plan.{planOf}
 use Rattle.chain.specs.Refusal.{separatorsOf, refusal}
 use Rattle.chain.proofs.Demand.{plan-of-best}
 use Rattle.chain.proofs.Parts.{valid-plannable}
-use Rattle.chain.proofs.Refusals.{Told, plan-accepted, job-accepted}
+use Rattle.chain.proofs.Enough.{partition-enough}
+use Rattle.chain.proofs.Refusals.{Told, plan-accepted}
 use Rattle.fields.specs.Field.{Bytes}
 use Rattle.refusals.specs.Inputs.{planNeeded, writePlanInputs}
 use Rattle.refusals.proofs.Accepted.{Accepted, accepted}
@@ -28,7 +30,7 @@ use Rattle.grading.specs.Files.{hostGrade, hostGrades}
 use Rattle.grading.proofs.Promises.{grade-number, grade-parts, grade-accepts, grade-accepted, best-exactly, valid-exactly, division-accepted, plan-graded, host-parts, host-grade-takes, host-grade-same, host-grade-writes}
 use Rattle.planner.specs.Answers.{planWrites}
 use Rattle.planner.specs.HostCall.{hostWrites}
-use Rattle.planner.proofs.Numbers.{host-plan, host-valid, host-file}
+use Rattle.planner.proofs.Numbers.{host-plan, host-valid, host-enough, host-file}
 use Rattle.demands.specs.Call.{ByLists, jobBy, listsIn, TestJob, Plan, WritePlan, Grade, PlanJob, GradePlan}
 use Rattle.demands.specs.Demands.{Accepts}
 use Rattle.demands.specs.Grades.{GradeLeft, planIn, Grades}
@@ -44,21 +46,22 @@ module _ (g : ByLists) (plan : List ℕ) where
 
   accepts : Bytes plan → Accepts (Grade g plan) ↔ (Accepts (TestJob g) × TruePlan job plan)
   accepts b = (
-    λ e. let a = grade-accepts job plan b .0 (none e) in (job-accepted .1 (a .0), a .1),
-    λ (e, t). grade-number job plan ∙ grade-accepts job plan b .1 (job-accepted .0 e, t),
+    λ e. (grade-parts job plan .0 (none e) .0, grade-accepts job plan b .0 (none e) .1),
+    λ (e, t). grade-number job plan ∙ grade-accepts job plan b .1 ((accepted e) .valid, t),
   )
 
   graded : Bytes plan → Accepts (Grade g plan) → GradeLeft job plan
   graded b e =
       let z = none e in
-      let v : Valid job = job-accepted .0 (grade-parts job plan .0 z .0) in
+      let v : Valid job = (accepted (grade-parts job plan .0 z .0)) .valid in
       let t : Told job (planRead job plan) = plan-accepted job (planRead job plan) .0 (grade-parts job plan .0 z .1) in
       let s : List ℕ = separatorsOf job (planRead job plan) in
       let is : gradeAnswer job plan ≡ gradeOf job s = grade-accepted job plan z in
+      let enough-holds : T (enough job) = partition-enough job (t .division) in
       record {
         told = record { separators = s; division = t .division; bytes = told-bytes job plan b t };
         best = (λ h. best-exactly v s .0 (sym is ∙ h), λ h. is ∙ best-exactly v s .1 h);
-        valid = (λ h. valid-exactly v s .0 (sym is ∙ h), λ h. is ∙ valid-exactly v s .1 h);
+        valid = (λ h. valid-exactly v s enough-holds .0 (sym is ∙ h), λ h. is ∙ valid-exactly v s enough-holds .1 h);
       }
 
 -- What the writer leaves in its buffer, of an accepted call.
@@ -89,6 +92,7 @@ own : (m : ℕ) (g : ByLists) (s t buffer : List ℕ) → Accepts (Plan m g s t)
 own m g s t buffer e f =
     ap (gradeAnswer (jobBy g)) (bytes g (planWrites (jobBy g) m s t) buffer f ∙ ap (planBytes (jobBy g)) (left m g s t e))
     ∙ plan-graded ((took g (planWrites (jobBy g) m s t) buffer f) .valid)
+    (partition-enough (jobBy g) ((took g (planWrites (jobBy g) m s t) buffer f) .divisions .0))
 
 -- By files.
 host-own : (file plan grade : List ℕ) (m : ℕ) → Accepts (PlanJob file m plan) → 1 ≤ length grade
@@ -96,14 +100,17 @@ host-own : (file plan grade : List ℕ) (m : ℕ) → Accepts (PlanJob file m pl
     × (hostGrades file (planIn (jobIn file) (hostWrites file m plan)) grade ≡ 1 ∷ drop 1 grade)
 host-own file plan grade m e h = (
   takes,
-  host-grade-writes file mine grade takes ∙ ap (λ (g : Graded). (gradedSaid g) .values ++ drop 1 grade) (ap (gradeAnswer (jobIn file)) is ∙ plan-graded v),
+  host-grade-writes file mine grade takes ∙ ap (λ (g : Graded). (gradedSaid g) .values ++ drop 1 grade) (ap (gradeAnswer (jobIn file)) is ∙ plan-graded v enough-holds),
 )
   where
     v : Valid (jobIn file)
     v = host-valid file m (length plan) e
 
+    enough-holds : T (enough (jobIn file))
+    enough-holds = host-enough file m (length plan) e
+
     best : Partition (jobIn file) (planOf (jobIn file))
-    best = (plan-of-best (valid-plannable v)) .partition
+    best = (plan-of-best (valid-plannable v enough-holds)) .partition
 
     mine : List ℕ
     mine = planIn (jobIn file) (hostWrites file m plan)

@@ -4,18 +4,19 @@ use Prim.Native.Nat.{ℕ, zero, suc}
 use mathlib.Core.Path.{_≡_}
 use mathlib.Core.Bool.{Bool, cond}
 use mathlib.Core.List.{List, [], _∷_, _++_}
+use lib.Dec.{eqb}
 use lib.ListN.{length, take}
 use Rattle.bound.specs.declared.Bound.{Bound}
 use Rattle.chain.specs.Job.{Edition, startupOf, editionOf, Job, jobOf, bottleneck}
 use Rattle.chain.specs.Probe as probing
 use Rattle.chain.specs.Heuristic as guessing
 use Rattle.chain.specs.Halving as splitting
-use Rattle.chain.specs.Refusal.{Test, firstRefusal, jobTests, measureInputs, halvingInputs, callTests}
+use Rattle.chain.specs.Refusal.{Test, nothing, measureInputs, halvingInputs, callTests, refusal}
 use Rattle.refusals.specs.Methods.{chosenOf}
 use Rattle.refusals.specs.Inputs.{planNeeded, bytesNeeded, probeInputs, heuristicInputs, planInputs, writeInputs, writePlanInputs}
 use Rattle.refusals.specs.Answers.{Said, alone, boundValues, writtenSaid}
-use Rattle.jobs.specs.Parse.{recordCount, secondIn, startupIn, speedsOf, weightsOf}
-use Rattle.jobs.specs.Answers.{readSaid, readTests, readAnswer, readSpeeds, readWeights, writeAnswer, writeBytes}
+use Rattle.jobs.specs.Parse.{recordCount, secondIn, startupIn, speedsOf, holdsOf, weightsOf}
+use Rattle.jobs.specs.Answers.{readSaid, readTests, readAnswer, readSpeeds, readHolds, readWeights, writeAnswer, writeBytes}
 use Rattle.calls.specs.Answers.{measuredSaid, outcomeValues, probedSaid, measureAnswer, probeAnswer, probeWrites, heuristicAnswer, heuristicWrites, halvingAnswer, halvingWrites}
 use Rattle.planfile.specs.Answers.{writePlanAnswer, writePlanBytes}
 use Rattle.planfile.specs.PlanFile.{gradeInputs}
@@ -26,30 +27,32 @@ use Rattle.planner.specs.HostCall.{hostTests, hostAnswer, hostWrites}
 use Rattle.listing.specs.Listing.{listing}
 use Rattle.listing.specs.Answers.{listTests, listAnswer, listWrites}
 
--- A job as a call by lists takes it. Scope 17.3: "By lists the edition is given as a yes or no, second or not, with c beside it".
+-- A job as a call by lists takes it. Scope 17.3: "By lists the edition is given as a yes or no, second or not, with c beside it". Scope 18.3: "by lists the
+-- holds are a third list, in the order of the row".
 pub record ByLists : Type 0 where
   pub second : Bool
   pub startup : ℕ
   pub speeds : List ℕ
+  pub holds : List ℕ
   pub weights : List ℕ
 
-abbrev pub byLists : Bool → ℕ → List ℕ → List ℕ → ByLists
-byLists second c es ws = record { second = second; startup = c; speeds = es; weights = ws }
+abbrev pub byLists : Bool → ℕ → List ℕ → List ℕ → List ℕ → ByLists
+byLists second c es hs ws = record { second = second; startup = c; speeds = es; holds = hs; weights = ws }
 
 abbrev pub editionBy : ByLists → Edition
 editionBy g = editionOf (g .second) (g .startup)
 
 abbrev pub jobBy : ByLists → Job
-jobBy g = jobOf (startupOf (editionBy g)) (g .speeds) (g .weights)
+jobBy g = jobOf (startupOf (editionBy g)) (g .speeds) (g .holds) (g .weights)
 
 -- What reading answers and leaves of a file, as a call by lists takes it.
 abbrev pub listsIn : List ℕ → ByLists
-listsIn file = byLists (secondIn file) (startupIn file) (speedsOf file) (weightsOf file)
+listsIn file = byLists (secondIn file) (startupIn file) (speedsOf file) (holdsOf file) (weightsOf file)
 
 -- A call with all that it is given. Scope 10.1: "with whichever file, list, method or bound".
 pub data Call : Type 0 where
   TestJob : (job : ByLists) → Call
-  ReadJob : (file speeds weights : List ℕ) → Call
+  ReadJob : (file speeds holds weights : List ℕ) → Call
   WriteJob : (job : ByLists) (file : List ℕ) → Call
   Measure : (job : ByLists) (separators : List ℕ) → Call
   Probe : (job : ByLists) (bound : Bound) (separators : List ℕ) → Call
@@ -64,8 +67,8 @@ pub data Call : Type 0 where
 
 -- What its answer says, number and values.
 abbrev pub said : Call → Said
-said (TestJob g) = alone (firstRefusal (jobTests (jobBy g)))
-said (ReadJob file es ws) = readSaid (readAnswer file (length es) (length ws))
+said (TestJob g) = alone (refusal (jobBy g) nothing)
+said (ReadJob file es hs ws) = readSaid (readAnswer file (length es) (length hs) (length ws))
 said (WriteJob g file) = writtenSaid (writeAnswer (editionBy g) (jobBy g) (length file))
 said (Measure g s) = measuredSaid (measureAnswer (jobBy g) s)
 said (Probe g B s) = probedSaid (probeAnswer (jobBy g) B s)
@@ -81,7 +84,7 @@ said (GradePlan file plan grade) = alone (hostGrade file plan (length grade))
 -- The values that it says where nothing refuses it.
 abbrev pub values : Call → List ℕ
 values (TestJob g) = []
-values (ReadJob file es ws) = cond (secondIn file) 2 1 ∷ startupIn file ∷ length (speedsOf file) ∷ length (weightsOf file) ∷ []
+values (ReadJob file es hs ws) = cond (secondIn file) 2 1 ∷ startupIn file ∷ length (speedsOf file) ∷ length (weightsOf file) ∷ []
 values (WriteJob g file) = bytesNeeded (editionBy g) (jobBy g) ∷ []
 values (Measure g s) = boundValues (bottleneck (jobBy g) (take (suc (length (g .speeds))) s))
 values (Probe g B s) = outcomeValues (probing.probe (jobBy g) B)
@@ -96,8 +99,8 @@ values (GradePlan file plan grade) = []
 
 -- The tests that it makes. Scope 8.2: "each call making those of the inputs that it takes".
 abbrev pub tests : Call → List Test
-tests (TestJob g) = jobTests (jobBy g)
-tests (ReadJob file es ws) = readTests file (length es) (length ws)
+tests (TestJob g) = callTests (jobBy g) nothing
+tests (ReadJob file es hs ws) = readTests file (length es) (length hs) (length ws)
 tests (WriteJob g file) = callTests (jobBy g) (writeInputs (editionBy g) (jobBy g) (length file))
 tests (Measure g s) = callTests (jobBy g) (measureInputs (jobBy g) s)
 tests (Probe g B s) = callTests (jobBy g) (probeInputs (jobBy g) B (length s))
@@ -112,18 +115,18 @@ tests (GradePlan file plan grade) = gradeTests file plan (length grade ∷ [])
 
 -- The numbers that it can be refused with.
 abbrev pub numbers : Call → List ℕ
-numbers (TestJob g) = 16 ∷ 5 ∷ 6 ∷ 7 ∷ 8 ∷ []
-numbers (ReadJob file es ws) = 2 ∷ 3 ∷ 4 ∷ 15 ∷ 5 ∷ 6 ∷ 16 ∷ 7 ∷ 8 ∷ 9 ∷ []
+numbers (TestJob g) = 16 ∷ 5 ∷ 6 ∷ 7 ∷ 8 ∷ 9 ∷ []
+numbers (ReadJob file es hs ws) = 2 ∷ 3 ∷ 4 ∷ 15 ∷ 5 ∷ 6 ∷ 16 ∷ 7 ∷ 8 ∷ 9 ∷ []
 numbers (WriteJob g file) = 16 ∷ 5 ∷ 6 ∷ 7 ∷ 8 ∷ 9 ∷ []
 numbers (Measure g s) = 16 ∷ 5 ∷ 6 ∷ 7 ∷ 8 ∷ 9 ∷ 11 ∷ []
-numbers (Probe g B s) = 16 ∷ 5 ∷ 6 ∷ 7 ∷ 8 ∷ 9 ∷ 10 ∷ []
-numbers (Heuristic g s) = 16 ∷ 5 ∷ 6 ∷ 7 ∷ 8 ∷ 9 ∷ []
-numbers (Halving g s) = 16 ∷ 5 ∷ 6 ∷ 7 ∷ 8 ∷ 14 ∷ 9 ∷ []
-numbers (Plan m g s t) = 1 ∷ 16 ∷ 5 ∷ 6 ∷ 7 ∷ 8 ∷ 9 ∷ []
+numbers (Probe g B s) = 16 ∷ 5 ∷ 6 ∷ 7 ∷ 8 ∷ 9 ∷ 17 ∷ 10 ∷ []
+numbers (Heuristic g s) = 16 ∷ 5 ∷ 6 ∷ 7 ∷ 8 ∷ 9 ∷ 18 ∷ []
+numbers (Halving g s) = 16 ∷ 5 ∷ 6 ∷ 7 ∷ 8 ∷ 14 ∷ 9 ∷ 18 ∷ []
+numbers (Plan m g s t) = 1 ∷ 16 ∷ 5 ∷ 6 ∷ 7 ∷ 8 ∷ 9 ∷ 17 ∷ 18 ∷ []
 numbers (WritePlan g s plan) = 16 ∷ 5 ∷ 6 ∷ 7 ∷ 8 ∷ 9 ∷ 11 ∷ []
-numbers (Grade g plan) = 16 ∷ 5 ∷ 6 ∷ 7 ∷ 8 ∷ 12 ∷ 11 ∷ 13 ∷ []
+numbers (Grade g plan) = 16 ∷ 5 ∷ 6 ∷ 7 ∷ 8 ∷ 9 ∷ 12 ∷ 11 ∷ 13 ∷ []
 numbers (ListJob file out) = 9 ∷ []
-numbers (PlanJob file m plan) = 1 ∷ 2 ∷ 3 ∷ 4 ∷ 15 ∷ 5 ∷ 6 ∷ 16 ∷ 7 ∷ 8 ∷ 9 ∷ []
+numbers (PlanJob file m plan) = 1 ∷ 2 ∷ 3 ∷ 4 ∷ 15 ∷ 5 ∷ 6 ∷ 16 ∷ 7 ∷ 8 ∷ 9 ∷ 17 ∷ 18 ∷ []
 numbers (GradePlan file plan grade) = 2 ∷ 3 ∷ 4 ∷ 15 ∷ 5 ∷ 6 ∷ 16 ∷ 7 ∷ 8 ∷ 9 ∷ 12 ∷ 11 ∷ 13 ∷ []
 
 -- Scope 8.3: "the tests 3, 4, 15, 5, 6 and 16 go record by record from the front, within a record in this order". Of n records:
@@ -134,27 +137,32 @@ recordsOrder (suc n) = recordsOrder n ++ 3 ∷ 4 ∷ 15 ∷ 5 ∷ 6 ∷ 16 ∷ [
 unfoldable pub fileOrder : List ℕ → List ℕ
 fileOrder file = 2 ∷ (recordsOrder (recordCount file) ++ 7 ∷ 8 ∷ [])
 
--- Scope 8.2: "The tests are made in the order of the numbers, but 14 directly after 8, 12 before 11, 15 directly after 4, and 16 directly after 6
--- or, in lists, directly before 5": the number of each test, 9 for each list that is lent.
+-- Scope 18.20: "18 is given, after 17, for method 4"
+unfoldable pub freeOrder : ℕ → List ℕ
+freeOrder m = cond (eqb m 4) (18 ∷ []) []
+
+-- Scope 8.2: "The tests are made in the order of the numbers, but 14 directly after 8, 17 and then 18 directly after 9, 12 before 11, 15 directly
+-- after 4, and 16 directly after 6 or, in lists, directly before 5": the number of each test, 9 for each list that is lent and for the list of
+-- holds.
 abbrev pub order : Call → List ℕ
 order (TestJob g) = numbers (TestJob g)
-order (ReadJob file es ws) = fileOrder file ++ 9 ∷ 9 ∷ []
-order (WriteJob g file) = numbers (WriteJob g file)
-order (Measure g s) = numbers (Measure g s)
-order (Probe g B s) = numbers (Probe g B s)
-order (Heuristic g s) = numbers (Heuristic g s)
-order (Halving g s) = numbers (Halving g s)
-order (Plan m g s t) = numbers (Plan m g s t) ++ 9 ∷ []
-order (WritePlan g s plan) = 16 ∷ 5 ∷ 6 ∷ 7 ∷ 8 ∷ 9 ∷ 9 ∷ 11 ∷ []
+order (ReadJob file es hs ws) = fileOrder file ++ 9 ∷ 9 ∷ 9 ∷ []
+order (WriteJob g file) = 16 ∷ 5 ∷ 6 ∷ 7 ∷ 8 ∷ 9 ∷ 9 ∷ []
+order (Measure g s) = 16 ∷ 5 ∷ 6 ∷ 7 ∷ 8 ∷ 9 ∷ 9 ∷ 11 ∷ []
+order (Probe g B s) = 16 ∷ 5 ∷ 6 ∷ 7 ∷ 8 ∷ 9 ∷ 9 ∷ 17 ∷ 10 ∷ []
+order (Heuristic g s) = 16 ∷ 5 ∷ 6 ∷ 7 ∷ 8 ∷ 9 ∷ 9 ∷ 18 ∷ []
+order (Halving g s) = 16 ∷ 5 ∷ 6 ∷ 7 ∷ 8 ∷ 14 ∷ 9 ∷ 9 ∷ 18 ∷ []
+order (Plan m g s t) = 1 ∷ 16 ∷ 5 ∷ 6 ∷ 7 ∷ 8 ∷ 9 ∷ 9 ∷ 9 ∷ 17 ∷ freeOrder m
+order (WritePlan g s plan) = 16 ∷ 5 ∷ 6 ∷ 7 ∷ 8 ∷ 9 ∷ 9 ∷ 9 ∷ 11 ∷ []
 order (Grade g plan) = numbers (Grade g plan)
 order (ListJob file out) = numbers (ListJob file out)
-order (PlanJob file m plan) = 1 ∷ (fileOrder file ++ 9 ∷ [])
+order (PlanJob file m plan) = 1 ∷ (fileOrder file ++ 9 ∷ 17 ∷ freeOrder m)
 order (GradePlan file plan grade) = fileOrder file ++ 9 ∷ 12 ∷ 11 ∷ 13 ∷ []
 
 -- The lists and buffers that are lent to it for writing. What it only reads it cannot write: a `&[..]` of its signature.
 abbrev pub lent : Call → List (List ℕ)
 lent (TestJob g) = []
-lent (ReadJob file es ws) = es ∷ ws ∷ []
+lent (ReadJob file es hs ws) = es ∷ hs ∷ ws ∷ []
 lent (WriteJob g file) = file ∷ []
 lent (Measure g s) = []
 lent (Probe g B s) = s ∷ []
@@ -170,7 +178,7 @@ lent (GradePlan file plan grade) = grade ∷ []
 -- It leaves these in their place. Of the work numbers of a plan this says what its contract does, and no more.
 abbrev pub Leaves : Call → List (List ℕ) → Type 0
 Leaves (TestJob g) left = left ≡ []
-Leaves (ReadJob file es ws) left = left ≡ readSpeeds file es ws ∷ readWeights file es ws ∷ []
+Leaves (ReadJob file es hs ws) left = left ≡ readSpeeds file es hs ws ∷ readHolds file es hs ws ∷ readWeights file es hs ws ∷ []
 Leaves (WriteJob g file) left = left ≡ writeBytes (editionBy g) (jobBy g) file ∷ []
 Leaves (Measure g s) left = left ≡ []
 Leaves (Probe g B s) left = left ≡ probeWrites (jobBy g) B s ∷ []

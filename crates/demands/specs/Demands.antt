@@ -23,7 +23,7 @@ use Rattle.refusals.specs.Inputs.{planNeeded}
 use Rattle.refusals.specs.Answers.{saidBy}
 use Rattle.jobs.specs.declared.JobRead.{JobRead}
 use Rattle.jobs.specs.Parse.{jobIn}
-use Rattle.jobs.specs.Answers.{readAnswer, readSpeeds, readWeights, writeAnswer, writeBytes}
+use Rattle.jobs.specs.Answers.{readAnswer, readSpeeds, readHolds, readWeights, writeAnswer, writeBytes}
 use Rattle.calls.specs.declared.Measured.the-variants.{Bottleneck}
 use Rattle.calls.specs.declared.Probed.the-variants.{Answered}
 use Rattle.calls.specs.Answers.{probeAnswer, probeWrites, heuristicAnswer, heuristicWrites}
@@ -45,11 +45,11 @@ Accepts call = number call ≡ 0
 pub record DemandOne (call : Call) : Type 0 where
   -- Scope 10.1: "gets an answer or a refusal": these values where all tests pass, else the number of the first that fails.
   pub says : said call ≡ saidBy (firstRefusal (tests call)) (values call)
-  -- The number is 0 or one of its row, all of which are from 1 to 16.
+  -- The number is 0 or one of its row, all of which are from 1 to 18.
   pub listed : List·Memᴰ (number call) (0 ∷ numbers call)
-  pub ranged : T (eachBetween 1 16 (numbers call))
-  -- Scope 8.2: "The tests are made in the order of the numbers, but 14 directly after 8, 12 before 11, 15 directly after 4, and 16 directly
-  -- after 6 or, in lists, directly before 5"
+  pub ranged : T (eachBetween 1 18 (numbers call))
+  -- Scope 8.2: "The tests are made in the order of the numbers, but 14 directly after 8, 17 and then 18 directly after 9, 12 before 11, 15 directly
+  -- after 4, and 16 directly after 6 or, in lists, directly before 5"
   pub ordered : map (λ t. t .number) (tests call) ≡ order call
   -- A number is given exactly where it is that of the first test that fails; 0 exactly where all pass.
   pub first : (n : ℕ) → n ≢ 0 → (number call ≡ n) ↔ FirstFailing (tests call) n
@@ -90,32 +90,33 @@ pub record QuickPlan (job : Job) (s : List ℕ) : Type 0 where
   -- speed."
   pub close : bound ≼ plus (ideal job) (margin job)
 
--- The edition and the start-up work that reading answers, and the first p and n entries of the lists that it leaves, es and ws being lent: as
--- the call that writes takes them.
-abbrev pub listsRead : List ℕ → List ℕ → List ℕ → Bool → ℕ → ℕ → ℕ → ByLists
-listsRead file es ws second startup p n = byLists second startup (take p (readSpeeds file es ws)) (take n (readWeights file es ws))
+-- The edition and the start-up work that reading answers, and the first p, p and n entries of the lists that it leaves, es, hs and ws being lent:
+-- as the call that writes takes them.
+abbrev pub listsRead : List ℕ → List ℕ → List ℕ → List ℕ → Bool → ℕ → ℕ → ℕ → ByLists
+listsRead file es hs ws second startup p n =
+    byLists second startup (take p (readSpeeds file es hs ws)) (take p (readHolds file es hs ws)) (take n (readWeights file es hs ws))
 
--- An accepted file, read into es and ws, and the job that was read then written into a buffer. Scope 10.4: "A job file that is written
+-- An accepted file, read into es, hs and ws, and the job that was read then written into a buffer. Scope 10.4: "A job file that is written
 -- from what was read has the bytes that were read."
-pub record WrittenBack (file es ws buffer : List ℕ) : Type 0 where
+pub record WrittenBack (file es hs ws buffer : List ℕ) : Type 0 where
   pub second : Bool
   pub startup : ℕ
   pub p : ℕ
   pub n : ℕ
-  pub answer : readAnswer file (length es) (length ws) ≡ JobRead.Read second startup p n
+  pub answer : readAnswer file (length es) (length hs) (length ws) ≡ JobRead.Read second startup p n
   pub written :
-      let g = listsRead file es ws second startup p n in
+      let g = listsRead file es hs ws second startup p n in
       writeAnswer (editionBy g) (jobBy g) (length buffer) ≡ Written.Bytes (length file)
   pub bytes :
-      let g = listsRead file es ws second startup p n in
+      let g = listsRead file es hs ws second startup p n in
       writeBytes (editionBy g) (jobBy g) buffer ≡ file ++ drop (length file) buffer
 
 -- Demand 2, of accepted calls. The entries of a file are bytes.
 pub record DemandTwo : Type 0 where
   pub trial : (g : ByLists) (B : Bound) (s : List ℕ) → Accepts (Probe g B s) → Trial (jobBy g) B s
   pub quick : (g : ByLists) (s : List ℕ) → Accepts (Heuristic g s) → QuickPlan (jobBy g) s
-  pub again : (file es ws buffer : List ℕ) → Bytes file → Accepts (ReadJob file es ws) → length file ≤ length buffer
-      → WrittenBack file es ws buffer
+  pub again : (file es hs ws buffer : List ℕ) → Bytes file → Accepts (ReadJob file es hs ws) → length file ≤ length buffer
+      → WrittenBack file es hs ws buffer
 
 -- An accepted plan of the job, of this edition, by the method with the number m, with the lists s of separators and t of work numbers lent.
 pub record PlanLeft (edition : Edition) (job : Job) (m : ℕ) (s t : List ℕ) : Type 0 where

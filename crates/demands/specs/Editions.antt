@@ -1,23 +1,23 @@
 -- What the edition of a job changes and what it does not, over the answers of the calls and over what they leave. Scope, section 17.
-use Prim.Native.Nat.{ℕ, zero, suc, _+_, _*_, _/_, _≤_, _<_}
+use Prim.Native.Nat.{ℕ, zero, suc, _+_, _*_, _/_, _≤_, _<_, _^_}
 use mathlib.Core.Path.{_≡_}
-use mathlib.Core.Bool.{Bool, true, false, _&&_, _||_}
+use mathlib.Core.Bool.{Bool, true, false, cond, _&&_, _||_}
 use mathlib.Core.List.{List, [], _∷_, _++_}
 use mathlib.Core.Logic.{_≢_, _↔_}
-use lib.ListN.{length, drop}
+use lib.ListN.{length, getD, take, drop}
 use Rattle.bound.specs.declared.Bound.{Bound}
 use Rattle.bound.specs.Order.{over}
 use Rattle.chain.specs.declared.Method.the-variants.{Bidding}
 use Rattle.chain.specs.Lists.{sumTo}
-use Rattle.chain.specs.Job.{Edition, Job, tasks, last, speedOf, partWeight, partLoad, totalWeight, heaviest, fastest, slowest, at, busy}
+use Rattle.chain.specs.Job.{Edition, Job, tasks, last, speedOf, holdOf, held, partWeight, partLoad, totalWeight, heaviest, fastest, slowest, at, busy}
 use Rattle.chain.specs.Heuristic.{margin}
 use Rattle.chain.specs.Plan.{planOf, difference, allowance}
-use Rattle.chain.specs.Refusal.{Test, test, speedsTest, weightsTest, processorsTest, tasksTest, firstRefusal, jobTests}
+use Rattle.chain.specs.Refusal.{Test, test, speedsTest, weightsTest, processorsTest, tasksTest, holdsTest, firstRefusal, nothing, refusal}
 use Rattle.fields.specs.Field.{fieldAt}
 use Rattle.jobs.specs.declared.JobRead.{JobRead}
-use Rattle.jobs.specs.JobFile.{processorKind, taskKind, startupKind, recordsBytes, jobBytes}
+use Rattle.jobs.specs.JobFile.{processorKind, taskKind, startupKind, recordsBytes, noHold, jobBytes}
 use Rattle.jobs.specs.Parse.{recordCount, kindAt, isKind, blank, multipleTest, orderTest, speedTest, weightTest, speedsOf, weightsOf, editionIn, jobIn, fileRefusal}
-use Rattle.jobs.specs.Answers.{readAnswer, readSpeeds, readWeights}
+use Rattle.jobs.specs.Answers.{readAnswer, readSpeeds, readHolds, readWeights}
 use Rattle.calls.specs.Answers.{probeWrites}
 use Rattle.planfile.specs.Answers.{writePlanBytes}
 use Rattle.planner.specs.declared.Figures.{Figures}
@@ -29,12 +29,12 @@ use Rattle.demands.specs.Demands.{number, Accepts, front}
 
 -- A job by lists in the edition that this yes or no says, with this start-up work beside it;
 abbrev pub inEdition : Bool → ℕ → ByLists → ByLists
-inEdition second c g = byLists second c (g .speeds) (g .weights)
+inEdition second c g = byLists second c (g .speeds) (g .holds) (g .weights)
 
 -- a call by lists so, and one by a file as it is.
 abbrev pub callAs : Bool → ℕ → Call → Call
 callAs b c (TestJob g) = TestJob (inEdition b c g)
-callAs b c (ReadJob file es ws) = ReadJob file es ws
+callAs b c (ReadJob file es hs ws) = ReadJob file es hs ws
 callAs b c (WriteJob g file) = WriteJob (inEdition b c g) file
 callAs b c (Measure g s) = Measure (inEdition b c g) s
 callAs b c (Probe g B s) = Probe (inEdition b c g) B s
@@ -55,7 +55,7 @@ pub record Same (call other : Call) : Type 0 where
 -- The edition itself is in the answer: in the bytes of a job file, and in the allowance of a plan.
 abbrev pub namesEdition : Call → Bool
 namesEdition (TestJob g) = false
-namesEdition (ReadJob file es ws) = false
+namesEdition (ReadJob file es hs ws) = false
 namesEdition (WriteJob g file) = true
 namesEdition (Measure g s) = false
 namesEdition (Probe g B s) = false
@@ -72,12 +72,12 @@ namesEdition (GradePlan file plan grade) = false
 pub record ByWeights (edition : Edition) (job : Job) : Type 0 where
   -- Scope 17.15: "every load is a weight"
   pub loads : (a b : ℕ) → partLoad job a b ≡ partWeight job a b
-  pub tests : firstRefusal (jobTests job)
-      ≡ firstRefusal (speedsTest (job .speeds) ∷ weightsTest (job .weights) ∷ processorsTest (job .speeds) ∷ tasksTest (job .weights) ∷ [])
+  pub tests : refusal job nothing
+      ≡ firstRefusal (speedsTest (job .speeds) ∷ weightsTest (job .weights) ∷ processorsTest (job .speeds) ∷ tasksTest (job .weights) ∷ holdsTest job ∷ [])
   pub close : margin job ≡ over (heaviest job) (slowest job)
-  pub width : difference job ≡ heaviest job * (fastest job * fastest job) / slowest job
+  pub width : difference job ≡ cond (held job) (totalWeight job) (heaviest job) * (fastest job * fastest job) / slowest job
   pub trials : allowance edition Bidding job ≡ last job * tasks job + 1
-  pub bytes : jobBytes edition job ≡ recordsBytes processorKind (job .speeds) ++ recordsBytes taskKind (job .weights)
+  pub bytes : jobBytes edition job ≡ recordsBytes processorKind (holdOf job) (job .speeds) ++ recordsBytes taskKind noHold (job .weights)
 
 -- The tests of a file before there was a kind 3: number 3 for a kind that is not 1 or 2, and no 15 and 16.
 unfoldable pub twoKinds : List ℕ → ℕ → Test
@@ -115,12 +115,17 @@ pub record SamePlan (c m : ℕ) (g : ByLists) (s t : List ℕ) : Type 0 where
   pub figures : (f h : Figures) → planAnswer (editionBy (inEdition true 0 g)) (jobBy (inEdition true 0 g)) m s t ≡ Accepted f
       → planAnswer (editionBy (inEdition false c g)) (jobBy (inEdition false c g)) m s t ≡ Accepted h → SameFigures (length (g .speeds)) f h
 
--- The file of a job, read into es and ws: the edition, the start-up work that counts and the lists are those that were written.
-pub record ReadBack (g : ByLists) (es ws : List ℕ) : Type 0 where
-  pub answer : readAnswer (jobBytes (editionBy g) (jobBy g)) (length es) (length ws)
+-- Every entry of the list has 16 bits. Scope 18.2: "A hold has 16 bits".
+abbrev pub Halves : List ℕ → Type 0
+Halves hs = (p : ℕ) → getD hs p 0 < 2 ^ 16
+
+-- The file of a job, read into es, hs and ws: the edition, the start-up work that counts and the lists are those that were written, the holds cut to P.
+pub record ReadBack (g : ByLists) (es hs ws : List ℕ) : Type 0 where
+  pub answer : readAnswer (jobBytes (editionBy g) (jobBy g)) (length es) (length hs) (length ws)
       ≡ JobRead.Read (g .second) ((jobBy g) .startup) (length (g .speeds)) (length (g .weights))
-  pub speeds : readSpeeds (jobBytes (editionBy g) (jobBy g)) es ws ≡ g .speeds ++ drop (length (g .speeds)) es
-  pub weights : readWeights (jobBytes (editionBy g) (jobBy g)) es ws ≡ g .weights ++ drop (length (g .weights)) ws
+  pub speeds : readSpeeds (jobBytes (editionBy g) (jobBy g)) es hs ws ≡ g .speeds ++ drop (length (g .speeds)) es
+  pub holds : readHolds (jobBytes (editionBy g) (jobBy g)) es hs ws ≡ take (length (g .speeds)) (g .holds) ++ drop (length (g .speeds)) hs
+  pub weights : readWeights (jobBytes (editionBy g) (jobBy g)) es hs ws ≡ g .weights ++ drop (length (g .weights)) ws
 
 -- The load of processor p's record, as it is read from the bytes of a plan file.
 abbrev pub loadField : List ℕ → ℕ → ℕ
@@ -141,9 +146,9 @@ pub record Editions : Type 0 where
   pub nought-plan : (c m : ℕ) (g : ByLists) (s t : List ℕ) → SamePlan c m g s t
   -- Scope 17.14: "Each edition writes back its own bytes; jobs that are not the same have different files." (Of what was read: `again` of
   -- demand 2.)
-  pub back : (g : ByLists) (es ws : List ℕ) → Accepts (TestJob g) → length (g .speeds) ≤ length es → length (g .weights) ≤ length ws
-      → ReadBack g es ws
-  pub one-job : (g h : ByLists) → Accepts (TestJob g) → Accepts (TestJob h)
+  pub back : (g : ByLists) (es hs ws : List ℕ) → Halves (g .holds) → Accepts (TestJob g) → length (g .speeds) ≤ length es
+      → length (g .speeds) ≤ length hs → length (g .weights) ≤ length ws → ReadBack g es hs ws
+  pub one-job : (g h : ByLists) → Halves (g .holds) → Halves (h .holds) → Accepts (TestJob g) → Accepts (TestJob h)
       → jobBytes (editionBy g) (jobBy g) ≡ jobBytes (editionBy h) (jobBy h) → (editionBy g ≡ editionBy h) × (jobBy g ≡ jobBy h)
   -- Scope 17.7: "The loads of a plan file add up to Wtot and c for each machine that has tiles." Of the writer's file, and of the C call's.
   pub loads : (g : ByLists) (s plan : List ℕ) → Accepts (WritePlan g s plan)

@@ -8,9 +8,10 @@ use Rattle.bound.specs.Order.{_≼_}
 use Rattle.chain.specs.Job.{Job, tasks, processors, last, partLoad, totalWeight, heaviest, at, Partition, bottleneck}
 use Rattle.chain.specs.Halving.{Halvable, halving}
 use Rattle.chain.specs.Plan.{planOf}
+use Rattle.chain.specs.Refusal.{firstRefusal, jobTests}
 use Rattle.calls.specs.declared.Measured.the-variants.{Bottleneck}
 use Rattle.calls.specs.Answers.{halvingAnswer, halvingWrites}
-use Rattle.demands.specs.Call.{ByLists, jobBy, TestJob, Heuristic, Halving}
+use Rattle.demands.specs.Call.{ByLists, jobBy, Heuristic, Halving}
 use Rattle.demands.specs.Demands.{number, Accepts, front}
 
 -- An accepted halving of the job's row, with the list s lent.
@@ -34,6 +35,7 @@ pub record HalvedRow (job : Job) (s : List ℕ) : Type 0 where
 pub record Halvings : Type 0 where
   pub halved : (g : ByLists) (s : List ℕ) → Accepts (Halving g s) → HalvedRow (jobBy g) s
   -- Scope 16.11: "What the quick plan accepts is accepted where the row is such a one; a job within its limits whose row is none is refused
-  -- with 14, whatever list is lent." No other call is accepted, and none other is refused with 14.
+  -- with 14, whatever list is lent." No other call is accepted, and none other is refused with 14. (Within its limits: its tests 16 and 5 to 8
+  -- pass.)
   pub accepted : (g : ByLists) (s : List ℕ) → Accepts (Halving g s) ↔ (Accepts (Heuristic g s) × Halvable (g .speeds))
-  pub refused : (g : ByLists) (s : List ℕ) → (number (Halving g s) ≡ 14) ↔ (Accepts (TestJob g) × (Halvable (g .speeds) → ⊥))
+  pub refused : (g : ByLists) (s : List ℕ) → (number (Halving g s) ≡ 14) ↔ ((firstRefusal (jobTests (jobBy g)) ≡ 0) × (Halvable (g .speeds) → ⊥))

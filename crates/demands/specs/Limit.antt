@@ -4,10 +4,10 @@ use mathlib.Core.Path.{_≡_}
 use mathlib.Core.Bool.{cond}
 use mathlib.Core.List.{List, [], _∷_, map, List·Memᴰ}
 use mathlib.Core.Logic.{_↔_}
-use lib.Dec.{eqb}
+use lib.Dec.{T, eqb}
 use lib.ListN.{length, take}
 use Rattle.chain.specs.Limits.{maxProcessors}
-use Rattle.chain.specs.Job.{Job, processors, speedOf}
+use Rattle.chain.specs.Job.{Job, processors, speedOf, enough}
 use Rattle.chain.specs.Probe as probing
 use Rattle.chain.specs.Heuristic as guessing
 use Rattle.chain.specs.Halving as splitting
@@ -15,7 +15,7 @@ use Rattle.chain.specs.Plan.{planOf, Best}
 use Rattle.chain.specs.Refusal.{Test, test, between, firstRefusal}
 use Rattle.refusals.specs.Answers.{Said, saidBy, lentAfter}
 use Rattle.jobs.specs.JobFile.{jobBytes}
-use Rattle.jobs.specs.Parse.{speedsOf, weightsOf, jobIn, fileTests, fileRefusal}
+use Rattle.jobs.specs.Parse.{speedsOf, holdsOf, weightsOf, jobIn, fileTests, fileRefusal}
 use Rattle.planfile.specs.PlanFile.{planBytes}
 use Rattle.grading.specs.Answers.{gradedSaid, readGrade}
 use Rattle.planner.specs.Answers.{planWrites, ScratchAfter}
@@ -27,7 +27,7 @@ use Rattle.demands.specs.Demands.{Accepts, front}
 -- How many machines the job of a call has.
 abbrev pub processorsIn : Call → ℕ
 processorsIn (TestJob g) = length (g .speeds)
-processorsIn (ReadJob file es ws) = length (speedsOf file)
+processorsIn (ReadJob file es hs ws) = length (speedsOf file)
 processorsIn (WriteJob g file) = length (g .speeds)
 processorsIn (Measure g s) = length (g .speeds)
 processorsIn (Probe g B s) = length (g .speeds)
@@ -58,7 +58,8 @@ saidWith limit call = saidBy (numberWith limit call) (values call)
 -- It leaves these, by the number that it gives: where that is 0 what it writes, else what was lent.
 abbrev pub LeavesBy : ℕ → Call → List (List ℕ) → Type 0
 LeavesBy number (TestJob g) left = left ≡ []
-LeavesBy number (ReadJob file es ws) left = left ≡ lentAfter number (speedsOf file) es ∷ lentAfter number (weightsOf file) ws ∷ []
+LeavesBy number (ReadJob file es hs ws) left =
+    left ≡ lentAfter number (speedsOf file) es ∷ lentAfter number (holdsOf file) hs ∷ lentAfter number (weightsOf file) ws ∷ []
 LeavesBy number (WriteJob g file) left = left ≡ lentAfter number (jobBytes (editionBy g) (jobBy g)) file ∷ []
 LeavesBy number (Measure g s) left = left ≡ []
 LeavesBy number (Probe g B s) left = left ≡ lentAfter number (probing.walked (jobBy g) B) s ∷ []
@@ -105,8 +106,9 @@ pub record AnyLimit : Type 0 where
   -- the plan that a call leaves is the definition's,
   pub plan : (m : ℕ) (g : ByLists) (s t : List ℕ) → Accepts (Plan m g s t)
       → front (jobBy g) (planWrites (jobBy g) m s t) ≡ planOf (jobBy g)
-  -- and that is the one best division of every job of machines with speeds above 0, however many they are.
-  pub best : (job : Job) → 1 ≤ processors job → ((p : ℕ) → 1 ≤ speedOf job p) → Best job (planOf job) × ((d : List ℕ) → Best job d → d ≡ planOf job)
+  -- and that is the one best division of every job of machines with speeds above 0 and holds that are enough, however many they are.
+  pub best : (job : Job) → 1 ≤ processors job → ((p : ℕ) → 1 ≤ speedOf job p) → T (enough job)
+      → Best job (planOf job) × ((d : List ℕ) → Best job d → d ≡ planOf job)
   -- Scope 15.4: "An accepted file has the same listing with every limit that its job is within; a buffer with room by a greater limit has
   -- room by ours."
   pub listed : (limit : ℕ) (file : List ℕ) → fileRefusal file ≡ 0 → length (speedsOf file) ≤ limit → listingWith limit file ≡ listing file
