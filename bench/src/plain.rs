@@ -126,13 +126,21 @@ trait Holds: Copy {
     const SET: bool;
     type Hold: Hold;
 
-    /// Those from a machine on.
-    fn from(self, first: usize) -> impl Iterator<Item = Self::Hold>;
+    fn of(self, p: usize) -> Self::Hold;
+
+    /// Each item with the hold of its machine; the first one is of machine `first`.
+    fn beside<I: Iterator>(self, first: usize, items: I) -> impl Iterator<Item = (I::Item, Self::Hold)>;
 }
 
 trait Hold: Copy {
-    /// The last index up to n to which a share that begins at a keeps the hold.
-    fn reach(self, a: usize, n: usize) -> usize;
+    /// The tiles up to the last that a share which begins at a can hold.
+    fn reach(self, tiles: Tiles, a: usize) -> Tiles;
+
+    /// Whether the share from a to b is all that the machine holds.
+    fn is_full(self, a: usize, b: usize) -> bool;
+
+    /// Whether the machine holds the share from a to b.
+    fn keeps(self, a: usize, b: usize) -> bool;
 
     /// Where a share that ends at i may begin.
     fn start(self, i: usize) -> usize;
@@ -147,15 +155,30 @@ impl Holds for Free {
     type Hold = Free;
 
     #[inline]
-    fn from(self, _: usize) -> impl Iterator<Item = Free> {
-        std::iter::repeat(Free)
+    fn of(self, _: usize) -> Free {
+        Free
+    }
+
+    #[inline]
+    fn beside<I: Iterator>(self, _: usize, items: I) -> impl Iterator<Item = (I::Item, Free)> {
+        items.map(|item| (item, Free))
     }
 }
 
 impl Hold for Free {
     #[inline]
-    fn reach(self, _: usize, n: usize) -> usize {
-        n
+    fn reach(self, tiles: Tiles, _: usize) -> Tiles {
+        tiles
+    }
+
+    #[inline]
+    fn is_full(self, _: usize, _: usize) -> bool {
+        false
+    }
+
+    #[inline]
+    fn keeps(self, _: usize, _: usize) -> bool {
+        true
     }
 
     #[inline]
@@ -169,15 +192,31 @@ impl Holds for &[u16] {
     type Hold = u16;
 
     #[inline]
-    fn from(self, first: usize) -> impl Iterator<Item = u16> {
-        self[first..].iter().copied()
+    fn of(self, p: usize) -> u16 {
+        self[p]
+    }
+
+    #[inline]
+    fn beside<I: Iterator>(self, first: usize, items: I) -> impl Iterator<Item = (I::Item, u16)> {
+        items.zip(self[first..].iter().copied())
     }
 }
 
 impl Hold for u16 {
     #[inline]
-    fn reach(self, a: usize, n: usize) -> usize {
-        n.min(a + most(self))
+    fn reach(self, tiles: Tiles, a: usize) -> Tiles {
+        let end = tiles.sums.len().min(a + most(self) + 1);
+        Tiles { sums: &tiles.sums[..end], ..tiles }
+    }
+
+    #[inline]
+    fn is_full(self, a: usize, b: usize) -> bool {
+        b - a == most(self)
+    }
+
+    #[inline]
+    fn keeps(self, a: usize, b: usize) -> bool {
+        b - a <= most(self)
     }
 
     #[inline]
@@ -264,12 +303,6 @@ impl<'a> Tiles<'a> {
     fn new(startup: u32, weights: &[u32], list: &'a mut [u32]) -> Tiles<'a> {
         Tiles { startup, sums: prefix_sums(weights, list) }
     }
-
-    /// Those up to an index.
-    #[inline]
-    fn to(self, end: usize) -> Tiles<'a> {
-        Tiles { sums: &self.sums[..=end], ..self }
-    }
 }
 
 /// The greatest end of a part from a on that is within the bound on a machine of this speed, None where that is N. A tile is left; a
@@ -332,21 +365,21 @@ fn walk<H: Holds>(
     if a == n {
         return Outcome::Fits(first);
     }
-    let machines = speeds[first..last].iter().zip(holds.from(first));
-    for (p, ((&speed, hold), end)) in (first + 1..).zip(machines.zip(&mut separators[first + 1..])) {
-        let reach = hold.reach(a, n);
-        let b = match part_end(tiles.to(reach), a, speed, bound, *end as usize) {
+    let machines = speeds[first..last].iter().zip(&mut separators[first + 1..]);
+    for (p, ((&speed, end), hold)) in (first + 1..).zip(holds.beside(first, machines)) {
+        let near = hold.reach(tiles, a);
+        let b = match part_end(near, a, speed, bound, *end as usize) {
             Some(b) => {
                 best = best.lesser(started_bound(tiles, a, b + 1, speed));
                 b
             }
-            None if reach == n => return Outcome::Fits(p),
-            None => reach,
+            None if near.sums.len() > n => return Outcome::Fits(p),
+            None => near.sums.len() - 1,
         };
         *end = b as u32;
         a = b;
     }
-    if holds.from(last).next().is_some_and(|hold| hold.reach(a, n) < n) {
+    if !holds.of(last).keeps(a, n) {
         return Outcome::Fails(best);
     }
     let rest = started_bound(tiles, a, n, speeds[last]);
@@ -380,13 +413,12 @@ fn bidding<H: Holds>(speeds: &[u32], holds: H, tiles: Tiles, separators: &mut [u
 /// The first machine of a failed walk whose bid is at most the bound, and the least bid before it; machines at their holds do not bid,
 /// and the last one bids all that remains.
 fn first_bidder<H: Holds>(speeds: &[u32], holds: H, tiles: Tiles, separators: &[u32], bound: Bound) -> (usize, Bound) {
-    let n = tiles.sums.len() - 1;
     let last = speeds.len() - 1;
     let mut best = Bound::ENDLESS;
-    let machines = speeds[..last].iter().zip(holds.from(0));
-    for (p, (pair, (&speed, hold))) in separators.windows(2).zip(machines).enumerate() {
+    let machines = separators.windows(2).zip(&speeds[..last]);
+    for (p, ((pair, &speed), hold)) in holds.beside(0, machines).enumerate() {
         let (a, b) = (pair[0] as usize, pair[1] as usize);
-        if b == hold.reach(a, n) {
+        if hold.is_full(a, b) {
             continue;
         }
         let bid = started_bound(tiles, a, b + 1, speed);
@@ -579,10 +611,9 @@ fn table<H: Holds>(speeds: &[u32], holds: H, tiles: Tiles, rows: &mut [u32]) -> 
         *slot = [tiles.startup + sum, speeds[0]];
     }
     row[0][0] = 0;
-    let reach = holds.from(0).next().map_or(0, |hold| hold.reach(0, sums.len() - 1));
-    row[reach + 1..sums.len()].fill([1, 0]);
+    row[holds.of(0).reach(tiles, 0).sums.len()..sums.len()].fill([1, 0]);
     let mut count = 0;
-    for (&speed, hold) in speeds[1..].iter().zip(holds.from(1)) {
+    for (&speed, hold) in holds.beside(1, speeds[1..].iter()) {
         count += fill_row(tiles, speed, hold, row, other);
         std::mem::swap(&mut row, &mut other);
     }
@@ -637,6 +668,7 @@ fn plan_in<H: Holds>(
         Method::Bidding => bidding(speeds, holds, tiles, separators),
         Method::BiddingResumed => bidding_resumed(speeds, holds, tiles, separators),
         Method::Bisection => bisection(speeds, holds, tiles, separators),
+        Method::Nicol | Method::NicolByWalk if H::SET => unreachable!("refused with holds"),
         Method::Nicol => nicol(speeds, tiles, separators, fits),
         Method::NicolByWalk => {
             nicol(speeds, tiles, separators, |e, s, b, to| matches!(whole_walk(e, Free, s, b, to), Outcome::Fits(_)))
@@ -824,11 +856,10 @@ pub fn halving_by_sides(
 fn probe_in<H: Holds>(speeds: &[u32], holds: H, tiles: Tiles, bound: Bound, separators: &mut [u32]) -> Outcome {
     let outcome = trial(speeds, holds, tiles, bound, separators);
     if let Outcome::Fails(_) = outcome {
-        let n = tiles.sums.len() - 1;
         let last = speeds.len() - 1;
         let a = separators[last] as usize;
-        let reach = holds.from(last).next().map_or(n, |hold| hold.reach(a, n));
-        separators[last + 1] = part_end(tiles.to(reach), a, speeds[last], bound, a).unwrap_or(reach) as u32;
+        let near = holds.of(last).reach(tiles, a);
+        separators[last + 1] = part_end(near, a, speeds[last], bound, a).unwrap_or(near.sums.len() - 1) as u32;
     }
     outcome
 }
