@@ -1,4 +1,4 @@
-//! The jobs A to E, the edge lines of the scope, section 11, the rows F to L of section 16 and the jobs M, N, O and Q of section 17, with the values
+//! The jobs A to E, the edge lines of the scope, section 11, the rows F to L of section 16, the jobs M, N, O and Q of section 17 and R to Y of section 18, with the values
 //! written there, and more jobs, of both editions, with holds and without, worked by hand.
 
 use crate::answers::{bytes_of, bytes_of_holds, After, Solved};
@@ -100,20 +100,29 @@ struct Held {
     imbalance: u64,
 }
 
-/// Worked by hand: a row of the table whose crossing is where j starts; A with a hold on machine 2, which makes it worse, on machine 1, which
-/// does not, on both, which leaves one division, and with holds that limit nothing, so that bisection alone begins elsewhere; B with as many
-/// places as tiles; nothing that weighs; no tiles; one machine; the second edition, on one machine and on two; one machine without a limit
-/// between two that hold one tile; and holds of all in turn that grow.
+/// The jobs of the scope, section 18.
 #[rustfmt::skip]
-const HELD: [Held; 14] = [
-    Held { name: "the crossing at the start of j", startup: None, weights: &[1, 1, 1, 1, 1], speeds: &[1, 1, 5], holds: &[1, 2, 2], separators: &[0, 1, 3, 5], bottleneck: (2, 1), counts: [6, 3, 3], allowances: [10, 11, 8], imbalance: 1800 },
-    Held { name: "A, machine 2 holds a tile", startup: None, weights: &[1, 3, 8], speeds: &[1, 3], holds: &[0, 1], separators: &[0, 2, 3], bottleneck: (4, 1), counts: [2, 2, 2], allowances: [3, 4, 8], imbalance: 334 },
+const LIMITED: [Held; 8] = [
+    Held { name: "R", startup: None, weights: &[1, 1, 1, 1, 1], speeds: &[1, 1, 5], holds: &[1, 2, 2], separators: &[0, 1, 3, 5], bottleneck: (2, 1), counts: [6, 3, 3], allowances: [10, 11, 8], imbalance: 1800 },
+    Held { name: "S", startup: None, weights: &[1, 3, 8], speeds: &[1, 3], holds: &[0, 1], separators: &[0, 2, 3], bottleneck: (4, 1), counts: [2, 2, 2], allowances: [3, 4, 8], imbalance: 334 },
+    Held { name: "T", startup: None, weights: &[2, 1, 3, 1, 2, 4], speeds: &[1, 2, 1], holds: &[1, 0, 1], separators: &[0, 1, 5, 6], bottleneck: (4, 1), counts: [8, 3, 4], allowances: [12, 13, 7], imbalance: 231 },
+    Held { name: "U", startup: None, weights: &[2, 9, 4], speeds: &[3, 1], holds: &[1, 2], separators: &[0, 1, 3], bottleneck: (13, 1), counts: [2, 2, 2], allowances: [3, 4, 9], imbalance: 2467 },
+    Held { name: "V", startup: Some(3), weights: &[1, 4, 4], speeds: &[1, 4], holds: &[0, 2], separators: &[0, 1, 3], bottleneck: (4, 1), counts: [1, 2, 3], allowances: [3, 4, 9], imbalance: 1223 },
+    Held { name: "W", startup: None, weights: &[0, 0, 0, 0], speeds: &[1, 1, 1], holds: &[1, 2, 0], separators: &[0, 1, 3, 4], bottleneck: (0, 1), counts: [2, 1, 1], allowances: [8, 9, 1], imbalance: 0 },
+    Held { name: "X", startup: None, weights: &[1, 3, 8], speeds: &[1, 3], holds: &[3, 3], separators: &[0, 1, 3], bottleneck: (11, 3), counts: [2, 2, 3], allowances: [3, 4, 8], imbalance: 223 },
+    Held { name: "Y", startup: None, weights: &[], speeds: &[7, 2], holds: &[1, 1], separators: &[0, 0, 0], bottleneck: (0, 7), counts: [0, 1, 1], allowances: [0, 1, 1], imbalance: 0 },
+];
+
+/// Worked by hand: A with a hold on machine 1, which does not make it worse, with holds that leave one division, and with some that limit
+/// nothing, so that bisection alone begins elsewhere; B with as many places as tiles; nothing that weighs; one machine; the second edition, on
+/// one machine, on two, and without tiles; one machine without a limit between two that hold a tile; and a fast machine that holds one.
+#[rustfmt::skip]
+const HELD: [Held; 11] = [
     Held { name: "A, machine 1 holds a tile", startup: None, weights: &[1, 3, 8], speeds: &[1, 3], holds: &[1, 0], separators: &[0, 1, 3], bottleneck: (11, 3), counts: [2, 2, 2], allowances: [3, 4, 8], imbalance: 223 },
     Held { name: "A, as many places as tiles", startup: None, weights: &[1, 3, 8], speeds: &[1, 3], holds: &[2, 1], separators: &[0, 2, 3], bottleneck: (4, 1), counts: [2, 2, 2], allowances: [3, 4, 8], imbalance: 334 },
     Held { name: "A, holds that limit nothing", startup: None, weights: &[1, 3, 8], speeds: &[1, 3], holds: &[4, 65_535], separators: &[0, 1, 3], bottleneck: (11, 3), counts: [2, 2, 3], allowances: [3, 4, 8], imbalance: 223 },
     Held { name: "B, as many places as tiles", startup: None, weights: &[4, 3, 2, 6, 1], speeds: &[1, 2], holds: &[3, 2], separators: &[0, 3, 5], bottleneck: (9, 1), counts: [3, 3, 3], allowances: [5, 6, 8], imbalance: 688 },
     Held { name: "nothing weighs, one tile a machine", startup: None, weights: &[0, 0], speeds: &[1, 1], holds: &[1, 1], separators: &[0, 1, 2], bottleneck: (0, 1), counts: [1, 1, 1], allowances: [2, 3, 1], imbalance: 0 },
-    Held { name: "holds and no tiles", startup: None, weights: &[], speeds: &[7, 2], holds: &[1, 1], separators: &[0, 0, 0], bottleneck: (0, 7), counts: [0, 1, 1], allowances: [0, 1, 1], imbalance: 0 },
     Held { name: "one machine that holds all tiles", startup: None, weights: &[4, 0, 3], speeds: &[5], holds: &[3], separators: &[0, 3], bottleneck: (7, 5), counts: [0, 1, 1], allowances: [0, 1, 7], imbalance: 0 },
     Held { name: "one machine with start-up work that holds the most", startup: Some(2), weights: &[4, 0, 3], speeds: &[5], holds: &[65_535], separators: &[0, 3], bottleneck: (9, 5), counts: [0, 2, 1], allowances: [0, 2, 7], imbalance: 286 },
     Held { name: "a machine that would be left out but for the holds", startup: Some(2), weights: &[6, 1], speeds: &[4, 1], holds: &[1, 0], separators: &[0, 1, 2], bottleneck: (3, 1), counts: [2, 3, 3], allowances: [2, 3, 9], imbalance: 1143 },
@@ -351,6 +360,61 @@ fn lines_of_section_17(c: &mut Check) {
     in_scope(c, "on speeds 7 2 with c = 9 the bottleneck is 0/7.");
 }
 
+/// The rows of section 18 and the sentences beside them: measuring and grading of S, what is refused, and the listing of S.
+fn lines_of_section_18(c: &mut Check) {
+    for k in &LIMITED {
+        let words = |list: &[u16]| text(&list.iter().map(|&h| h as u32).collect::<Vec<_>>());
+        let separators = text(&k.separators.iter().map(|&s| s as u32).collect::<Vec<_>>());
+        let list = |three: [u64; 3]| three.map(|n| n.to_string()).join(", ");
+        let startup = k.startup.map_or("none".to_string(), |c| c.to_string());
+        let front = format!("| {} | {} | {} | {} | {} |", k.name, text(k.weights), text(k.speeds), words(k.holds), startup);
+        let (load, speed) = k.bottleneck;
+        let (counts, allowances) = (list(k.counts), list(k.allowances));
+        in_scope(c, &format!("{} {} | {}/{} | {} | {} | {} |", front, separators, load, speed, k.imbalance, counts, allowances));
+    }
+    let (n, lent) = (Edition::FIRST, bytes_of(&[9, 8, 7, 6]));
+    let job = |k: &Held, holds: &[u16]| Job::held(k.startup, k.speeds, holds, k.weights);
+    let [r, s, _, u, _, _, x, _] = &LIMITED;
+    let of_s = job(s, s.holds);
+    on_lists(c, &of_s, Call::Measure(n), &bytes_of(&[0, 1, 3]), Err(11));
+    on_lists(c, &of_s, Call::Measure(n), &bytes_of(&[0, 2, 3]), Ok((&[0, 2, 3], &[4, 1])));
+    if of_s.unlimited() != Job::new(JOBS[0].speeds, JOBS[0].weights) || JOBS[0].separators != [0, 1, 3] {
+        c.fail("S is not A with holds", String::new());
+    }
+    in_scope(c, "Measuring 0 1 3 of S is refused with 11, and it is the plan of A, which is S without holds; measuring 0 2 3 gives 4/1.");
+    for (division, grade) in [([0, 2, 3], 1u64), ([0, 3, 3], 2)] {
+        let plan = crate::grading::file(&of_s, &division);
+        let (e, h, w, answer) = (bytes_of(s.speeds), c.holds(&of_s), bytes_of(s.weights), c.rng.pattern(8));
+        let said = After { front: grade.to_le_bytes().to_vec(), free: 0 };
+        let stays = After::default;
+        c.ask(Call::Grade(n), &[&e, &h, &w, &plan, &answer], &Ok(vec![stays(), stays(), stays(), stays(), said]));
+    }
+    in_scope(c, "Of S the division 0 2 3 is best and 0 3 3 is valid.");
+    let mut plans = |k: &Held, holds: &[u16], numbers: [u32; 4], quick: u32| {
+        let job = job(k, holds);
+        let (e, w, h) = (bytes_of(k.speeds), bytes_of(k.weights), c.holds(&job));
+        let (work, plan) = (c.rng.pattern(4 * 30), c.rng.pattern(48));
+        for (method, number) in (1..).zip(numbers) {
+            c.refuse(Call::Plan(n, method), &[&e, &h, &w, &lent, &work, &[]], number);
+            c.refuse(Call::Host { method }, &[&job.file(), &plan], number);
+        }
+        c.refuse(Call::Quick(n), &[&e, &h, &w, &lent, &[]], quick);
+    };
+    plans(u, &[1, 1], [17; 4], 18);
+    plans(u, &[1, 0], [0, 0, 0, 18], 18);
+    plans(r, r.holds, [0, 0, 0, 18], 18);
+    in_scope(c, "With holds 1 1 in place of 1 2 job U is refused with 17, by method 4 too; with holds 1 0 it is planned.");
+    in_scope(c, "Method 4 and the quick plan of R are refused with 18; so is the quick plan of U with holds 1 1.");
+    for (speeds, number) in [(x.speeds, 14), (&[1, 1][..], 18)] {
+        let (e, h, w) = (bytes_of(speeds), bytes_of_holds(x.holds), bytes_of(x.weights));
+        c.refuse(Call::Halving(n), &[&e, &h, &w, &lent, &[]], number);
+    }
+    in_scope(c, "The halved row of X is refused with 14; on speeds 1 1 it is refused with 18.");
+    let listing = crate::listing::wanted(&of_s.file());
+    let lines: Vec<String> = listing.lines().map(|line| format!("       {}\n", line)).collect();
+    in_scope(c, &format!("`strips` writes for S:\n\n{}", lines.concat()));
+}
+
 /// A trial with its answer: 1 and the number of machines that its walk came to, or 0 and the next bid.
 struct Tried {
     name: &'static str,
@@ -503,7 +567,20 @@ const SECOND_TRIALS: [(u32, Tried); 27] = [
     (1_000_000, Tried { name: "the most tiles of weight 0, less than the start-up work", weights: &[0; TILES], speeds: &[1; MACHINES], bound: (999_999, 1), said: &[0, 1_000_000, 1], separators: &[0; ENTRIES] }),
 ];
 
-/// With holds, worked by hand, each with its start-up work and its holds: the jobs above at the bounds that bidding and bisection try; a
+/// The trials of the scope with holds, with the words that they begin with.
+#[rustfmt::skip]
+const LIMITED_TRIALS: [(&Held, Tried); 8] = [
+    (&LIMITED[0], Tried { name: "A trial of R", weights: LIMITED[0].weights, speeds: LIMITED[0].speeds, bound: (1, 1), said: &[0, 2, 1], separators: &[0, 1, 2, 4] }),
+    (&LIMITED[0], Tried { name: "A trial of R", weights: LIMITED[0].weights, speeds: LIMITED[0].speeds, bound: (100, 1), said: &[1, 3], separators: &[0, 1, 3, 5] }),
+    (&LIMITED[1], Tried { name: "A trial of S", weights: LIMITED[1].weights, speeds: LIMITED[1].speeds, bound: (11, 3), said: &[0, 4, 1], separators: &[0, 1, 2] }),
+    (&LIMITED[1], Tried { name: "A trial of S", weights: LIMITED[1].weights, speeds: LIMITED[1].speeds, bound: (12, 1), said: &[1, 1], separators: &[0, 3, 3] }),
+    (&LIMITED[2], Tried { name: "A trial of T", weights: LIMITED[2].weights, speeds: LIMITED[2].speeds, bound: (13, 4), said: &[0, 7, 2], separators: &[0, 1, 4, 5] }),
+    (&LIMITED[3], Tried { name: "A trial of U", weights: LIMITED[3].weights, speeds: LIMITED[3].speeds, bound: (11, 1), said: &[0, 13, 1], separators: &[0, 1, 2] }),
+    (&LIMITED[4], Tried { name: "A trial of V", weights: LIMITED[4].weights, speeds: LIMITED[4].speeds, bound: (3, 1), said: &[0, 4, 1], separators: &[0, 0, 2] }),
+    (&LIMITED[5], Tried { name: "A trial of W", weights: LIMITED[5].weights, speeds: LIMITED[5].speeds, bound: (0, 1), said: &[1, 3], separators: &[0, 1, 3, 4] }),
+];
+
+/// With holds, worked by hand, each with its start-up work and its holds: jobs at the bounds that bidding and bisection try; a
 /// machine at its hold, whose bid would have been the least; a last machine that reaches as far as it holds, and that holds just the rest;
 /// weights 0; no tiles; start-up work; the longest row.
 #[rustfmt::skip]
@@ -576,14 +653,16 @@ fn held(c: &mut Check, k: &Held) {
     }
 }
 
-/// The table of the first of them, entry by entry, and what it would be with j from 0 on.
-fn table_of_first(c: &mut Check) {
-    let k = &HELD[0];
+/// The table of R, entry by entry; from 0 on the crossing at i = 5 in row 2 would come earlier.
+fn table_of_r(c: &mut Check) {
+    let k = &LIMITED[0];
     let t = methods::table(&Job::held(k.startup, k.speeds, k.holds, k.weights));
     const NONE: Bound = (1, 0);
     let mut good = t.rows[0] == [(0, 1), (1, 1), NONE, NONE, NONE, NONE];
     good &= t.rows[1] == [(0, 1), (1, 1), (1, 1), (2, 1), NONE, NONE] && t.crossings[0] == [0, 1, 1, 2, 2, 3];
     good &= t.crossings[1] == [0, 1, 1, 1, 2, 3] && t.rows[2][5] == (2, 1);
+    good &= (0..=5).find(|&j| !slow::less(t.rows[0][j], (5 - j as u128, 1))) == Some(2);
+    in_scope(c, "In row 2 of R the crossing at i = 5 is 3, where j begins; from 0 on the smallest such j would be 2.");
     if !good {
         c.fail(&format!("the solver's table of {} is {:?}, {:?}", k.name, t.rows, t.crossings), String::new());
     }
@@ -669,7 +748,11 @@ fn all_tried(c: &mut Check) {
     for (startup, holds, k) in &HELD_TRIALS {
         tried_with(c, Job::held(*startup, k.speeds, holds, k.weights), k);
     }
-    for k in TRIALS.iter().filter(|k| k.name != "A").chain([&SECOND_TRIALS[0].1, &SECOND_TRIALS[1].1]) {
+    for (k, trial) in &LIMITED_TRIALS {
+        tried_with(c, Job::held(k.startup, k.speeds, k.holds, k.weights), trial);
+    }
+    let held = LIMITED_TRIALS.iter().map(|k| &k.1);
+    for k in TRIALS.iter().filter(|k| k.name != "A").chain([&SECOND_TRIALS[0].1, &SECOND_TRIALS[1].1]).chain(held) {
         let ends = match *k.said {
             [0, load, speed] => format!("fails with next bid {}/{}", load, speed),
             [_, 1] => "fits, comes to 1 machine".to_string(),
@@ -700,13 +783,14 @@ pub fn run(c: &mut Check) {
     for (startup, k) in STARTED.iter().chain(&SECOND) {
         marked(c, Some(*startup), k);
     }
-    for k in &HELD {
+    for k in LIMITED.iter().chain(&HELD) {
         held(c, k);
     }
-    table_of_first(c);
+    table_of_r(c);
     refused_for_holds(c);
     lines_of_a(c);
     lines_of_section_17(c);
+    lines_of_section_18(c);
     all_tried(c);
     rows(c);
     files_of_a_and_d(c);

@@ -433,5 +433,5 @@ pub fn run(c: &mut Check, times: usize) {
         smallest_jobs(c, name);
         smallest_lists(c, name, numbers);
     }
-    together(c, 40 * times);
+    together(c, 24 * times);
 }

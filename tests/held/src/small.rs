@@ -361,7 +361,7 @@ pub fn run(c: &mut Check, times: usize) {
     for _ in 0..4_000 * times {
         near(c);
     }
-    for _ in 0..110_000 * times {
+    for _ in 0..92_000 * times {
         random(c);
     }
 }

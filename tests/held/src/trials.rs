@@ -600,12 +600,12 @@ pub fn run(c: &mut Check, times: usize) {
         at_every_bid(c, &Case::of(job));
     });
     small::every_job(&mut |job| {
-        if c.rng.once_in(3) {
+        if c.rng.once_in(4) {
             c.jobs_seen += 1;
             let t = Case::of(&small::in_second(&mut c.rng, job));
             at_every_bid(c, &t);
         }
-        if c.rng.once_in(3) {
+        if c.rng.once_in(4) {
             c.jobs_seen += 1;
             let second = c.rng.once_in(3);
             let job = if second { small::in_second(&mut c.rng, job) } else { job.clone() };
@@ -618,7 +618,7 @@ pub fn run(c: &mut Check, times: usize) {
         let t = Case::of(&small::near_job(&mut c.rng));
         at_every_bid(c, &t);
     }
-    for _ in 0..15_000 * times {
+    for _ in 0..13_000 * times {
         random(c);
     }
     for tiles in 0..=100 {
