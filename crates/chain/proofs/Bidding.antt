@@ -20,7 +20,8 @@ use Rattle.chain.proofs.Sums.{sum-mono-at, sum-below}
 use Rattle.chain.proofs.Parts.{Proper, Plannable}
 use Rattle.chain.proofs.Within.{within-of, within-shrink, offer-within}
 use Rattle.chain.proofs.Indices.{first-holds, first-fails, first-exists}
-use Rattle.chain.proofs.Walk.{separator-to, separator-grows, separator-past, growing, walk-partition, walk-within, last-fits, fails-finite}
+use Rattle.chain.proofs.Walk.{separator-to, separator-grows, separator-past, growing, walk-partition, walk-within, last-fits}
+use Rattle.chain.proofs.Enough.{fails-finite, single-keeps}
 use Rattle.chain.proofs.NextBid.{bid-before, bid-last, next-cases, fails-before-end, next-above, next-finite, next-least}
 use Rattle.chain.proofs.Best.{Least}
 use Rattle.chain.proofs.Ideal.{ideal-finite, ideal-single, ideal-within}
@@ -116,7 +117,7 @@ module _ {job : Job} (can : Plannable job) where
   single-fits c e =
       last-fits job (ideal job)
       (subst (λ (q : ℕ). T (within job q (separator job (ideal job) q) (tasks job) (ideal job))) (sym e)
-      (within-of job 0 0 (tasks job) (ideal-single (can .proper) c e)))
+      (within-of job 0 0 (tasks job) (ideal-single (can .proper) c e) (single-keeps can e)))
 
   pub advance-counts : (k : ℕ) → Failing (suc k) → k ≤ advance job (bidding job k)
   unfolding bidding

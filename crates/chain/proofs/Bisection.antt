@@ -1,19 +1,19 @@
 -- Bisection: the ends never cross, their gap is at least halved by each round, and unequal ends are at least 1/fastest² apart;
 -- so it ends at the least bound that fits, after at most digits(D) rounds.
 -- Assumes nothing.
-use Prim.Native.Nat.{ℕ, zero, suc, _-_, _*_, _^_, _≤_, _<_}
+use Prim.Native.Nat.{ℕ, zero, suc, _+_, _-_, _*_, _^_, _≤_, _<_}
 use mathlib.Core.Path.{_≡_, refl, subst}
-use mathlib.Core.Bool.{Bool, true, false, not}
+use mathlib.Core.Bool.{Bool, true, false, not, cond}
 use mathlib.Core.List.{List}
 use native.Mathlib.Omega.{arith}
 use native.Mathlib.Nat.{mul-le-mul, mul-le-mul-right, mul-le-mul-left, le-of-mul-le-mul-right, one-le-mul, le-div-iff-mul-le}
 use lib.Dec.{T}
 use Rattle.bound.specs.declared.Bound.{Bound}
-use Rattle.bound.specs.Order.{over, le, _≼_, _≺_, plus, times, middle, Finite}
+use Rattle.bound.specs.Order.{over, le, pick, _≼_, _≺_, plus, times, middle, Finite}
 use Rattle.bound.proofs.Order.{open-le, make-le, open-lt, lt-le, le-trans, speed-real, finite-real}
 use Rattle.bound.proofs.Algebra.{plus-mono}
 use Rattle.chain.specs.Lists.{isFirst, digits}
-use Rattle.chain.specs.Job.{Edition, Job, fastest, slowest, partBound, boundAt, bottleneck, ideal}
+use Rattle.chain.specs.Job.{Edition, Job, held, totalWeight, heaviest, fastest, slowest, partLoad, partBound, at, boundAt, bottleneck, ideal, widest}
 use Rattle.chain.specs.Probe.{walk, fits, nextBid}
 use Rattle.chain.specs.Heuristic.{heuristic}
 use Rattle.chain.specs.declared.Ends.{Ends}
@@ -21,14 +21,15 @@ use Rattle.chain.specs.Bisection.{firstEnds, nextEnds, ends, meet}
 use Rattle.chain.specs.Plan.{breadth, difference, allowance}
 use Rattle.chain.specs.declared.Method.the-variants.{Bisection}
 use Rattle.chain.proofs.Tests.{T-of, T-not-of, and-right, and-fails}
-use Rattle.chain.proofs.Parts.{Proper, Plannable}
-use Rattle.chain.proofs.Within.{offer-limited}
+use Rattle.chain.proofs.Parts.{Proper, Plannable, load-le, weight-le-total}
+use Rattle.chain.proofs.Within.{free-of, offer-limited, parts-within}
 use Rattle.chain.proofs.Indices.{first-fails, first-exists}
 use Rattle.chain.proofs.Bottleneck.{bottleneck-finite, bottleneck-le, bottleneck-cases}
-use Rattle.chain.proofs.Walk.{walk-partition, walk-within, bottleneck-fits, fits-raise}
+use Rattle.chain.proofs.Walk.{walk-partition, walk-within, partition-fits, bottleneck-fits, fits-raise}
+use Rattle.chain.proofs.Enough.{some-partition}
 use Rattle.chain.proofs.NextBid.{bid-cases, next-cases, next-above, next-finite, next-least}
 use Rattle.chain.proofs.Best.{Least}
-use Rattle.chain.proofs.Extremes.{slowest-positive, speed-fastest}
+use Rattle.chain.proofs.Extremes.{slowest-positive, speed-slowest, speed-fastest}
 use Rattle.chain.proofs.Ideal.{total-speed-positive}
 use Rattle.chain.proofs.Heuristic.{heuristic-partition, heuristic-bound}
 use Rattle.chain.proofs.Digits.{digits-least}
@@ -101,6 +102,14 @@ bottleneck-speed {job} ok s =
       limited = bottleneck-cases ok (λ B. B .speed ≤ fastest job) s (λ p h. speed-fastest job p h);
     }
 
+widest-speed : {job : Job} → Proper job → OfProcessor job (widest job)
+unfolding widest
+widest-speed {job} ok =
+    record {
+      finite = record { speed-positive = slowest-positive job ok };
+      limited = omega (arith, speed-slowest job 0 (ok .some), speed-fastest job 0 (ok .some));
+    }
+
 -- A first trial is within the allowance.
 pub first-allowed : (edition : Edition) (job : Job) → 1 ≤ allowance edition Bisection job
 unfolding allowance
@@ -131,17 +140,48 @@ module _ {job : Job} (can : Plannable job) where
 
   -- The high end begins within the width of the ideal.
   pub first-close : firstEnds job .high ≼ plus (ideal job) (width job)
+  unfolding firstEnds widest
+  first-close = go (held job) refl
+    where
+      go : (t : Bool) → held job ≡ t
+          → pick t (widest job) (bottleneck job (heuristic job)) ≼ plus (ideal job) (over (cond t (totalWeight job) (heaviest job) + job .startup) (slowest job))
+      go true e = make-le (omega arith)
+      go false e = heuristic-bound (can .proper) (free-of (T-not-of e))
+
+  -- Every partition is within all weight and the start-up work on the slowest processor, so that fits.
+  pub widest-fits : T (fits job (widest job))
+  unfolding widest boundAt partBound
+  widest-fits =
+      let s = some-partition can in
+      partition-fits (can .proper) (s .1)
+      (parts-within job (s .1)
+      (λ p h.
+      let a = at (s .0) p in
+      let b = at (s .0) (suc p) in
+      let l : partLoad job a b ≤ totalWeight job + job .startup = omega (arith, load-le job a b, weight-le-total job a b) in
+      make-le (mul-le-mul l (speed-slowest job p h))))
+
+  -- The high end is a number with the speed of a processor, and fits.
+  high-end : OfProcessor job (firstEnds job .high) × T (fits job (firstEnds job .high))
   unfolding firstEnds
-  first-close = heuristic-bound (can .proper)
+  high-end = go (held job) refl
+    where
+      ok : Proper job
+      ok = can .proper
+
+      go : (t : Bool) → held job ≡ t
+          → OfProcessor job (pick t (widest job) (bottleneck job (heuristic job))) × T (fits job (pick t (widest job) (bottleneck job (heuristic job))))
+      go true e = (widest-speed ok, widest-fits)
+      go false e = (bottleneck-speed ok (heuristic job), bottleneck-fits ok (heuristic-partition ok (free-of (T-not-of e))))
 
   pub bracket-start : T (not (fits job (ideal job))) → Bracket job 1 (firstEnds job)
   unfolding firstEnds ideal
   bracket-start t =
       record {
         low-speed = next-speed (ideal job) t;
-        high-speed = bottleneck-speed (can .proper) (heuristic job);
+        high-speed = high-end .0;
         low-below = λ C f. next-least (can .proper) (ideal job) C t f;
-        high-fits = bottleneck-fits (can .proper) (heuristic-partition (can .proper));
+        high-fits = high-end .1;
         gap =
             gap-start (total-speed-positive (can .proper)) (slowest-positive job (can .proper)) (lt-le (next-above can (ideal job) t))
             first-close;

@@ -9,7 +9,7 @@ use lib.Dec.{T, T-not}
 use Rattle.bound.specs.declared.Bound.{Bound}
 use Rattle.bound.specs.Order.{_≼_, _≈_, Finite}
 use Rattle.bound.proofs.Order.{finite-below, le-refl, le-trans}
-use Rattle.chain.specs.Job.{Edition, Second, startupOf, OfEdition, Job, tasks, last, bottleneck, ideal}
+use Rattle.chain.specs.Job.{Edition, Second, startupOf, OfEdition, Job, tasks, last, held, bottleneck, ideal}
 use Rattle.chain.specs.Probe.{walk, fits}
 use Rattle.chain.specs.Dynamic.{tableValue}
 use Rattle.chain.specs.Bidding.{bidding}
@@ -18,12 +18,14 @@ use Rattle.chain.specs.Nicol.{candidateOn, Comes}
 use Rattle.chain.specs.declared.Method.{Method}
 use Rattle.chain.specs.declared.Method.the-variants.{Table, Bidding, Bisection, Nicol}
 use Rattle.chain.specs.Lists.{isFirst}
-use Rattle.chain.specs.Plan.{leastBottleneck, planOf, Best, BisectionEnds, at-once, after, MethodEnds, allowance, biddingFailures, bisectionRounds, countBy, foundBy, imbalance, Plan, PlanBy}
+use Rattle.chain.specs.Plan.{leastBottleneck, planOf, Best, BisectionEnds, at-once, after, MethodEnds, takes, allowance, biddingFailures, bisectionRounds, countBy, foundBy, imbalance, Plan, PlanBy}
 use Rattle.chain.proofs.Tests.{T-of, T-not-of}
 use Rattle.chain.proofs.Parts.{Proper, Plannable}
+use Rattle.chain.proofs.Within.{free-of}
 use Rattle.chain.proofs.Indices.{first-holds, first-unique, smallest-first}
 use Rattle.chain.proofs.Bottleneck.{bottleneck-finite, bottleneck-real, bottleneck-le}
-use Rattle.chain.proofs.Walk.{fits-cover, cover-fits, walk-partition, walk-within, bottleneck-fits, some-fits}
+use Rattle.chain.proofs.Walk.{fits-cover, cover-fits, walk-partition, walk-within, bottleneck-fits}
+use Rattle.chain.proofs.Enough.{some-fits}
 use Rattle.chain.proofs.Best.{Least, least-equal, least-alike, least-best, best-unique}
 use Rattle.chain.proofs.Table.{table-real, table-cover, moves-allowed}
 use Rattle.chain.proofs.Ideal.{ideal-finite}
@@ -92,41 +94,43 @@ module _ {job : Job} (can : Plannable job) where
   ideal-least-bound t = record { finite = ideal-finite (can .proper); fitting = t; least = λ C u. ideal-below (can .proper) C u }
 
   -- The candidates of Nicol's search: each is no less than the least bottleneck, and one is equal to it.
-  pub candidates-above : (p : ℕ) → p ≤ last job → Comes job p → leastBottleneck job ≼ candidateOn job p
-  candidates-above p l c = candidate-above can least-bottleneck p l c
+  pub candidates-above : T (not (held job)) → (p : ℕ) → p ≤ last job → Comes job p → leastBottleneck job ≼ candidateOn job p
+  candidates-above h p l c = candidate-above (can .proper) (free-of h) least-bottleneck p l c
 
-  pub candidates-meet : Comes job (last job) → (p : ℕ) × (p ≤ last job) × (candidateOn job p ≈ leastBottleneck job)
-  candidates-meet c = candidate-met can least-bottleneck c
+  pub candidates-meet : T (not (held job)) → Comes job (last job) → (p : ℕ) × (p ≤ last job) × (candidateOn job p ≈ leastBottleneck job)
+  candidates-meet h c = candidate-met (can .proper) (free-of h) least-bottleneck c
 
-  -- Every method ends at the least bound that fits.
-  pub method-least : (m : Method) (n : ℕ) (B : Bound) → MethodEnds m job n B → Least job B
-  method-least Table n B x = subst (Least job) (sym (x .yields)) table-least-bound
-  method-least Bidding n B x = subst (Least job) (sym (x .yields)) (bidding-least can (x .failures) (x .first-fit))
-  method-least Bisection n B x = bisection-bound x
+  -- Every method ends at the least bound that fits, of a job that it takes.
+  pub method-least : (m : Method) → T (takes m job) → (n : ℕ) (B : Bound) → MethodEnds m job n B → Least job B
+  unfolding takes
+  method-least Table h n B x = subst (Least job) (sym (x .yields)) table-least-bound
+  method-least Bidding h n B x = subst (Least job) (sym (x .yields)) (bidding-least can (x .failures) (x .first-fit))
+  method-least Bisection h n B x = bisection-bound x
     where
       bisection-bound : {n : ℕ} {B : Bound} → BisectionEnds job n B → Least job B
       bisection-bound (at-once t c e) = subst (Least job) (sym e) (ideal-least-bound t)
       bisection-bound (after k t f c e) =
           subst (Least job) (sym e) (bisection-least can t k (first-holds (λ j. meet (ends job j)) k f))
-  method-least Nicol n B x = nicol-least can x
+  method-least Nicol h n B x = nicol-least (can .proper) (free-of h) x
 
   -- So the bottleneck found is the least bottleneck of all partitions.
-  pub method-finds : (m : Method) (n : ℕ) (B : Bound) → MethodEnds m job n B → B ≈ leastBottleneck job
-  method-finds m n B x =
-      let b : Least job B = method-least m n B x in
+  pub method-finds : (m : Method) → T (takes m job) → (n : ℕ) (B : Bound) → MethodEnds m job n B → B ≈ leastBottleneck job
+  method-finds m h n B x =
+      let b : Least job B = method-least m h n B x in
       let l : Least job (leastBottleneck job) = least-bottleneck in
       least-equal b l
 
   -- Every method's count is within its allowance.
-  pub method-allowed : {edition : Edition} → OfEdition edition job → (m : Method) (n : ℕ) (B : Bound) → MethodEnds m job n B → n ≤ allowance edition m job
-  method-allowed {edition} of Table n B x = subst (λ (n : ℕ). n ≤ allowance edition Table job) (sym (x .counted)) (moves-allowed (can .proper) edition)
-  method-allowed of Bidding n B x = omega (arith, x .counted, bidding-allowed can of (x .failures) (x .first-fit))
-  method-allowed {edition} of Bisection n B x = bisection-count x
+  pub method-allowed : {edition : Edition} → OfEdition edition job → (m : Method) → T (takes m job) → (n : ℕ) (B : Bound) → MethodEnds m job n B → n ≤ allowance edition m job
+  unfolding takes
+  method-allowed {edition} of Table h n B x = subst (λ (n : ℕ). n ≤ allowance edition Table job) (sym (x .counted)) (moves-allowed (can .proper) edition)
+  method-allowed of Bidding h n B x = omega (arith, x .counted, bidding-allowed can of (x .failures) (x .first-fit))
+  method-allowed {edition} of Bisection h n B x = bisection-count x
     where
       bisection-count : {n : ℕ} {B : Bound} → BisectionEnds job n B → n ≤ allowance edition Bisection job
       bisection-count (at-once t c e) = omega (arith, first-allowed edition job)
       bisection-count (after k t f c e) = omega (arith, bisection-allowed can edition t k f)
-  method-allowed {edition} of Nicol n B x = nicol-allowed can edition x
+  method-allowed {edition} of Nicol h n B x = nicol-allowed (can .proper) (free-of h) edition x
 
   -- The first trial that fits and the first round after which the ends meet are found.
   pub failures-first : T (isFirst (λ k. fits job (bidding job k)) (biddingFailures job))
@@ -145,29 +149,29 @@ module _ {job : Job} (can : Plannable job) where
       (e .2)
 
   -- Every method ends, with the count and the bottleneck of the definitions.
-  pub method-is : (m : Method) → MethodEnds m job (countBy m job) (foundBy m job)
-  unfolding countBy foundBy
-  method-is Table = record { counted = refl; yields = refl }
-  method-is Bidding = record { failures = biddingFailures job; first-fit = failures-first; counted = refl; yields = refl }
-  method-is Bisection = go (fits job (ideal job)) refl
+  pub method-is : (m : Method) → T (takes m job) → MethodEnds m job (countBy m job) (foundBy m job)
+  unfolding takes countBy foundBy
+  method-is Table h = record { counted = refl; yields = refl }
+  method-is Bidding h = record { failures = biddingFailures job; first-fit = failures-first; counted = refl; yields = refl }
+  method-is Bisection h = go (fits job (ideal job)) refl
     where
       go : (t : Bool) → fits job (ideal job) ≡ t
           → BisectionEnds job (cond t 1 (suc (bisectionRounds job))) (cond t (ideal job) ((ends job (bisectionRounds job)) .low))
       go true e = at-once (T-of e) refl refl
       go false e = let t : T (not (fits job (ideal job))) = T-not-of e in after (bisectionRounds job) t (rounds-first t) refl refl
-  method-is Nicol = nicol-is can
+  method-is Nicol h = nicol-is (can .proper) (free-of h)
 
-  pub method-ends : (m : Method) → (n : ℕ) × (B : Bound) × MethodEnds m job n B
-  method-ends m = (countBy m job, foundBy m job, method-is m)
+  pub method-ends : (m : Method) → T (takes m job) → (n : ℕ) × (B : Bound) × MethodEnds m job n B
+  method-ends m h = (countBy m job, foundBy m job, method-is m h)
 
   -- Whatever count a method ends with is that number.
-  pub method-unique : (m : Method) (n : ℕ) (B : Bound) → MethodEnds m job n B → n ≡ countBy m job
-  method-unique m n B x = method-counts job m n (countBy m job) B (foundBy m job) x (method-is m)
+  pub method-unique : (m : Method) → T (takes m job) → (n : ℕ) (B : Bound) → MethodEnds m job n B → n ≡ countBy m job
+  method-unique m h n B x = method-counts job m n (countBy m job) B (foundBy m job) x (method-is m h)
 
   -- Every plan has the separators of the definition, which is the best partition.
   pub plan-separators : {edition : Edition} (m : Method) {plan : Plan} → PlanBy edition m job plan → plan .separators ≡ planOf job
   unfolding planOf
-  plan-separators m {plan} x = x .walked ∙ least-alike (method-least m (plan .count) (x .found) (x .ended)) least-bottleneck
+  plan-separators m {plan} x = x .walked ∙ least-alike (method-least m (x .taken) (plan .count) (x .found) (x .ended)) least-bottleneck
 
   pub plan-of-best : Best job (planOf job)
   unfolding planOf
@@ -183,11 +187,11 @@ module _ {job : Job} (can : Plannable job) where
 
   -- The count that a plan carries is within the allowance that it carries.
   pub plan-allowed : {edition : Edition} → OfEdition edition job → (m : Method) {plan : Plan} → PlanBy edition m job plan → plan .count ≤ plan .allowed
-  plan-allowed of m {plan} x = subst (λ (n : ℕ). plan .count ≤ n) (sym (x .allows)) (method-allowed of m (plan .count) (x .found) (x .ended))
+  plan-allowed of m {plan} x = subst (λ (n : ℕ). plan .count ≤ n) (sym (x .allows)) (method-allowed of m (x .taken) (plan .count) (x .found) (x .ended))
 
-  -- Every method has a plan.
-  pub plan-exists : (edition : Edition) (m : Method) → (plan : Plan) × PlanBy edition m job plan
-  plan-exists edition m = go (method-ends m)
+  -- Every method has a plan of a job that it takes.
+  pub plan-exists : (edition : Edition) (m : Method) → T (takes m job) → (plan : Plan) × PlanBy edition m job plan
+  plan-exists edition m h = go (method-ends m h)
     where
       go : (n : ℕ) × (B : Bound) × MethodEnds m job n B → (plan : Plan) × PlanBy edition m job plan
       go (n, B, e) = (
@@ -198,5 +202,5 @@ module _ {job : Job} (can : Plannable job) where
           bound = bottleneck job (walk job B);
           excess = imbalance job (bottleneck job (walk job B));
         },
-        record { found = B; ended = e; walked = refl; allows = refl; measured = refl; exceeds = refl },
+        record { taken = h; found = B; ended = e; walked = refl; allows = refl; measured = refl; exceeds = refl },
       )

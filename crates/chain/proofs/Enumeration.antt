@@ -2,19 +2,23 @@
 -- Assumes nothing.
 use Prim.Native.Nat.{ℕ, zero, suc, _+_, _-_, _≤_}
 use mathlib.Core.Path.{_≡_, refl, sym, ap, subst}
+use mathlib.Core.Bool.{Bool, true, false, cond}
 use mathlib.Core.List.{List, [], _∷_, map, List·Memᴰ, List·Memᴰ·head, List·Memᴰ·tail, List·Memᴰ·not-nil, List·Memᴰ·cases-cons, List·Memᴰ·append-cases, List·Memᴰ·eq-of-singleton, Memᴰ·append-left, Memᴰ·append-right, Memᴰ·cast, Memᴰ·map, Memᴰ·of-map}
-use mathlib.Core.Logic.{inl, inr}
+use mathlib.Core.Logic.{_⊎_, inl, inr}
 use native.Mathlib.Omega.{arith}
 use native.Mathlib.Decide.{decLe}
+use lib.Dec.{T}
 use lib.ListN.{length}
 use Rattle.bound.specs.declared.Bound.{Bound}
 use Rattle.bound.specs.Order.{lesser, _≼_, Real}
 use Rattle.bound.proofs.Order.{le-refl, le-trans, lesser-cases, lesser-left, lesser-right}
-use Rattle.chain.specs.Job.{Job, tasks, last, at, Partition, bottleneck}
-use Rattle.chain.specs.Plan.{spread, onward, partitions, leastBound, leastBottleneck}
+use Rattle.chain.specs.Job.{Job, tasks, processors, last, keeps, at, Partition, allKept, bottleneck}
+use Rattle.chain.specs.Plan.{spread, onward, those, partitions, leastBound, leastBottleneck}
 use Rattle.chain.proofs.Parts.{Proper, Plannable}
+use Rattle.chain.proofs.Tests.{T-of}
+use Rattle.chain.proofs.Indices.{all-at, all-of}
 use Rattle.chain.proofs.Bottleneck.{processors-last, bottleneck-real}
-use Rattle.chain.proofs.Walk.{some-partition}
+use Rattle.chain.proofs.Enough.{some-partition}
 
 -- The rest of a partition from separator a on: q separators between a and the end, n.
 pub record Onward (n q a : ℕ) (t : List ℕ) : Type 0 where
@@ -134,10 +138,38 @@ module _ (f : List ℕ → Bound) (real : (s : List ℕ) → Real (f s)) where
   least-of-attained [] s m = absurd (List·Memᴰ·not-nil m)
   least-of-attained (u ∷ l) s m = least-of-is u l
 
+-- What stands among those of a list of which f holds: what stands there and has it.
+those-sound : (f : List ℕ → Bool) (ss : List (List ℕ)) (s : List ℕ) → List·Memᴰ s (those f ss) → List·Memᴰ s ss × T (f s)
+unfolding those
+those-sound f [] s m = absurd (List·Memᴰ·not-nil m)
+those-sound f (t ∷ ts) s m = go (f t) refl m (those-sound f ts s)
+  where
+    go : (b : Bool) → f t ≡ b → List·Memᴰ s (cond b (t ∷ those f ts) (those f ts)) → (List·Memᴰ s (those f ts) → List·Memᴰ s ts × T (f s))
+        → List·Memᴰ s (t ∷ ts) × T (f s)
+    go true e n below =
+        elim (List·Memᴰ·cases-cons n) [
+          | inl x ↦ (List·Memᴰ·head x, subst (λ (u : List ℕ). T (f u)) (sym x) (T-of e))
+          | inr x ↦ (List·Memᴰ·tail (below x .0), below x .1)
+        ]
+    go false e n below = (List·Memᴰ·tail (below n .0), below n .1)
+
+those-complete : (f : List ℕ → Bool) (ss : List (List ℕ)) (s : List ℕ) → List·Memᴰ s ss → T (f s) → List·Memᴰ s (those f ss)
+unfolding those
+those-complete f [] s m h = absurd (List·Memᴰ·not-nil m)
+those-complete f (t ∷ ts) s m h = go (f t) refl (List·Memᴰ·cases-cons m) (λ x. those-complete f ts s x h)
+  where
+    go : (b : Bool) → f t ≡ b → (s ≡ t) ⊎ List·Memᴰ s ts → (List·Memᴰ s ts → List·Memᴰ s (those f ts)) → List·Memᴰ s (cond b (t ∷ those f ts) (those f ts))
+    go true e (inl x) below = List·Memᴰ·head x
+    go true e (inr x) below = List·Memᴰ·tail (below x)
+    go false e (inl x) below = absurd (subst T e (subst (λ (u : List ℕ). T (f u)) x h))
+    go false e (inr x) below = below x
+
 module _ {job : Job} (ok : Proper job) where
-  from-onward : (t : List ℕ) → Onward (tasks job) (last job) 0 t → Partition job (0 ∷ t)
-  from-onward t w =
+  from-onward : (t : List ℕ) → Onward (tasks job) (last job) 0 t → T (allKept job (0 ∷ t)) → Partition job (0 ∷ t)
+  unfolding allKept
+  from-onward t w k =
       record {
+        kept = all-at (λ p. keeps job p (at (0 ∷ t) p) (at (0 ∷ t) (suc p))) (processors job) k;
         count = omega (arith, w .count, ok .some);
         first = refl;
         grows = λ p h. w .grows p (omega arith);
@@ -156,15 +188,22 @@ module _ {job : Job} (ok : Proper job) where
   pub partitions-sound : (s : List ℕ) → List·Memᴰ s (partitions job) → Partition job s
   unfolding partitions
   partitions-sound s m =
-      let r = Memᴰ·of-map (λ s. 0 ∷ s) (onward (tasks job) (last job) 0) m in
-      subst (Partition job) (r .2) (from-onward (r .0) (onward-sound (tasks job) (last job) 0 (r .0) (omega arith) (r .1)))
+      let n = those-sound (allKept job) (map (λ s. 0 ∷ s) (onward (tasks job) (last job) 0)) s m in
+      let r = Memᴰ·of-map (λ s. 0 ∷ s) (onward (tasks job) (last job) 0) (n .0) in
+      subst (Partition job) (r .2)
+      (from-onward (r .0) (onward-sound (tasks job) (last job) 0 (r .0) (omega arith) (r .1)) (subst (λ (s : List ℕ). T (allKept job s)) (sym (r .2)) (n .1)))
+
+  listed : (s : List ℕ) → Partition job s → List·Memᴰ s (map (λ s. 0 ∷ s) (onward (tasks job) (last job) 0))
+  listed [] w = absurd (let z : ⊥ = omega (arith, w .count) in z)
+  listed (a ∷ t) w =
+      Memᴰ·cast (ap (λ (x : ℕ). x ∷ t) (w .first)) (Memᴰ·map (λ s. 0 ∷ s) (onward-complete (tasks job) (last job) 0 t (subst (λ (x : ℕ). Onward (tasks job) (last job) x t) (w .first) (to-onward a t w))))
 
   -- Every partition stands in the enumeration.
   pub partitions-complete : (s : List ℕ) → Partition job s → List·Memᴰ s (partitions job)
-  unfolding partitions
-  partitions-complete [] w = absurd (let z : ⊥ = omega (arith, w .count) in z)
-  partitions-complete (a ∷ t) w =
-      Memᴰ·cast (ap (λ (x : ℕ). x ∷ t) (w .first)) (Memᴰ·map (λ s. 0 ∷ s) (onward-complete (tasks job) (last job) 0 t (subst (λ (x : ℕ). Onward (tasks job) (last job) x t) (w .first) (to-onward a t w))))
+  unfolding partitions allKept
+  partitions-complete s w =
+      those-complete (allKept job) (map (λ s. 0 ∷ s) (onward (tasks job) (last job) 0)) s (listed s w)
+      (all-of (λ p. keeps job p (at s p) (at s (suc p))) (processors job) (w .kept))
 
   -- No partition has a bottleneck below the least.
   pub least-is-least : (s : List ℕ) → Partition job s → leastBottleneck job ≼ bottleneck job s

@@ -24,6 +24,7 @@ use Rattle.chain.proofs.Digits.{digits-least, digits-below}
 use Rattle.chain.proofs.Parts.{Proper, weight-split, weight-empty, weight-all, load-le}
 use Rattle.chain.proofs.Indices.{SmallestLeast, smallest-least-is}
 use Rattle.chain.proofs.Extremes.{same-default, weight-step}
+use Rattle.chain.proofs.Within.{Free, free-keeps}
 use Rattle.chain.proofs.Bottleneck.{part-le-bottleneck, bottleneck-cases}
 use Rattle.chain.proofs.Heuristic.{half-step}
 
@@ -253,9 +254,16 @@ module _ (job : Job) (row : Halvable (job .speeds)) where
   unfolding halving
   halved = subst (λ (n : ℕ). Halves job n 0 (tasks job) (halving job)) processors-power (halves job (levels (processors job)) 0 (tasks job) (omega arith))
 
-  -- Halving the row gives a partition.
-  pub halving-partition : Partition job (halving job)
-  halving-partition = record { count = halved .count; first = halved .first; grows = halved .grows; end = halved .end }
+  -- Without holds halving the row gives a partition.
+  pub halving-partition : Free job → Partition job (halving job)
+  halving-partition free =
+      record {
+        count = halved .count;
+        first = halved .first;
+        grows = halved .grows;
+        end = halved .end;
+        kept = λ p h. free-keeps free p (at (halving job) p) (at (halving job) (suc p));
+      }
 
   same-speed : (p : ℕ) → p < processors job → speedOf job p ≡ speedOf job 0
   unfolding speedOf

@@ -16,7 +16,7 @@ use Rattle.chain.specs.Heuristic.{margin, miss, nearest, heuristic}
 use Rattle.chain.proofs.Sums.{sum-grows}
 use Rattle.chain.proofs.Parts.{Proper, weight-split, weight-empty, weight-all, load-le}
 use Rattle.chain.proofs.Indices.{SmallestLeast, smallest-least-is, length-tabulate, at-tabulate, after-tabulate}
-use Rattle.chain.proofs.Within.{parts-within}
+use Rattle.chain.proofs.Within.{Free, free-keeps, parts-within}
 use Rattle.chain.proofs.Bottleneck.{processors-last, bottleneck-le}
 use Rattle.chain.proofs.Extremes.{weight-step, speed-slowest}
 use Rattle.chain.proofs.Ideal.{total-speed-is}
@@ -141,15 +141,16 @@ module _ {job : Job} (ok : Proper job) where
             (nearest-le job p)
       ]
 
-  -- The heuristic gives a partition.
-  pub heuristic-partition : Partition job (heuristic job)
+  -- Without holds the heuristic gives a partition.
+  pub heuristic-partition : Free job → Partition job (heuristic job)
   unfolding heuristic
-  heuristic-partition =
+  heuristic-partition free =
       record {
         count = heuristic-length job ∙ ap suc (sym (processors-last ok));
         first = refl;
         grows = grows;
         end = heuristic-end;
+        kept = λ p h. free-keeps free p (at (heuristic job) p) (at (heuristic job) (suc p));
       }
 
   -- Every separator misses its target by at most half the heaviest weight.
@@ -183,15 +184,15 @@ module _ {job : Job} (ok : Proper job) where
       omega (arith, mul-le-mul-right (totalSpeed job) (load-le job (at (heuristic job) p) (at (heuristic job) (suc p))), weight-close p h)
 
   -- Every part of the heuristic is within the sum of the ideal and the margin.
-  pub heuristic-close : Within job (heuristic job) (plus (ideal job) (margin job))
+  pub heuristic-close : Free job → Within job (heuristic job) (plus (ideal job) (margin job))
   unfolding boundAt partBound ideal
-  heuristic-close =
-      parts-within job heuristic-partition
+  heuristic-close free =
+      parts-within job (heuristic-partition free)
       (λ p h.
       make-le
       (cross (partLoad job (at (heuristic job) p) (at (heuristic job) (suc p))) (totalSpeed job) (totalWeight job)
       (speedOf job p) (heaviest job + job .startup) (slowest job) (load-close p h) (speed-slowest job p h)))
 
   -- So is its bottleneck.
-  pub heuristic-bound : bottleneck job (heuristic job) ≼ plus (ideal job) (margin job)
-  heuristic-bound = bottleneck-le ok heuristic-close
+  pub heuristic-bound : Free job → bottleneck job (heuristic job) ≼ plus (ideal job) (margin job)
+  heuristic-bound free = bottleneck-le ok (heuristic-close free)

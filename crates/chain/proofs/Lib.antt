@@ -17,6 +17,7 @@ pub mod Imbalance
 pub mod Indices
 pub mod Limits
 pub mod Marked
+pub mod Enough
 pub mod NextBid
 pub mod Parts
 pub mod Ranges

@@ -6,16 +6,16 @@ use mathlib.Core.Bool.{Bool, true, false}
 use mathlib.Core.List.{List, [], _∷_}
 use lib.ListN.{replicate}
 use Rattle.chain.specs.Limits.{maxTasks, maxWeight, maxStartup, maxProcessors, maxSpeed, maxBoundLoad, maxBoundSpeed}
-use Rattle.chain.specs.Job.{startupOf, editionOf, effective, jobOf}
+use Rattle.chain.specs.Job.{startupOf, editionOf, effective, freeJob}
 use Rattle.chain.specs.Refusal.{eachBetween, startupTest, speedsTest, weightsTest, processorsTest, tasksTest, boundTest, firstRefusal, jobTests}
 
 -- The job of these speeds and weights gives this number.
 abbrev gives : List ℕ → List ℕ → ℕ → Type 0
-gives es ws n = firstRefusal (jobTests (jobOf 0 es ws)) ≡ n
+gives es ws n = firstRefusal (jobTests (freeJob 0 es ws)) ≡ n
 
 -- The same with the edition and the start-up work as a call takes them.
 abbrev gives-with : Bool → ℕ → List ℕ → List ℕ → ℕ → Type 0
-gives-with second c es ws n = firstRefusal (jobTests (jobOf (effective second c) es ws)) ≡ n
+gives-with second c es ws n = firstRefusal (jobTests (freeJob (effective second c) es ws)) ≡ n
 
 -- Scope 11.4: "Speed 10,000 is taken; speeds 0 and 10,001 are refused with 5." Scope 11.5: "Weight 1,000,000 is taken; weight 1,000,001 is
 -- refused with 6."

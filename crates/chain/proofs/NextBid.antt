@@ -16,7 +16,8 @@ use Rattle.chain.specs.Job.{Job, tasks, last, offer}
 use Rattle.chain.specs.Probe.{separator, fits, bid, leastBidTo, nextBid}
 use Rattle.chain.proofs.Parts.{Proper, Plannable}
 use Rattle.chain.proofs.Within.{within-shrink, within-offer, past-offer, offer-real}
-use Rattle.chain.proofs.Walk.{separator-to, separator-grows, separator-within, separator-past, growing, fits-last, fails-last, full-fits, fails-finite, some-fits}
+use Rattle.chain.proofs.Walk.{separator-to, separator-grows, separator-within, separator-past, growing, fits-last, fails-last, full-fits}
+use Rattle.chain.proofs.Enough.{fails-finite, some-fits}
 
 module _ (job : Job) (B : Bound) where
   -- The bids of the processors before the last, and of the last.

@@ -18,11 +18,12 @@ use Rattle.chain.specs.Probe.{separator, fits}
 use Rattle.chain.specs.Nicol.{fitsAt, firstFit, startOn, candidateOn, leastCandidate, emptyFits, Comes}
 use Rattle.chain.proofs.Tests.{T-of, T-not-of}
 use Rattle.chain.proofs.Parts.{Proper, Plannable, part-empty, part-right, part-finite, part-real}
-use Rattle.chain.proofs.Within.{within-of, within-bound, within-empty, within-shrink}
+use Rattle.chain.proofs.Within.{Free, free-keeps, within-of, within-bound, within-empty, within-shrink}
 use Rattle.chain.proofs.Indices.{Smallest, smallest-is, first-holds, first-fails}
 use Rattle.chain.proofs.Cover.{Cover}
 use Rattle.chain.proofs.CoverLaws.{cover-raise}
-use Rattle.chain.proofs.Walk.{separator-within, fits-last, cover-fits, fits-raise, fails-finite}
+use Rattle.chain.proofs.Walk.{separator-within, fits-last, cover-fits, fits-raise}
+use Rattle.chain.proofs.Enough.{fails-finite, free-plannable}
 use Rattle.chain.proofs.Best.{Least}
 
 module _ (job : Job) where
@@ -171,9 +172,9 @@ record Below (job : Job) (M : Bound) (p : ℕ) : Type 0 where
   above : M ≼ bound
   covers : Cover job bound p (startOn job p)
 
-module _ {job : Job} (can : Plannable job) where
-  ok : Proper job
-  ok = can .proper
+module _ {job : Job} (ok : Proper job) (free : Free job) where
+  can : Plannable job
+  can = free-plannable ok free
 
   -- All the rest on processor p fits, since a bound that fails would else be enough for all.
   rest-from : (p : ℕ) → p ≤ last job → ((M : Bound) → T (not (fits job M)) → Below job M p) → T (fitsAt job p (startOn job p) (tasks job))
@@ -189,7 +190,7 @@ module _ {job : Job} (can : Plannable job) where
           (cover-fits job (w .bound)
           (subst (λ (i : ℕ). Cover job (w .bound) (suc i) (tasks job)) (let e : p + (last job - p) ≡ last job = omega arith in e)
           (cover-on job (w .bound) p (last job - p)
-          (startOn job p, start-to job p, w .covers, within-of job p (startOn job p) (tasks job) (w .above)))))
+          (startOn job p, start-to job p, w .covers, within-of job p (startOn job p) (tasks job) (w .above) (free-keeps free p (startOn job p) (tasks job))))))
 
       go : (t : Bool) → fits job B ≡ t → T t
       go true e = tt
@@ -237,7 +238,7 @@ module _ {job : Job} (can : Plannable job) where
               a,
               from,
               cover-raise job real (greater-left (w .bound) C) p a (w .covers),
-              within-of job p a (firstFit job p a - 1) (greater-right (w .bound) C),
+              within-of job p a (firstFit job p a - 1) (greater-right (w .bound) C) (free-keeps free p a (firstFit job p a - 1)),
             );
           }
         where

@@ -18,7 +18,8 @@ use Rattle.chain.specs.Nicol.{Range, fitsAt, firstFit, startOn, leastCan
 use Rattle.chain.specs.Plan.{TrialsTo, NicolEnds, early, whole, allowance, nicolTrials, nicolStop}
 use Rattle.chain.specs.declared.Method.the-variants.{Nicol}
 use Rattle.chain.proofs.Tests.{T-of, T-not-of}
-use Rattle.chain.proofs.Parts.{Proper, Plannable}
+use Rattle.chain.proofs.Parts.{Proper}
+use Rattle.chain.proofs.Within.{Free}
 use Rattle.chain.proofs.Sums.{sum-same-below, sum-below}
 use Rattle.chain.proofs.Digits.{digits-least}
 use Rattle.chain.proofs.Indices.{Smallest, smallest-is, all-at, all-of, first-holds, first-fails, first-of, first-unique, first-exists, smallest-first}
@@ -132,15 +133,15 @@ module _ {job : Job} (ok : Proper job) (p a : ℕ) where
                 | inr z ↦ T-not (fitsAt job p a j) (w .before j (s .from) y) (T-of z)
               ]
 
-module _ {job : Job} (can : Plannable job) (p : ℕ) (l : p ≤ last job) (c : Comes job p) where
+module _ {job : Job} (ok : Proper job) (free : Free job) (p : ℕ) (l : p ≤ last job) (c : Comes job p) where
   pub ranged-at : (k : ℕ) → Ranged job p (startOn job p) (2 ^ k) (rangeAfter job p (startOn job p) k)
-  ranged-at k = ranged-after (can .proper) p (startOn job p) (start-to job p) (rest-fits can p l c) k
+  ranged-at k = ranged-after ok p (startOn job p) (start-to job p) (rest-fits ok free p l c) k
 
   -- Trial k + 1 is made only where 2ᵏ is at most N, so k is below digits(N).
   pub unsettled-below : (k : ℕ) → T (not (settled job p k)) → k < digits (tasks job)
   unfolding settled
   unsettled-below k t =
-      digits-least (tasks job) k (ranged-apart (can .proper) p (startOn job p) (ranged-at k) t .1)
+      digits-least (tasks job) k (ranged-apart ok p (startOn job p) (ranged-at k) t .1)
 
   -- The trials of a processor end, within digits(N),
   pub trials-end : (k : ℕ) × (k ≤ digits (tasks job)) × T (isFirst (settled job p) k)
@@ -165,7 +166,7 @@ module _ {job : Job} (can : Plannable job) (p : ℕ) (l : p ≤ last job) (c : C
   unfolding settled single
   settled-found k t =
       let R : Range = rangeAfter job p (startOn job p) k in
-      ranged-found (can .proper) p (startOn job p) (ranged-at k) (eqb→eq (R .low) (R .high) t)
+      ranged-found ok p (startOn job p) (ranged-at k) (eqb→eq (R .low) (R .high) t)
 
 -- The trials of several processors together are one number,
 pub trials-unique : {job : Job} {n c d : ℕ} → TrialsTo job n c → TrialsTo job n d → c ≡ d
@@ -174,7 +175,7 @@ trials-unique {job} {n} x y =
     ∙ sum-same-below n (λ p h. first-unique (settled job p) (x .trials p) (y .trials p) (x .each p h) (y .each p h))
     ∙ sym (y .counted)
 
-module _ {job : Job} (can : Plannable job) where
+module _ {job : Job} (ok : Proper job) (free : Free job) where
   -- within the allowance,
   pub trials-allowed : (edition : Edition) (n c : ℕ) → n ≤ last job → ((p : ℕ) → p < n → Comes job p) → TrialsTo job n c → c ≤ allowance edition Nicol job
   unfolding allowance
@@ -183,14 +184,14 @@ module _ {job : Job} (can : Plannable job) where
         arith,
         t .counted,
         sum-below (t .trials) (suc (digits (tasks job))) n
-            (λ p l. let x = trials-within can p (omega arith) (comes p l) (t .trials p) (t .each p l) in omega (arith, x)),
+            (λ p l. let x = trials-within ok free p (omega arith) (comes p l) (t .trials p) (t .each p l) in omega (arith, x)),
         mul-le-mul-right (digits (tasks job)) h,
       )
 
   -- and that of the definition.
   pub trials-are : (n : ℕ) → n ≤ last job → ((p : ℕ) → p < n → Comes job p) → TrialsTo job n (sumTo (nicolTrials job) n)
   trials-are n h comes =
-      record { trials = nicolTrials job; each = λ p l. trials-first can p (omega arith) (comes p l); counted = refl }
+      record { trials = nicolTrials job; each = λ p l. trials-first ok free p (omega arith) (comes p l); counted = refl }
 
 -- The search comes as far as the first empty part that fits, and to the last processor where there is none.
 first-comes : {job : Job} {p : ℕ} → T (isFirst (emptyFits job) p) → Comes job p
@@ -209,16 +210,16 @@ nicol-counts {job} (whole t c e) (early p l u d f) =
     absurd (T-not (emptyFits job p) ((none-comes t) .none p l) (first-holds (emptyFits job) p u))
 nicol-counts (whole t c e) (whole u d f) = trials-unique c d
 
-module _ {job : Job} (can : Plannable job) where
+module _ {job : Job} (ok : Proper job) (free : Free job) where
   -- It ends at the least bound that fits,
   pub nicol-least : {n : ℕ} {B : Bound} → NicolEnds job n B → Least job B
-  nicol-least (early p l t c e) = subst (Least job) (sym e) (empty-least (can .proper) p (first-holds (emptyFits job) p t))
-  nicol-least (whole t c e) = subst (Least job) (sym e) (candidates-least can (none-comes t))
+  nicol-least (early p l t c e) = subst (Least job) (sym e) (empty-least ok p (first-holds (emptyFits job) p t))
+  nicol-least (whole t c e) = subst (Least job) (sym e) (candidates-least ok free (none-comes t))
 
   -- within its allowance,
   pub nicol-allowed : (edition : Edition) {n : ℕ} {B : Bound} → NicolEnds job n B → n ≤ allowance edition Nicol job
-  nicol-allowed edition {n} (early p l t c e) = trials-allowed can edition (suc p) n l (λ q h. comes-sooner (omega arith) (first-comes t)) c
-  nicol-allowed edition {n} (whole t c e) = trials-allowed can edition (last job) n (omega arith) (λ q h. comes-sooner (omega arith) (none-comes t)) c
+  nicol-allowed edition {n} (early p l t c e) = trials-allowed ok free edition (suc p) n l (λ q h. comes-sooner (omega arith) (first-comes t)) c
+  nicol-allowed edition {n} (whole t c e) = trials-allowed ok free edition (last job) n (omega arith) (λ q h. comes-sooner (omega arith) (none-comes t)) c
 
   -- with the count and the bottleneck of the definitions.
   pub nicol-is : NicolEnds job (sumTo (nicolTrials job) (cond (ltb (nicolStop job) (last job)) (suc (nicolStop job)) (last job)))
@@ -239,7 +240,7 @@ module _ {job : Job} (can : Plannable job) where
               subst
               (λ (t : Bool). NicolEnds job (sumTo (nicolTrials job) (cond t (suc r) (last job))) (pick t nought (leastCandidate job)))
               (sym (lt-ltb r (last job) h))
-              (early r h (first-of (emptyFits job) r here (comes .none)) (trials-are can (suc r) h (λ q l. comes-sooner (omega arith) comes)) refl)
+              (early r h (first-of (emptyFits job) r here (comes .none)) (trials-are ok free (suc r) h (λ q l. comes-sooner (omega arith) comes)) refl)
             where
               here : T (emptyFits job r)
               here = elim (s .found) [ inl e ↦ absurd (let z : ⊥ = omega (arith, e, h) in z) | inr e ↦ T-of e ]
@@ -251,4 +252,4 @@ module _ {job : Job} (can : Plannable job) where
               (λ (t : Bool). NicolEnds job (sumTo (nicolTrials job) (cond t (suc r) (last job))) (pick t nought (leastCandidate job)))
               (sym (le-ltb r (last job) (omega arith)))
               (whole (all-of (λ p. not (emptyFits job p)) (last job) (λ p l. comes .none p (omega (arith, l, h))))
-              (trials-are can (last job) (omega arith) (λ q l. comes-sooner (omega (arith, l, h)) comes)) refl)
+              (trials-are ok free (last job) (omega arith) (λ q l. comes-sooner (omega (arith, l, h)) comes)) refl)

@@ -7,7 +7,7 @@ use mathlib.Core.Bool.{Bool, true, false, cond}
 use mathlib.Core.List.{List, [], _∷_, _++_}
 use native.Mathlib.Omega.{arith}
 use native.Mathlib.Nat.{mul-le-mul-right, le-trans}
-use lib.Dec.{ltb}
+use lib.Dec.{T, ltb}
 use lib.ListN.{length, take, drop, length-take, length-drop}
 use borrow.Author.Tests.{ltb-true, ltb-false}
 use lib.Seq.{take-add, drop-drop, take-length}
@@ -15,7 +15,7 @@ use Rattle.bound.specs.declared.Bound.{Bound}
 use Rattle.bound.specs.Order.{_≼_, Real, Finite}
 use Rattle.bound.proofs.Order.{make-le, zero-load-le, finite-real}
 use Rattle.chain.specs.Lists.{sum, sumTo}
-use Rattle.chain.specs.Job.{Job, tasks, processors, speedOf, partOf, partWeight, loadOf, partLoad, totalWeight, partBound, Valid, at, Partition, busy}
+use Rattle.chain.specs.Job.{Job, tasks, processors, speedOf, enough, partOf, partWeight, loadOf, partLoad, totalWeight, partBound, Valid, at, Partition, busy}
 use Rattle.chain.proofs.Sums.{sum-append, sum-take, sum-drop}
 
 -- What the theorems ask of a job: a processor, and speeds above 0.
@@ -29,9 +29,10 @@ valid-proper v = record { some = v .some-processor; positive = v .speeds-positiv
 -- What those ask that need a partition to exist.
 pub record Plannable (job : Job) : Type 0 where
   pub proper : Proper job
+  pub enough-holds : T (enough job)
 
-pub valid-plannable : {job : Job} → Valid job → Plannable job
-valid-plannable v = record { proper = valid-proper v }
+pub valid-plannable : {job : Job} → Valid job → T (enough job) → Plannable job
+valid-plannable v e = record { proper = valid-proper v; enough-holds = e }
 
 -- The load of a list of tasks: at most the start-up work and their weight, that much where there is a task, and at least their weight;
 load-of-le : (c : ℕ) (xs : List ℕ) → loadOf c xs ≤ c + sum xs

@@ -2,26 +2,25 @@
 -- Only the lemmas of the first part open the limits; the others cite them by name.
 -- Assumes nothing.
 use Prim.Native.Nat.{ℕ, suc, _+_, _-_, _*_, _^_, _≤_, _<_}
-use mathlib.Core.Path.{sym, subst}
-use mathlib.Core.Bool.{Bool, _&&_}
+use mathlib.Core.Bool.{Bool, true, false, cond, _&&_}
 use mathlib.Core.List.{List}
 use native.Mathlib.Omega.{arith}
 use native.Mathlib.Nat.{le-trans, lt-of-le-of-lt, mul-le-mul, mul-le-mul-left, mul-le-mul-right, one-le-mul, add-le-add}
 use lib.Dec.{T, leb, leb→le, le→leb, lit<, lit≤}
 use Rattle.bound.specs.declared.Bound.{Bound}
-use Rattle.bound.specs.Order.{nought, infinite, lesser, middle}
+use Rattle.bound.specs.Order.{nought, infinite, lesser, middle, Finite}
 use Rattle.bound.proofs.Order.{lesser-cases}
 use Rattle.chain.specs.Limits.{maxTasks, maxWeight, maxStartup, maxLoad, maxProcessors, maxSpeed, maxBoundLoad, maxBoundSpeed}
 use Rattle.chain.specs.Ranges.{Small, Lendable, Narrow}
 use Rattle.chain.specs.Lists.{sumTo}
-use Rattle.chain.specs.Job.{Job, tasks, processors, speedOf, Valid, partWeight, partLoad, totalWeight, totalSpeed, heaviest, fastest, partBound, offer, at, boundAt, bottleneck, ideal}
+use Rattle.chain.specs.Job.{Job, tasks, processors, speedOf, Valid, partWeight, partLoad, totalWeight, totalSpeed, heaviest, fastest, held, partBound, offer, at, boundAt, bottleneck, ideal, widest}
 use Rattle.chain.specs.Probe.{bid, nextBid}
 use Rattle.chain.specs.Plan.{breadth}
 use Rattle.chain.specs.Refusal.{boundTest}
 use Rattle.chain.proofs.Sums.{sum-le, sum-limit}
 use Rattle.chain.proofs.Parts.{valid-proper, weight-le-total, load-le}
-use Rattle.chain.proofs.Within.{offer-part}
-use Rattle.chain.proofs.Extremes.{default-le, greatest-cases}
+use Rattle.chain.proofs.Within.{offer-cases}
+use Rattle.chain.proofs.Extremes.{default-le, greatest-cases, slowest-positive, speed-slowest}
 use Rattle.chain.proofs.Ideal as ideals
 use Rattle.chain.proofs.Bottleneck.{bottleneck-cases}
 use Rattle.chain.proofs.NextBid.{bid-cases, next-cases}
@@ -111,6 +110,10 @@ load-by-speeds : maxLoad * (maxSpeed * maxSpeed) < 2 ^ 64
 unfolding maxLoad maxTasks maxWeight maxStartup maxSpeed
 load-by-speeds = lit< tt
 
+-- The infinite bound is no number.
+not-finite : Finite infinite → ⊥
+not-finite f = omega (arith, f .speed-positive)
+
 module _ {job : Job} (v : Valid job) where
   -- All weight is within the limit of a load.
   total-weight-small : totalWeight job ≤ maxTasks * maxWeight
@@ -171,17 +174,27 @@ module _ {job : Job} (v : Valid job) where
   pub bottleneck-small : (s : List ℕ) → Small (bottleneck job s)
   bottleneck-small s = bottleneck-cases (valid-proper v) Small s (λ p h. bound-small s p)
 
-  -- Every offer is small.
-  pub offer-small : (p a b : ℕ) → Small (offer job p a b)
-  offer-small p a b = subst Small (sym (offer-part job p a b)) (part-small p a b)
+  -- All weight and the start-up work on the slowest processor are small.
+  pub widest-small : Small (widest job)
+  unfolding widest maxLoad
+  widest-small =
+      record {
+        load-small = omega (arith, total-weight-small, v .startup-limit);
+        speed-positive = slowest-positive job (valid-proper v);
+        speed-small = le-trans (speed-slowest job 0 (v .some-processor)) (v .speeds-limit 0);
+      }
 
-  -- Every bid is small.
-  pub bid-small : (B : Bound) (p : ℕ) → Small (bid job B p)
-  bid-small B p = bid-cases job B Small p (offer-small p)
+  -- Every offer that is a number is small.
+  pub offer-small : (p a b : ℕ) → Finite (offer job p a b) → Small (offer job p a b)
+  offer-small p a b = offer-cases job (λ C. Finite C → Small C) p a b (λ k f. part-small p a b) (λ k f. absurd (not-finite f))
 
-  -- Every next bid is small.
-  pub next-bid-small : (B : Bound) → Small (nextBid job B)
-  next-bid-small B = next-cases job B Small (λ p h. bid-small B p)
+  -- Every bid that is a number is small.
+  pub bid-small : (B : Bound) (p : ℕ) → Finite (bid job B p) → Small (bid job B p)
+  bid-small B p = bid-cases job B (λ C. Finite C → Small C) p (offer-small p)
+
+  -- Every next bid that is a number is small.
+  pub next-bid-small : (B : Bound) → Finite (nextBid job B) → Small (nextBid job B)
+  next-bid-small B = next-cases job B (λ C. Finite C → Small C) (λ p h. bid-small B p)
 
   -- The ideal can be lent.
   pub ideal-lendable : Lendable (ideal job)
@@ -203,7 +216,12 @@ module _ {job : Job} (v : Valid job) where
 
   -- The product of bisection's allowance.
   pub breadth-limit : breadth job ≤ maxLoad
-  breadth-limit = omega (arith, heaviest-limit, v .startup-limit, breadth-load)
+  unfolding maxLoad
+  breadth-limit = go (held job)
+    where
+      go : (t : Bool) → cond t (totalWeight job) (heaviest job) + job .startup ≤ maxTasks * maxWeight + maxStartup
+      go true = omega (arith, total-weight-small, v .startup-limit)
+      go false = le-trans (add-le-add heaviest-limit (v .startup-limit)) breadth-load
 
   pub difference-product : breadth job * (fastest job * fastest job) < 2 ^ 64
   difference-product = lt-of-le-of-lt (mul-le-mul breadth-limit (mul-le-mul fastest-limit fastest-limit)) load-by-speeds

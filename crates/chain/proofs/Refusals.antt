@@ -12,8 +12,8 @@ use lib.Dec.{T, leb, eqb, leb→le, le→leb, eqb→eq, eqb-refl, lit≤}
 use lib.ListN.{length, getD}
 use Rattle.chain.specs.Limits.{maxTasks, maxWeight, maxStartup, maxProcessors, maxSpeed}
 use Rattle.chain.specs.Lists.{all}
-use Rattle.chain.specs.Job.{Job, tasks, processors, speedOf, partLoad, Valid, at, Partition}
-use Rattle.chain.specs.Refusal.{Test, between, eachBetween, methodTest, startupTest, speedsTest, weightsTest, processorsTest, tasksTest, rowTest, lengthTest, boundTest, isPartition, partitionTest, PlanRecords, separatorsOf, planLengthTest, joined, joinedTest, trueAt, trueTest, firstRefusal, FirstFailing, jobTests, Inputs, planTests, callTests, refusal}
+use Rattle.chain.specs.Job.{Job, tasks, processors, speedOf, keeps, partLoad, Valid, at, Partition, allKept}
+use Rattle.chain.specs.Refusal.{Test, between, eachBetween, methodTest, startupTest, speedsTest, weightsTest, processorsTest, tasksTest, rowTest, lengthTest, holdsTest, enoughTest, freeTest, boundTest, isPartition, partitionTest, PlanRecords, separatorsOf, planLengthTest, joined, joinedTest, trueAt, trueTest, firstRefusal, FirstFailing, jobTests, Inputs, planTests, callTests, refusal}
 use Rattle.chain.proofs.Tests.{T-of, and-left, and-right, and-both}
 use Rattle.chain.proofs.Indices.{all-at, all-of}
 
@@ -221,7 +221,7 @@ job-numbered job =
 
 -- The tests of a call have numbers above 0.
 pub call-numbered : (job : Job) (inputs : Inputs) → Numbered (callTests job inputs)
-unfolding callTests methodTest rowTest lengthTest boundTest planLengthTest partitionTest joinedTest trueTest
+unfolding callTests methodTest rowTest holdsTest lengthTest enoughTest freeTest boundTest planLengthTest partitionTest joinedTest trueTest
 call-numbered job inputs =
     numbered-append
     (numbered-append
@@ -229,8 +229,11 @@ call-numbered job inputs =
     (numbered-append
     (numbered-append
     (numbered-append
+    (numbered-append
+    (numbered-append
     (numbered-append (numbered-append (numbered-map methodTest (λ m. omega arith) (inputs .methods)) (job-numbered job))
-    (numbered-map rowTest (λ es. omega arith) (inputs .rows))) (numbered-map (λ l. lengthTest (l .needed) (l .given)) (λ l. omega arith) (inputs .lists)))
+    (numbered-map rowTest (λ es. omega arith) (inputs .rows))) (numbered-cons (omega arith) (numbered-map (λ l. lengthTest (l .needed) (l .given)) (λ l. omega arith) (inputs .lists))))
+    (numbered-map enoughTest (λ j. omega arith) (inputs .keeping))) (numbered-map freeTest (λ j. omega arith) (inputs .free)))
     (numbered-map boundTest (λ B. omega arith) (inputs .bounds))) (numbered-map planLengthTest (λ s. omega arith) (inputs .plans)))
     (numbered-map (partitionTest job) (λ s. omega arith) (inputs .divisions)))
     (numbered-map (joinedTest job) (λ s. omega arith) (inputs .plans))) (numbered-map (trueTest job) (λ s. omega arith) (inputs .plans))
@@ -257,9 +260,9 @@ each-of lo hi d (x ∷ xs) h k =
     (each-of lo hi d xs (λ i. h (suc i)) (λ i. k (suc i)))
 
 module _ {job : Job} where
-  accepted-valid : firstRefusal (jobTests job) ≡ 0 → Valid job
-  unfolding jobTests startupTest speedsTest weightsTest processorsTest tasksTest speedOf maxSpeed
-  accepted-valid e =
+  accepted-valid : firstRefusal (jobTests job) ≡ 0 → T ((holdsTest job) .passes) → Valid job
+  unfolding jobTests startupTest speedsTest weightsTest processorsTest tasksTest speedOf maxSpeed holdsTest lengthTest
+  accepted-valid e h =
       record {
         startup-limit = leb→le (job .startup) maxStartup (passes (startupTest (job .startup)) (List·Memᴰ·head refl));
         some-processor = leb→le 1 (processors job) (and-left (leb 1 (processors job)) (leb (processors job) maxProcessors) count);
@@ -268,6 +271,7 @@ module _ {job : Job} where
         weights-limit = λ i. each-at 0 maxWeight 0 (job .weights) (omega arith) (omega arith) weights i .1;
         speeds-positive = λ p. speed p .0;
         speeds-limit = λ p. speed p .1;
+        holds-given = leb→le (processors job) (length (job .holds)) h;
       }
     where
       passes : (t : Test) → List·Memᴰ t (jobTests job) → T (t .passes)
@@ -298,8 +302,13 @@ module _ {job : Job} where
       es = job .speeds
 
 -- The lists are accepted exactly when they make a valid job.
-pub job-accepted : {job : Job} → (firstRefusal (jobTests job) ≡ 0 → Valid job) × (Valid job → firstRefusal (jobTests job) ≡ 0)
+pub job-accepted : {job : Job}
+    → (firstRefusal (jobTests job) ≡ 0 → T ((holdsTest job) .passes) → Valid job) × (Valid job → firstRefusal (jobTests job) ≡ 0)
 job-accepted {job} = (accepted-valid {job = job}, valid-accepted)
+
+pub valid-holds : {job : Job} → Valid job → T ((holdsTest job) .passes)
+unfolding holdsTest lengthTest
+valid-holds {job} v = le→leb (processors job) (length (job .holds)) (v .holds-given)
 
 -- A call is accepted exactly when all its tests pass.
 pub call-accepted : (job : Job) (inputs : Inputs)
@@ -340,7 +349,7 @@ module _ {n : ℕ} (ts us : List Test) (tested : n ≡ firstRefusal ts) where
 
 -- The test of a list of separators passes exactly when it is a partition.
 pub partition-test : (job : Job) (s : List ℕ) → (T (isPartition job s) → Partition job s) × (Partition job s → T (isPartition job s))
-unfolding isPartition
+unfolding isPartition allKept
 partition-test job s = (from, to)
   where
     len : Bool
@@ -355,8 +364,12 @@ partition-test job s = (from, to)
     final : Bool
     final = eqb (at s (processors job)) (tasks job)
 
-    from : T (len && zeroth && grow && final) → Partition job s
-    from t =
+    keep : Bool
+    keep = all (λ p. keeps job p (at s p) (at s (suc p))) (processors job)
+
+    from : T (len && zeroth && grow && final && keep) → Partition job s
+    from t₀ =
+        let t : T (len && zeroth && grow && final) = and-left (len && zeroth && grow && final) keep t₀ in
         let u : T (len && zeroth && grow) = and-left (len && zeroth && grow) final t in
         let v : T (len && zeroth) = and-left (len && zeroth) grow u in
         record {
@@ -364,14 +377,17 @@ partition-test job s = (from, to)
           first = eqb→eq (at s 0) 0 (and-right len zeroth v);
           grows = λ p h. leb→le (at s p) (at s (suc p)) (all-at (λ p. leb (at s p) (at s (suc p))) (processors job) (and-right (len && zeroth) grow u) p h);
           end = eqb→eq (at s (processors job)) (tasks job) (and-right (len && zeroth && grow) final t);
+          kept = all-at (λ p. keeps job p (at s p) (at s (suc p))) (processors job) (and-right (len && zeroth && grow && final) keep t₀);
         }
 
-    to : Partition job s → T (len && zeroth && grow && final)
+    to : Partition job s → T (len && zeroth && grow && final && keep)
     to w =
-        and-both (len && zeroth && grow) final
+        and-both (len && zeroth && grow && final) keep
+        (and-both (len && zeroth && grow) final
         (and-both (len && zeroth) grow (and-both len zeroth (eq-test (length s) (suc (processors job)) (w .count)) (eq-test (at s 0) 0 (w .first)))
         (all-of (λ p. leb (at s p) (at s (suc p))) (processors job) (λ p h. le→leb (at s p) (at s (suc p)) (w .grows p h))))
-        (eq-test (at s (processors job)) (tasks job) (w .end))
+        (eq-test (at s (processors job)) (tasks job) (w .end)))
+        (all-of (λ p. keeps job p (at s p) (at s (suc p))) (processors job) (w .kept))
 
 -- What the tests of a plan file ask: the length; the separators of a division, where the records begin and end; true loads and speeds.
 pub record Told (job : Job) (plan : PlanRecords) : Type 0 where

@@ -3,24 +3,24 @@
 -- Assumes nothing.
 use Prim.Native.Nat.{ℕ, zero, suc, _-_, _≤_, _<_}
 use mathlib.Core.Path.{_≡_, refl, sym, ap, ap₂, subst, _∙_}
-use mathlib.Core.Bool.{Bool, true, false}
-use mathlib.Core.Logic.{inl, inr}
+use mathlib.Core.Bool.{Bool, true, false, cond}
+use mathlib.Core.Logic.{_≢_, inl, inr}
 use native.Mathlib.Omega.{arith}
-use native.Mathlib.Decide.{decLe}
-use lib.Dec.{ltb}
-use borrow.Author.Tests.{lt-ltb, le-ltb}
+use native.Mathlib.Decide.{decLe, ℕ-discrete}
+use lib.Dec.{T, ltb}
+use borrow.Author.Tests.{lt-ltb, le-ltb, eq-eqb, ne-eqb}
 use Rattle.bound.specs.declared.Bound.{Bound}
 use Rattle.bound.specs.Order.{le, _≼_, _≺_, pick, greater, lesser, Real, Finite}
 use Rattle.bound.proofs.Order.{finite-or-not, le-speedless, le-refl, le-trans, lt-le, lt-le-trans, not-both, le-true, true-le, false-lt, greater-cases, greater-left, greater-right, greater-first, greater-second, greater-le, le-greater-left, le-greater-right, lesser-cases, lesser-left, lesser-right}
 use Rattle.chain.specs.Lists.{sumTo}
-use Rattle.chain.specs.Job.{Edition, Job, tasks, last, offer}
+use Rattle.chain.specs.Job.{Edition, Job, tasks, last, holdOf, keeps, offer}
 use Rattle.chain.specs.Dynamic.{startOf, candidate, crossingOf, lesserAt, tableValue, crossing, movesTo, moves}
 use Rattle.chain.specs.Plan.{allowance}
 use Rattle.chain.specs.declared.Method.the-variants.{Table}
 use Rattle.chain.proofs.Sums.{sum-same, sum-le}
 use Rattle.chain.proofs.Indices.{Smallest, smallest-is}
 use Rattle.chain.proofs.Parts.{Proper}
-use Rattle.chain.proofs.Within.{within-offer, offer-within, offer-empty, offer-right, offer-left, offer-real}
+use Rattle.chain.proofs.Within.{keeps-cases, keeps-unlimited, keeps-limited, offer-cases, within-offer, offer-within, offer-empty, offer-right, offer-left, offer-real}
 use Rattle.chain.proofs.Cover.{Cover}
 use Rattle.chain.proofs.CoverLaws.{cover-down}
 
@@ -63,18 +63,43 @@ module _ (h : ℕ → Bound) (a c : ℕ) where
 
 -- Where j begins: at i or before, further on as i grows; an offer from before it is at least everything.
 module _ (job : Job) (p : ℕ) where
-  pub start-first : (i : ℕ) → startOf job p i ≡ 0
+  pub start-unlimited : (i : ℕ) → holdOf job p ≡ 0 → startOf job p i ≡ 0
   unfolding startOf
-  start-first i = refl
+  start-unlimited i e = ap (λ (t : Bool). cond t 0 (i - holdOf job p)) (eq-eqb (holdOf job p) 0 e)
+
+  pub start-limited : (i : ℕ) → holdOf job p ≢ 0 → startOf job p i ≡ i - holdOf job p
+  unfolding startOf
+  start-limited i n = ap (λ (t : Bool). cond t 0 (i - holdOf job p)) (ne-eqb (holdOf job p) 0 n)
 
   pub start-le : (i : ℕ) → startOf job p i ≤ i
-  start-le i = omega (arith, start-first i)
+  start-le i =
+      elim (ℕ-discrete (holdOf job p) 0) [ yes e ↦ omega (arith, start-unlimited i e) | no n ↦ omega (arith, start-limited i n) ]
 
   pub start-grows : (i k : ℕ) → i ≤ k → startOf job p i ≤ startOf job p k
-  start-grows i k h = omega (arith, start-first i)
+  start-grows i k h =
+      elim (ℕ-discrete (holdOf job p) 0) [
+        | yes e ↦ omega (arith, start-unlimited i e)
+        | no n ↦ omega (arith, start-limited i n, start-limited k n)
+      ]
+
+  -- A part keeps the hold exactly where it begins there or further on.
+  pub start-keeps : (i j : ℕ) → startOf job p i ≤ j → T (keeps job p j i)
+  start-keeps i j h =
+      elim (ℕ-discrete (holdOf job p) 0) [
+        | yes e ↦ keeps-unlimited job p j i e
+        | no n ↦ keeps-limited job p j i (omega (arith, start-limited i n))
+      ]
+
+  pub keeps-start : (i j : ℕ) → T (keeps job p j i) → startOf job p i ≤ j
+  keeps-start i j t =
+      elim (ℕ-discrete (holdOf job p) 0) [
+        | yes e ↦ omega (arith, start-unlimited i e)
+        | no n ↦ elim (keeps-cases job p j i t) [ inl e ↦ absurd (n e) | inr l ↦ omega (arith, start-limited i n) ]
+      ]
 
   pub before-start : (i j : ℕ) → j < startOf job p i → (B : Bound) → B ≼ offer job p j i
-  before-start i j h B = absurd (let z : ⊥ = omega (arith, start-first i) in z)
+  before-start i j h B =
+      offer-cases job (λ C. B ≼ C) p j i (λ t. absurd (let z : ⊥ = omega (arith, keeps-start i j t) in z)) (λ t. le-speedless B refl)
 
 module _ {f g : ℕ → Bound} {i : ℕ} (w : Against f g i) where
   top : ℕ → Bound

@@ -13,16 +13,15 @@ use lib.Dec.{T, T-not}
 use lib.ListN.{length, length-append}
 use lib.Seq.{ext-getD}
 use Rattle.bound.specs.declared.Bound.{Bound}
-use Rattle.bound.specs.Order.{infinite, _≼_, _≈_, Real, Finite}
-use Rattle.bound.proofs.Order.{finite-or-not, le-speedless}
+use Rattle.bound.specs.Order.{_≼_, _≈_, Real}
 use Rattle.chain.specs.Lists.{tabulate}
-use Rattle.chain.specs.Job.{Job, tasks, processors, last, partBound, within, at, Partition, bottleneck, Within}
+use Rattle.chain.specs.Job.{Job, tasks, processors, last, within, at, Partition, bottleneck, Within}
 use Rattle.chain.specs.Probe.{reach, separator, walk, walked, Begins, fits}
 use Rattle.chain.proofs.Tests.{T-of, T-not-of}
-use Rattle.chain.proofs.Parts.{Proper, Plannable}
-use Rattle.chain.proofs.Within.{within-of, within-empty, within-shrink}
+use Rattle.chain.proofs.Parts.{Proper}
+use Rattle.chain.proofs.Within.{within-keeps, within-empty, within-shrink}
 use Rattle.chain.proofs.Indices.{Greatest, greatest-is, length-tabulate, at-tabulate, at-table, after-tabulate}
-use Rattle.chain.proofs.Bottleneck.{processors-last, bottleneck-finite, within-bottleneck}
+use Rattle.chain.proofs.Bottleneck.{processors-last, within-bottleneck}
 use Rattle.chain.proofs.Cover.{Cover}
 use Rattle.chain.proofs.CoverLaws.{cover-raise}
 
@@ -250,6 +249,7 @@ module _ {job : Job} (ok : Proper job) where
         first = walk-at job B 0 (omega arith);
         grows = grows;
         end = ap (at (walk job B)) (processors-last ok) ∙ walk-end job B;
+        kept = λ p h. within-keeps job p (at (walk job B) p) (at (walk job B) (suc p)) B (walk-within job B t .each p h);
       }
     where
       grows : (p : ℕ) → p < processors job → at (walk job B) p ≤ at (walk job B) (suc p)
@@ -300,24 +300,3 @@ module _ {job : Job} (ok : Proper job) where
   -- Demand 2: a trial at a bound fits exactly when some division stays within it.
   pub fits-exactly : (B : Bound) → T (fits job B) ↔ ((s : List ℕ) × Partition job s × Within job s B)
   fits-exactly B = (λ t. (walk job B, walk-partition B t, walk-within job B t), λ x. partition-fits (x .1) (x .2))
-
-module _ {job : Job} (can : Plannable job) where
-  -- A bound without a speed is no bound: every probe at it fits.
-  pub speedless-fits : (B : Bound) → B .speed ≡ 0 → T (fits job B)
-  speedless-fits B e =
-      last-fits job B
-      (within-of job (last job) (separator job B (last job)) (tasks job)
-      (le-speedless (partBound job (last job) (separator job B (last job)) (tasks job)) e))
-
-  -- So a bound at which a probe fails is a number,
-  pub fails-finite : (B : Bound) → T (not (fits job B)) → Finite B
-  fails-finite B t = elim (finite-or-not B) [ inl f ↦ f | inr e ↦ absurd (T-not (fits job B) t (speedless-fits B e)) ]
-
-  -- there is a partition, and a number that fits.
-  pub some-partition : (s : List ℕ) × Partition job s
-  some-partition = (walk job infinite, walk-partition (can .proper) infinite (speedless-fits infinite refl))
-
-  pub some-fits : (B : Bound) × Finite B × T (fits job B)
-  some-fits =
-      let s = some-partition in
-      (bottleneck job (s .0), bottleneck-finite (can .proper) (s .0), bottleneck-fits (can .proper) (s .1))

@@ -1,15 +1,15 @@
 -- Bisection. Scope 5.12 to 5.16.
 use Prim.Native.Nat.{ℕ, zero, suc}
 use mathlib.Core.Bool.{Bool, true, false, _&&_}
-use Rattle.bound.specs.Order.{le, middle}
+use Rattle.bound.specs.Order.{le, pick, middle}
 use Rattle.chain.specs.declared.Ends.{Ends}
-use Rattle.chain.specs.Job.{Job, ideal, bottleneck}
+use Rattle.chain.specs.Job.{Job, held, ideal, widest, bottleneck}
 use Rattle.chain.specs.Probe.{walk, fits, nextBid}
 use Rattle.chain.specs.Heuristic.{heuristic}
 
 -- Scope 5.13: "its low end is the least next bid of that trial, its high end the bottleneck of the quick plan"
 unfoldable pub firstEnds : Job → Ends
-firstEnds job = record { low = nextBid job (ideal job); high = bottleneck job (heuristic job) }
+firstEnds job = record { low = nextBid job (ideal job); high = pick (held job) (widest job) (bottleneck job (heuristic job)) }
 
 -- Scope 5.15: "a trial at half the sum of the ends: a fit puts the high end at that division's bottleneck, a failure puts the low end at
 -- the next bid"

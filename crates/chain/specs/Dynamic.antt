@@ -1,18 +1,19 @@
 -- Dynamic programming. Scope 5.4 to 5.9. Row p here is the scope's row p + 1.
 use Prim.Native.Nat.{ℕ, zero, suc, _+_, _-_}
-use lib.Dec.{ltb}
+use mathlib.Core.Bool.{cond}
+use lib.Dec.{eqb, ltb}
 use Rattle.bound.specs.declared.Bound.{Bound}
 use Rattle.bound.specs.Order.{le, pick, greater, lesser}
 use Rattle.chain.specs.Lists.{sumTo, smallestFrom}
-use Rattle.chain.specs.Job.{Job, tasks, last, offer}
+use Rattle.chain.specs.Job.{Job, tasks, last, holdOf, offer}
 
 -- Scope 5.6: "max(B(p−1,j), L(j+1,i)/ep)", for the row before, given as a function of j, and processor p.
 unfoldable pub candidate : Job → (ℕ → Bound) → ℕ → ℕ → ℕ → Bound
 candidate job before p i j = greater (before j) (offer job p j i)
 
--- Where j begins in the table: at 0.
+-- Where j begins in the table: at i less the hold, at 0 where that is less or there is no limit.
 unfoldable pub startOf : Job → ℕ → ℕ → ℕ
-startOf job p i = 0
+startOf job p i = let h = holdOf job p in cond (eqb h 0) 0 (i - h)
 
 -- Scope 5.5: "the crossing of (p,i) is the smallest j ≤ i with L(j+1,i)/ep at most B(p−1,j)"
 unfoldable pub crossingOf : Job → (ℕ → Bound) → ℕ → ℕ → ℕ

@@ -2,14 +2,14 @@
 -- the scope's machine p + 1, and a part from a to b is the scope's tiles a + 1 to b.
 use Prim.Native.Nat.{ℕ, zero, suc, _+_, _-_, _≤_, _<_}
 use mathlib.Core.Path.{_≡_}
-use mathlib.Core.Bool.{Bool, true, false, cond}
+use mathlib.Core.Bool.{Bool, true, false, not, cond, _&&_, _||_}
 use mathlib.Core.List.{List, [], _∷_}
-use lib.Dec.{T, ltb}
-use lib.ListN.{length, getD, take, drop}
+use lib.Dec.{T, leb, eqb, ltb}
+use lib.ListN.{length, getD, take, drop, replicate}
 use Rattle.bound.specs.declared.Bound.{Bound}
-use Rattle.bound.specs.Order.{over, le, greater}
+use Rattle.bound.specs.Order.{over, infinite, le, pick, greater}
 use Rattle.chain.specs.Limits.{maxTasks, maxWeight, maxStartup, maxProcessors, maxSpeed}
-use Rattle.chain.specs.Lists.{sum, greatestOf, leastOf, sumTo}
+use Rattle.chain.specs.Lists.{sum, greatestOf, leastOf, sumTo, all, eachOf}
 
 -- Scope 17.1: "A job is of the first edition, or of the second, which has start-up work c"
 pub data Edition : Type 0 where
@@ -30,16 +30,21 @@ editionOf false c = First
 abbrev pub effective : Bool → ℕ → ℕ
 effective second c = startupOf (editionOf second c)
 
--- A job: the start-up work that counts, the weights of the tasks ("tiles") and the speeds of the processors ("machines"), in order. Its
--- edition says no more of how it is divided: it stays with the file, the calls and the allowance of a plan.
+-- A job: the start-up work that counts, the weights of the tasks ("tiles"), the speeds of the processors ("machines") and their holds, in
+-- order. Its edition says no more of how it is divided: it stays with the file, the calls and the allowance of a plan.
 pub record Job : Type 0 where
   pub startup : ℕ
   pub weights : List ℕ
   pub speeds : List ℕ
+  pub holds : List ℕ
 
--- Scope 1.5: "A job may come as two lists", with the start-up work that counts.
-abbrev pub jobOf : ℕ → List ℕ → List ℕ → Job
-jobOf c es ws = record { startup = c; weights = ws; speeds = es }
+-- A job by lists, with the start-up work that counts. A list of holds that is longer than that of the speeds is cut.
+abbrev pub jobOf : ℕ → List ℕ → List ℕ → List ℕ → Job
+jobOf c es hs ws = record { startup = c; weights = ws; speeds = es; holds = take (length es) hs }
+
+-- A job without holds, by lists.
+abbrev pub freeJob : ℕ → List ℕ → List ℕ → Job
+freeJob c es ws = jobOf c es (replicate (length es) 0) ws
 
 -- The job is of the edition: its start-up work is the one that counts.
 pub record OfEdition (edition : Edition) (job : Job) : Type 0 where
@@ -60,7 +65,19 @@ last job = processors job - 1
 unfoldable pub speedOf : Job → ℕ → ℕ
 speedOf job p = getD (job .speeds) p 1
 
--- Every count, weight and speed and the start-up work is within its limit.
+-- The hold of processor p, the most tasks that it can take; 0 for no limit. (Past the last it reads as 0.)
+unfoldable pub holdOf : Job → ℕ → ℕ
+holdOf job p = getD (job .holds) p 0
+
+-- Some hold is set.
+unfoldable pub held : Job → Bool
+held job = not (eachOf (λ h. eqb h 0) (job .holds))
+
+-- Every processor has a limit, and all of them together hold less than the tasks: the holds fall short. Else they are enough.
+unfoldable pub enough : Job → Bool
+enough job = not (all (λ p. ltb 0 (holdOf job p)) (processors job) && ltb (sumTo (holdOf job) (processors job)) (tasks job))
+
+-- Every count, weight and speed and the start-up work is within its limit, and every processor has its hold.
 pub record Valid (job : Job) : Type 0 where
   pub startup-limit : job .startup ≤ maxStartup
   pub some-processor : 1 ≤ processors job
@@ -69,6 +86,7 @@ pub record Valid (job : Job) : Type 0 where
   pub weights-limit : (i : ℕ) → getD (job .weights) i 0 ≤ maxWeight
   pub speeds-positive : (p : ℕ) → 1 ≤ speedOf job p
   pub speeds-limit : (p : ℕ) → speedOf job p ≤ maxSpeed
+  pub holds-given : processors job ≤ length (job .holds)
 
 -- The weights of the tasks of the part from a to b, none if a ≥ b.
 unfoldable pub partOf : Job → ℕ → ℕ → List ℕ
@@ -114,13 +132,18 @@ slowest job = slowestOf (job .speeds)
 unfoldable pub partBound : Job → ℕ → ℕ → ℕ → Bound
 partBound job p a b = over (partLoad job a b) (speedOf job p)
 
--- The part from a to b on processor p is within the bound B.
-unfoldable pub within : Job → ℕ → ℕ → ℕ → Bound → Bool
-within job p a b B = le (partBound job p a b) B
+-- The part from a to b keeps the hold of processor p: that has no limit, or the tasks are no more.
+unfoldable pub keeps : Job → ℕ → ℕ → ℕ → Bool
+keeps job p a b = let h = holdOf job p in eqb h 0 || leb (b - a) h
 
--- What a processor bids for the part from a to b, and what the table enters for it: the part's bound.
+-- The part from a to b on processor p is within the bound B, and keeps the hold.
+unfoldable pub within : Job → ℕ → ℕ → ℕ → Bound → Bool
+within job p a b B = le (partBound job p a b) B && keeps job p a b
+
+-- What a processor bids for the part from a to b, and what the table enters for it: the part's bound, or the infinite one, above all others, where
+-- the part does not keep the hold.
 unfoldable pub offer : Job → ℕ → ℕ → ℕ → Bound
-offer job p a b = partBound job p a b
+offer job p a b = pick (keeps job p a b) (partBound job p a b) infinite
 
 -- The separator at index p of a list.
 abbrev pub at : List ℕ → ℕ → ℕ
@@ -132,6 +155,11 @@ pub record Partition (job : Job) (s : List ℕ) : Type 0 where
   pub first : at s 0 ≡ 0
   pub grows : (p : ℕ) → p < processors job → at s p ≤ at s (suc p)
   pub end : at s (processors job) ≡ tasks job
+  pub kept : (p : ℕ) → p < processors job → T (keeps job p (at s p) (at s (suc p)))
+
+-- Every part keeps its processor's hold.
+unfoldable pub allKept : Job → List ℕ → Bool
+allKept job s = all (λ p. keeps job p (at s p) (at s (suc p))) (processors job)
 
 -- How many machines have tiles.
 unfoldable pub busy : Job → List ℕ → ℕ
@@ -154,6 +182,10 @@ bottleneck job s = bottleneckTo job s (last job)
 -- Scope 2.8: "The ideal is Wtot/Etot."
 unfoldable pub ideal : Job → Bound
 ideal job = over (totalWeight job) (totalSpeed job)
+
+-- All weight and the start-up work on the slowest processor: every part's bound is at most this.
+unfoldable pub widest : Job → Bound
+widest job = over (totalWeight job + job .startup) (slowest job)
 
 -- Every part of the partition is within the bound.
 pub record Within (job : Job) (s : List ℕ) (B : Bound) : Type 0 where

@@ -34,6 +34,11 @@ unfoldable pub all : (ℕ → Bool) → ℕ → Bool
 all f zero = true
 all f (suc n) = all f n && f n
 
+-- f holds of every number of the list.
+unfoldable pub eachOf : (ℕ → Bool) → List ℕ → Bool
+eachOf f [] = true
+eachOf f (x ∷ xs) = f x && eachOf f xs
+
 -- k is the first index at which f holds.
 unfoldable pub isFirst : (ℕ → Bool) → ℕ → Bool
 isFirst f k = f k && all (λ j. not (f j)) k

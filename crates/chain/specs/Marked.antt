@@ -10,7 +10,7 @@ use Rattle.chain.specs.declared.Method.{Method}
 use Rattle.chain.specs.declared.Method.the-variants.{Table, Bidding, Bisection, Nicol}
 use Rattle.chain.specs.declared.Outcome.{Outcome}
 use Rattle.chain.specs.declared.Outcome.the-variants.{Fits, Fails}
-use Rattle.chain.specs.Job.{Edition, First, Second, startupOf, Job, jobOf, processors, last, totalWeight, heaviest, at, bottleneck}
+use Rattle.chain.specs.Job.{Edition, First, Second, startupOf, Job, freeJob, processors, last, totalWeight, heaviest, at, bottleneck}
 use Rattle.chain.specs.Probe.{walk, walked, probe}
 use Rattle.chain.specs.Heuristic.{heuristic}
 use Rattle.chain.specs.Halving.{halving}
@@ -123,19 +123,19 @@ everyHolds [] = true
 everyHolds (r ∷ rs) = holds r && everyHolds rs
 
 abbrev pub jobA : Job
-jobA = jobOf 0 (1 ∷ 3 ∷ []) (1 ∷ 3 ∷ 8 ∷ [])
+jobA = freeJob 0 (1 ∷ 3 ∷ []) (1 ∷ 3 ∷ 8 ∷ [])
 
 abbrev pub jobB : Job
-jobB = jobOf 0 (1 ∷ 2 ∷ []) (4 ∷ 3 ∷ 2 ∷ 6 ∷ 1 ∷ [])
+jobB = freeJob 0 (1 ∷ 2 ∷ []) (4 ∷ 3 ∷ 2 ∷ 6 ∷ 1 ∷ [])
 
 abbrev pub jobC : Job
-jobC = jobOf 0 (7 ∷ 2 ∷ []) []
+jobC = freeJob 0 (7 ∷ 2 ∷ []) []
 
 abbrev pub jobD : Job
-jobD = jobOf 0 (1 ∷ 1 ∷ []) (0 ∷ 0 ∷ [])
+jobD = freeJob 0 (1 ∷ 1 ∷ []) (0 ∷ 0 ∷ [])
 
 abbrev pub jobE : Job
-jobE = jobOf 0 (1 ∷ 1 ∷ []) (6 ∷ [])
+jobE = freeJob 0 (1 ∷ 1 ∷ []) (6 ∷ [])
 
 -- The table, with the figures of the scope's section 11. Scope 11.1: "A trial of A at 3/1 fails with next bid 11/3 and writes 0 1 2; at
 -- 11/3 it fits; at 23/6 it fits with 0 1 3." Scope 11.2: "The quick plan of A is 0 2 3 with bottleneck 4/1." Scope 11.3: "Measuring 0 3 3 of A gives 12/1;
@@ -168,17 +168,17 @@ marked =
 -- before a gap.
 unfoldable pub worked : List Row
 worked =
-    failsWith (jobOf 0 (1 ∷ 2 ∷ []) (3 ∷ 3 ∷ [])) (over 0 1) (over 3 1) (0 ∷ 0 ∷ 0 ∷ [])
+    failsWith (freeJob 0 (1 ∷ 2 ∷ []) (3 ∷ 3 ∷ [])) (over 0 1) (over 3 1) (0 ∷ 0 ∷ 0 ∷ [])
     ∷ failsWith jobB (over 4 1) (over 12 2) (0 ∷ 1 ∷ 3 ∷ [])
     ∷ failsWith jobE (over 5 1) (over 6 1) (0 ∷ 0 ∷ 0 ∷ [])
-    ∷ failsWith (jobOf 0 (1 ∷ []) (2 ∷ 0 ∷ 3 ∷ [])) (over 2 1) (over 5 1) (0 ∷ 2 ∷ [])
-    ∷ quick (jobOf 0 (1 ∷ 3 ∷ []) (1 ∷ 1 ∷ [])) (0 ∷ 0 ∷ 2 ∷ []) (over 2 3)
-    ∷ planned First (jobOf 0 (2 ∷ 3 ∷ 3 ∷ []) (6 ∷ 3 ∷ 4 ∷ 1 ∷ [])) (0 ∷ 0 ∷ 1 ∷ 4 ∷ []) (over 8 3) 524 (four 3 3 3 5) (four 8 9 6 6)
-    ∷ planned First (jobOf 0 (1 ∷ 1 ∷ []) (5 ∷ 1 ∷ [])) (0 ∷ 1 ∷ 2 ∷ []) (over 5 1) 667 (four 1 2 1 2) (four 2 3 4 2)
-    ∷ planned First (jobOf 0 (1 ∷ 1 ∷ 1 ∷ []) (2 ∷ 2 ∷ 2 ∷ 2 ∷ 2 ∷ 2 ∷ [])) (0 ∷ 2 ∷ 4 ∷ 6 ∷ []) (over 4 1) 0 (four 7 1 1 5) (four 12 13 3 6)
-    ∷ planned First (jobOf 0 (1 ∷ 1 ∷ 1 ∷ []) (0 ∷ 0 ∷ [])) (0 ∷ 2 ∷ 2 ∷ 2 ∷ []) (over 0 1) 0 (four 0 1 1 2) (four 4 5 1 4)
-    ∷ planned First (jobOf 0 (3 ∷ []) (5 ∷ 2 ∷ [])) (0 ∷ 2 ∷ []) (over 7 3) 0 (four 0 1 1 0) (four 0 1 5 0)
-    ∷ planned First (jobOf 0 (1 ∷ 1 ∷ []) (1000 ∷ 1001 ∷ [])) (0 ∷ 1 ∷ 2 ∷ []) (over 1001 1) 1 (four 2 2 1 1) (four 2 3 11 2)
+    ∷ failsWith (freeJob 0 (1 ∷ []) (2 ∷ 0 ∷ 3 ∷ [])) (over 2 1) (over 5 1) (0 ∷ 2 ∷ [])
+    ∷ quick (freeJob 0 (1 ∷ 3 ∷ []) (1 ∷ 1 ∷ [])) (0 ∷ 0 ∷ 2 ∷ []) (over 2 3)
+    ∷ planned First (freeJob 0 (2 ∷ 3 ∷ 3 ∷ []) (6 ∷ 3 ∷ 4 ∷ 1 ∷ [])) (0 ∷ 0 ∷ 1 ∷ 4 ∷ []) (over 8 3) 524 (four 3 3 3 5) (four 8 9 6 6)
+    ∷ planned First (freeJob 0 (1 ∷ 1 ∷ []) (5 ∷ 1 ∷ [])) (0 ∷ 1 ∷ 2 ∷ []) (over 5 1) 667 (four 1 2 1 2) (four 2 3 4 2)
+    ∷ planned First (freeJob 0 (1 ∷ 1 ∷ 1 ∷ []) (2 ∷ 2 ∷ 2 ∷ 2 ∷ 2 ∷ 2 ∷ [])) (0 ∷ 2 ∷ 4 ∷ 6 ∷ []) (over 4 1) 0 (four 7 1 1 5) (four 12 13 3 6)
+    ∷ planned First (freeJob 0 (1 ∷ 1 ∷ 1 ∷ []) (0 ∷ 0 ∷ [])) (0 ∷ 2 ∷ 2 ∷ 2 ∷ []) (over 0 1) 0 (four 0 1 1 2) (four 4 5 1 4)
+    ∷ planned First (freeJob 0 (3 ∷ []) (5 ∷ 2 ∷ [])) (0 ∷ 2 ∷ []) (over 7 3) 0 (four 0 1 1 0) (four 0 1 5 0)
+    ∷ planned First (freeJob 0 (1 ∷ 1 ∷ []) (1000 ∷ 1001 ∷ [])) (0 ∷ 1 ∷ 2 ∷ []) (over 1001 1) 1 (four 2 2 1 1) (four 2 3 11 2)
     ∷ filed jobA (fieldsOf 0 1 1 1 ∷ fieldsOf 1 3 11 3 ∷ []) 0
     ∷ filed jobA (fieldsOf 0 1 1 1 ∷ []) 12
     ∷ filed jobA (fieldsOf 0 1 1 1 ∷ fieldsOf 1 3 11 3 ∷ fieldsOf 3 3 0 1 ∷ []) 12
@@ -195,65 +195,65 @@ worked =
     ∷ best jobD (0 ∷ 0 ∷ 2 ∷ [])
     ∷ best jobD (0 ∷ 1 ∷ 2 ∷ [])
     ∷ best jobE (0 ∷ 0 ∷ 1 ∷ [])
-    ∷ best (jobOf 0 (1 ∷ 2 ∷ []) (2 ∷ 2 ∷ [])) (0 ∷ 0 ∷ 2 ∷ [])
-    ∷ measures (jobOf 0 (1 ∷ 2 ∷ []) (2 ∷ 2 ∷ [])) (0 ∷ 0 ∷ 2 ∷ []) (over 4 2)
-    ∷ planned First (jobOf 0 (1 ∷ 2 ∷ []) (2 ∷ 2 ∷ [])) (0 ∷ 1 ∷ 2 ∷ []) (over 2 1) 500 (four 1 2 1 2) (four 2 3 5 2)
+    ∷ best (freeJob 0 (1 ∷ 2 ∷ []) (2 ∷ 2 ∷ [])) (0 ∷ 0 ∷ 2 ∷ [])
+    ∷ measures (freeJob 0 (1 ∷ 2 ∷ []) (2 ∷ 2 ∷ [])) (0 ∷ 0 ∷ 2 ∷ []) (over 4 2)
+    ∷ planned First (freeJob 0 (1 ∷ 2 ∷ []) (2 ∷ 2 ∷ [])) (0 ∷ 1 ∷ 2 ∷ []) (over 2 1) 500 (four 1 2 1 2) (four 2 3 5 2)
     ∷ []
 
 abbrev pub jobI : Job
-jobI = jobOf 0 (3 ∷ 3 ∷ 3 ∷ 3 ∷ []) (5 ∷ 1 ∷ 1 ∷ 1 ∷ 4 ∷ 2 ∷ 2 ∷ 2 ∷ [])
+jobI = freeJob 0 (3 ∷ 3 ∷ 3 ∷ 3 ∷ []) (5 ∷ 1 ∷ 1 ∷ 1 ∷ 4 ∷ 2 ∷ 2 ∷ 2 ∷ [])
 
 abbrev pub jobJ : Job
-jobJ = jobOf 0 (1 ∷ 1 ∷ 1 ∷ 1 ∷ []) (1 ∷ 3 ∷ 1 ∷ 2 ∷ 3 ∷ [])
+jobJ = freeJob 0 (1 ∷ 1 ∷ 1 ∷ 1 ∷ []) (1 ∷ 3 ∷ 1 ∷ 2 ∷ 3 ∷ [])
 
 abbrev pub jobL : Job
-jobL = jobOf 0 (1 ∷ 1 ∷ 1 ∷ 1 ∷ []) (6 ∷ [])
+jobL = freeJob 0 (1 ∷ 1 ∷ 1 ∷ 1 ∷ []) (6 ∷ [])
 
 -- The jobs F to L of the scope's section 16, with the quick plan of I and the plan of J. Scope 16.10: "Speeds 1 2 are refused with 14, and
 -- so are three machines of one speed, with no room for separators too." Beside them: six and 96 machines; 64, with room and without; a last
 -- speed that is greater or less; 5, 6, 7 and 8 before 14.
 unfoldable pub halvedJobs : List Row
 halvedJobs =
-    halved (jobOf 0 (7 ∷ []) (4 ∷ 3 ∷ 2 ∷ 6 ∷ 1 ∷ [])) (0 ∷ 5 ∷ []) (over 16 7)
-    ∷ halved (jobOf 0 (1 ∷ 1 ∷ []) (1 ∷ 2 ∷ 1 ∷ [])) (0 ∷ 1 ∷ 3 ∷ []) (over 3 1)
-    ∷ halved (jobOf 0 (1 ∷ 1 ∷ []) (2 ∷ 0 ∷ 0 ∷ 2 ∷ [])) (0 ∷ 1 ∷ 4 ∷ []) (over 2 1)
+    halved (freeJob 0 (7 ∷ []) (4 ∷ 3 ∷ 2 ∷ 6 ∷ 1 ∷ [])) (0 ∷ 5 ∷ []) (over 16 7)
+    ∷ halved (freeJob 0 (1 ∷ 1 ∷ []) (1 ∷ 2 ∷ 1 ∷ [])) (0 ∷ 1 ∷ 3 ∷ []) (over 3 1)
+    ∷ halved (freeJob 0 (1 ∷ 1 ∷ []) (2 ∷ 0 ∷ 0 ∷ 2 ∷ [])) (0 ∷ 1 ∷ 4 ∷ []) (over 2 1)
     ∷ halved jobI (0 ∷ 1 ∷ 4 ∷ 5 ∷ 8 ∷ []) (over 6 3)
     ∷ quick jobI (0 ∷ 1 ∷ 4 ∷ 6 ∷ 8 ∷ []) (over 6 3)
     ∷ halved jobJ (0 ∷ 1 ∷ 3 ∷ 4 ∷ 5 ∷ []) (over 4 1)
     ∷ beaten jobJ (0 ∷ 1 ∷ 3 ∷ 4 ∷ 5 ∷ [])
     ∷ best jobJ (0 ∷ 1 ∷ 2 ∷ 4 ∷ 5 ∷ [])
     ∷ measures jobJ (0 ∷ 1 ∷ 2 ∷ 4 ∷ 5 ∷ []) (over 3 1)
-    ∷ halved (jobOf 0 (3 ∷ 3 ∷ []) []) (0 ∷ 0 ∷ 0 ∷ []) (over 0 3)
+    ∷ halved (freeJob 0 (3 ∷ 3 ∷ []) []) (0 ∷ 0 ∷ 0 ∷ []) (over 0 3)
     ∷ halved jobL (0 ∷ 0 ∷ 0 ∷ 0 ∷ 1 ∷ []) (over 6 1)
     ∷ heavy jobL
-    ∷ unhalved (jobOf 0 (1 ∷ 2 ∷ []) []) 3 14
-    ∷ unhalved (jobOf 0 (1 ∷ 2 ∷ []) []) 0 14
-    ∷ unhalved (jobOf 0 (1 ∷ 1 ∷ 1 ∷ []) []) 4 14
-    ∷ unhalved (jobOf 0 (1 ∷ 1 ∷ 1 ∷ []) []) 0 14
-    ∷ unhalved (jobOf 0 (1 ∷ 1 ∷ 1 ∷ 2 ∷ []) []) 5 14
-    ∷ unhalved (jobOf 0 (2 ∷ 2 ∷ 2 ∷ 1 ∷ []) []) 5 14
-    ∷ unhalved (jobOf 0 (replicate 6 1) []) 7 14
-    ∷ unhalved (jobOf 0 (replicate 64 1) []) 65 0
-    ∷ unhalved (jobOf 0 (replicate 64 1) []) 64 9
-    ∷ unhalved (jobOf 0 (replicate 96 1) []) 97 14
-    ∷ unhalved (jobOf 0 (replicate 97 1) []) 98 7
-    ∷ unhalved (jobOf 0 [] []) 1 7
-    ∷ unhalved (jobOf 0 (1 ∷ 2 ∷ []) (replicate 2049 0)) 3 8
-    ∷ unhalved (jobOf 0 (1 ∷ 2 ∷ []) (1000001 ∷ [])) 3 6
-    ∷ unhalved (jobOf 0 (1 ∷ 0 ∷ []) []) 3 5
+    ∷ unhalved (freeJob 0 (1 ∷ 2 ∷ []) []) 3 14
+    ∷ unhalved (freeJob 0 (1 ∷ 2 ∷ []) []) 0 14
+    ∷ unhalved (freeJob 0 (1 ∷ 1 ∷ 1 ∷ []) []) 4 14
+    ∷ unhalved (freeJob 0 (1 ∷ 1 ∷ 1 ∷ []) []) 0 14
+    ∷ unhalved (freeJob 0 (1 ∷ 1 ∷ 1 ∷ 2 ∷ []) []) 5 14
+    ∷ unhalved (freeJob 0 (2 ∷ 2 ∷ 2 ∷ 1 ∷ []) []) 5 14
+    ∷ unhalved (freeJob 0 (replicate 6 1) []) 7 14
+    ∷ unhalved (freeJob 0 (replicate 64 1) []) 65 0
+    ∷ unhalved (freeJob 0 (replicate 64 1) []) 64 9
+    ∷ unhalved (freeJob 0 (replicate 96 1) []) 97 14
+    ∷ unhalved (freeJob 0 (replicate 97 1) []) 98 7
+    ∷ unhalved (freeJob 0 [] []) 1 7
+    ∷ unhalved (freeJob 0 (1 ∷ 2 ∷ []) (replicate 2049 0)) 3 8
+    ∷ unhalved (freeJob 0 (1 ∷ 2 ∷ []) (1000001 ∷ [])) 3 6
+    ∷ unhalved (freeJob 0 (1 ∷ 0 ∷ []) []) 3 5
     ∷ []
 
 abbrev pub jobM : Job
-jobM = jobOf 2 (1 ∷ 3 ∷ []) (1 ∷ 3 ∷ 8 ∷ [])
+jobM = freeJob 2 (1 ∷ 3 ∷ []) (1 ∷ 3 ∷ 8 ∷ [])
 
 abbrev pub jobN : Job
-jobN = jobOf 3 (1 ∷ 4 ∷ []) (1 ∷ 4 ∷ 4 ∷ [])
+jobN = freeJob 3 (1 ∷ 4 ∷ []) (1 ∷ 4 ∷ 4 ∷ [])
 
 abbrev pub jobO : Job
-jobO = jobOf 5 (1 ∷ 1 ∷ []) (0 ∷ 0 ∷ [])
+jobO = freeJob 5 (1 ∷ 1 ∷ []) (0 ∷ 0 ∷ [])
 
 abbrev pub jobQ : Job
-jobQ = jobOf 4 (3 ∷ []) (5 ∷ 2 ∷ [])
+jobQ = freeJob 4 (3 ∷ []) (5 ∷ 2 ∷ [])
 
 -- The jobs M, N, O and Q of the scope's section 17, of the second edition. M is A with c = 2: its plan, its quick plan, a division measured, trials,
 -- one of them at a bound that leaves no machine but the last room for a tile, and its plan files, one with the weights for the loads. Of N,
@@ -274,21 +274,21 @@ startedJobs =
     ∷ planned (Second 3) jobN (0 ∷ 0 ∷ 3 ∷ []) (over 12 4) 667 (four 1 2 2 2) (four 3 4 8 2)
     ∷ best jobN (0 ∷ 0 ∷ 3 ∷ [])
     ∷ beaten jobN (0 ∷ 1 ∷ 3 ∷ [])
-    ∷ best (jobOf 0 (1 ∷ 4 ∷ []) (1 ∷ 4 ∷ 4 ∷ [])) (0 ∷ 1 ∷ 3 ∷ [])
+    ∷ best (freeJob 0 (1 ∷ 4 ∷ []) (1 ∷ 4 ∷ 4 ∷ [])) (0 ∷ 1 ∷ 3 ∷ [])
     ∷ filed jobN (fieldsOf 0 0 0 1 ∷ fieldsOf 0 3 12 4 ∷ []) 0
     ∷ filed jobN (fieldsOf 0 0 3 1 ∷ fieldsOf 0 3 12 4 ∷ []) 13
     ∷ planned (Second 5) jobO (0 ∷ 2 ∷ 2 ∷ []) (over 5 1) 0 (four 1 2 1 2) (four 2 3 4 2)
-    ∷ planned (Second 9) (jobOf 9 (7 ∷ 2 ∷ []) []) (0 ∷ 0 ∷ 0 ∷ []) (over 0 7) 0 (four 0 1 1 0) (four 0 1 9 0)
-    ∷ planned (Second 9) (jobOf 9 (7 ∷ []) []) (0 ∷ 0 ∷ []) (over 0 7) 0 (four 0 1 1 0) (four 0 2 7 0)
+    ∷ planned (Second 9) (freeJob 9 (7 ∷ 2 ∷ []) []) (0 ∷ 0 ∷ 0 ∷ []) (over 0 7) 0 (four 0 1 1 0) (four 0 1 9 0)
+    ∷ planned (Second 9) (freeJob 9 (7 ∷ []) []) (0 ∷ 0 ∷ []) (over 0 7) 0 (four 0 1 1 0) (four 0 2 7 0)
     ∷ planned (Second 4) jobQ (0 ∷ 2 ∷ []) (over 11 3) 572 (four 0 2 1 0) (four 0 2 6 0)
-    ∷ planned (Second 0) (jobOf 0 (3 ∷ []) (5 ∷ 2 ∷ [])) (0 ∷ 2 ∷ []) (over 7 3) 0 (four 0 1 1 0) (four 0 2 5 0)
+    ∷ planned (Second 0) (freeJob 0 (3 ∷ []) (5 ∷ 2 ∷ [])) (0 ∷ 2 ∷ []) (over 7 3) 0 (four 0 1 1 0) (four 0 2 5 0)
     ∷ planned (Second 0) jobD (0 ∷ 2 ∷ 2 ∷ []) (over 0 1) 0 (four 0 1 1 2) (four 2 3 1 2)
-    ∷ halved (jobOf 4 (1 ∷ 1 ∷ []) (1 ∷ 2 ∷ 1 ∷ [])) (0 ∷ 1 ∷ 3 ∷ []) (over 7 1)
-    ∷ heavy (jobOf 5 (1 ∷ 1 ∷ 1 ∷ 1 ∷ []) (6 ∷ []))
-    ∷ measures (jobOf 1000000 (1 ∷ []) (0 ∷ [])) (0 ∷ 1 ∷ []) (over 1000000 1)
-    ∷ refused (jobOf 1000001 (1 ∷ []) (0 ∷ [])) (0 ∷ 1 ∷ []) 16
-    ∷ refused (jobOf 1000001 (0 ∷ []) (0 ∷ [])) (0 ∷ 1 ∷ []) 16
-    ∷ refused (jobOf 1000001 [] []) (0 ∷ []) 16
+    ∷ halved (freeJob 4 (1 ∷ 1 ∷ []) (1 ∷ 2 ∷ 1 ∷ [])) (0 ∷ 1 ∷ 3 ∷ []) (over 7 1)
+    ∷ heavy (freeJob 5 (1 ∷ 1 ∷ 1 ∷ 1 ∷ []) (6 ∷ []))
+    ∷ measures (freeJob 1000000 (1 ∷ []) (0 ∷ [])) (0 ∷ 1 ∷ []) (over 1000000 1)
+    ∷ refused (freeJob 1000001 (1 ∷ []) (0 ∷ [])) (0 ∷ 1 ∷ []) 16
+    ∷ refused (freeJob 1000001 (0 ∷ []) (0 ∷ [])) (0 ∷ 1 ∷ []) 16
+    ∷ refused (freeJob 1000001 [] []) (0 ∷ []) 16
     ∷ []
 
 -- Trials that fit, with the number of machines that their walks came to. Scope 11.20: "A trial of A at 12/1 fits, comes to 1 machine and writes
@@ -303,12 +303,12 @@ fittedTrials =
     fitsWith jobA (over 12 1) 1 (0 ∷ 3 ∷ 3 ∷ [])
     ∷ fitsWith jobD (over 0 1) 1 (0 ∷ 2 ∷ 2 ∷ [])
     ∷ fitsWith jobC (over 0 1) 0 (0 ∷ 0 ∷ 0 ∷ [])
-    ∷ fitsWith (jobOf 0 (1 ∷ 1 ∷ 1 ∷ []) (2 ∷ 3 ∷ 0 ∷ 0 ∷ [])) (over 3 1) 2 (0 ∷ 1 ∷ 4 ∷ 4 ∷ [])
-    ∷ fitsWith (jobOf 0 (1 ∷ 2 ∷ 1 ∷ []) (6 ∷ [])) (over 3 1) 2 (0 ∷ 0 ∷ 1 ∷ 1 ∷ [])
+    ∷ fitsWith (freeJob 0 (1 ∷ 1 ∷ 1 ∷ []) (2 ∷ 3 ∷ 0 ∷ 0 ∷ [])) (over 3 1) 2 (0 ∷ 1 ∷ 4 ∷ 4 ∷ [])
+    ∷ fitsWith (freeJob 0 (1 ∷ 2 ∷ 1 ∷ []) (6 ∷ [])) (over 3 1) 2 (0 ∷ 0 ∷ 1 ∷ 1 ∷ [])
     ∷ fitsWith jobM (over 14 1) 1 (0 ∷ 3 ∷ 3 ∷ [])
-    ∷ fitsWith (jobOf 0 (replicate 96 1) (5 ∷ 5 ∷ 5 ∷ [])) (over 5 1) 3 (0 ∷ 1 ∷ 2 ∷ replicate 94 3)
-    ∷ fitsWith (jobOf 0 (replicate 96 1) (5 ∷ 5 ∷ 5 ∷ [])) (over 10 1) 2 (0 ∷ 2 ∷ replicate 95 3)
-    ∷ fitsWith (jobOf 0 (replicate 96 1) (5 ∷ 5 ∷ 5 ∷ [])) (over 15 1) 1 (0 ∷ replicate 96 3)
-    ∷ fitsWith (jobOf 0 (1 ∷ 1 ∷ []) (4 ∷ 4 ∷ [])) (over 4 1) 2 (0 ∷ 1 ∷ 2 ∷ [])
-    ∷ fitsWith (jobOf 0 (3 ∷ []) []) (over 0 1) 0 (0 ∷ 0 ∷ [])
+    ∷ fitsWith (freeJob 0 (replicate 96 1) (5 ∷ 5 ∷ 5 ∷ [])) (over 5 1) 3 (0 ∷ 1 ∷ 2 ∷ replicate 94 3)
+    ∷ fitsWith (freeJob 0 (replicate 96 1) (5 ∷ 5 ∷ 5 ∷ [])) (over 10 1) 2 (0 ∷ 2 ∷ replicate 95 3)
+    ∷ fitsWith (freeJob 0 (replicate 96 1) (5 ∷ 5 ∷ 5 ∷ [])) (over 15 1) 1 (0 ∷ replicate 96 3)
+    ∷ fitsWith (freeJob 0 (1 ∷ 1 ∷ []) (4 ∷ 4 ∷ [])) (over 4 1) 2 (0 ∷ 1 ∷ 2 ∷ [])
+    ∷ fitsWith (freeJob 0 (3 ∷ []) []) (over 0 1) 0 (0 ∷ 0 ∷ [])
     ∷ []

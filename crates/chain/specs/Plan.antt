@@ -1,7 +1,7 @@
 -- What a plan is, and what it is held against. Scope, sections 5, 6 and 10.
 use Prim.Native.Nat.{ℕ, zero, suc, _+_, _-_, _*_, _/_, _≤_, _<_}
 use mathlib.Core.Path.{_≡_}
-use mathlib.Core.Bool.{not, cond}
+use mathlib.Core.Bool.{Bool, true, not, cond}
 use mathlib.Core.List.{List, [], _∷_, _++_, map}
 use lib.Dec.{T, eqb, ltb}
 use Rattle.bound.specs.declared.Bound.{Bound}
@@ -9,7 +9,7 @@ use Rattle.bound.specs.Order.{over, nought, pick, lesser, roundedUp, _≼_, _�
 use Rattle.chain.specs.declared.Method.{Method}
 use Rattle.chain.specs.declared.Method.the-variants.{Table, Bidding, Bisection, Nicol}
 use Rattle.chain.specs.Lists.{digits, sumTo, all, isFirst, smallestFrom}
-use Rattle.chain.specs.Job.{Edition, First, Second, Job, tasks, last, totalWeight, totalSpeed, heaviest, fastest, slowest, at, Partition, bottleneck, ideal}
+use Rattle.chain.specs.Job.{Edition, First, Second, Job, tasks, last, held, allKept, totalWeight, totalSpeed, heaviest, fastest, slowest, at, Partition, bottleneck, ideal}
 use Rattle.chain.specs.Probe.{walk, fits}
 use Rattle.chain.specs.Dynamic.{tableValue, moves}
 use Rattle.chain.specs.Bidding.{bidding}
@@ -26,9 +26,14 @@ unfoldable pub onward : ℕ → ℕ → ℕ → List (List ℕ)
 onward n zero a = (n ∷ []) ∷ []
 onward n (suc q) a = spread (onward n q) a (n - a)
 
+-- Those lists of which f holds.
+unfoldable pub those : (List ℕ → Bool) → List (List ℕ) → List (List ℕ)
+those f [] = []
+those f (s ∷ ss) = cond (f s) (s ∷ those f ss) (those f ss)
+
 -- The list of all divisions of the job.
 unfoldable pub partitions : Job → List (List ℕ)
-partitions job = map (λ s. 0 ∷ s) (onward (tasks job) (last job) 0)
+partitions job = those (allKept job) (map (λ s. 0 ∷ s) (onward (tasks job) (last job) 0))
 
 -- The least of a list of bounds, the first among equals. (Of none it reads as nought.)
 unfoldable pub leastBound : List Bound → Bound
@@ -83,6 +88,13 @@ pub data NicolEnds (job : Job) (count : ℕ) (found : Bound) : Type 0 where
   whole : T (all (λ p. not (emptyFits job p)) (last job)) → TrialsTo job (last job) count → found ≡ leastCandidate job
       → NicolEnds job count found
 
+-- The method takes the job: Nicol's search none with holds.
+unfoldable pub takes : Method → Job → Bool
+takes Table job = true
+takes Bidding job = true
+takes Bisection job = true
+takes Nicol job = not (held job)
+
 -- The method ends with this count and this bottleneck found.
 abbrev pub MethodEnds : Method → Job → ℕ → Bound → Type 0
 MethodEnds Table job count found = TableEnds job count found
@@ -90,9 +102,10 @@ MethodEnds Bidding job count found = BiddingEnds job count found
 MethodEnds Bisection job count found = BisectionEnds job count found
 MethodEnds Nicol job count found = NicolEnds job count found
 
--- The heaviest weight and the start-up work in D. Over the slowest speed it is how far bisection's ends are apart at most when it begins.
+-- The weight and the start-up work in D: the heaviest weight, all weight where a hold is set. Over the slowest speed it is how far
+-- bisection's ends are apart at most when it begins.
 abbrev pub breadth : Job → ℕ
-breadth job = heaviest job + job .startup
+breadth job = cond (held job) (totalWeight job) (heaviest job) + job .startup
 
 -- Scope 6.3: "D is (heaviest + c) × fastest² / slowest, rounded down"
 unfoldable pub difference : Job → ℕ
@@ -163,6 +176,7 @@ pub record Plan : Type 0 where
 -- A plan of the job, of this edition, by the method. Scope 5.2: "Each ends with one walk of the trial at the bottleneck that it found; the walk writes
 -- the separators and is not counted."
 pub record PlanBy (edition : Edition) (method : Method) (job : Job) (plan : Plan) : Type 0 where
+  pub taken : T (takes method job)
   pub found : Bound
   pub ended : MethodEnds method job (plan .count) found
   pub walked : plan .separators ≡ walk job found

@@ -1,14 +1,14 @@
 -- The refusals that lists and a plan file can cause, by number, and the order of their tests. Scope, section 8.
 use Prim.Native.Nat.{ℕ, suc, _+_}
 use mathlib.Core.Path.{_≡_}
-use mathlib.Core.Bool.{Bool, true, false, _&&_, cond}
+use mathlib.Core.Bool.{Bool, true, false, not, _&&_, cond}
 use mathlib.Core.List.{List, [], _∷_, _++_, map, List·Memᴰ}
 use lib.ListN.{length, take}
 use lib.Dec.{T, leb, eqb}
 use Rattle.bound.specs.declared.Bound.{Bound}
 use Rattle.chain.specs.Limits.{maxTasks, maxWeight, maxStartup, maxProcessors, maxSpeed, maxBoundLoad, maxBoundSpeed}
 use Rattle.chain.specs.Lists.{tabulate, all, powerOfTwo}
-use Rattle.chain.specs.Job.{Job, tasks, processors, speedOf, partLoad, at}
+use Rattle.chain.specs.Job.{Job, tasks, processors, speedOf, held, enough, partLoad, at, allKept}
 
 -- A test: the number of its refusal, and whether it passes.
 pub record Test : Type 0 where
@@ -64,6 +64,18 @@ rowTest es = test 14 (allEqual es && powerOfTwo (length es))
 unfoldable pub lengthTest : ℕ → ℕ → Test
 lengthTest needed given = test 9 (leb needed given)
 
+-- The test of the list of holds: one for each processor.
+unfoldable pub holdsTest : Job → Test
+holdsTest job = lengthTest (processors job) (length (job .holds))
+
+-- Refusal 17: "all holds are limited and add up to less than N"
+unfoldable pub enoughTest : Job → Test
+enoughTest job = test 17 (enough job)
+
+-- Refusal 18: "the job has holds": of a call that takes none with holds.
+unfoldable pub freeTest : Job → Test
+freeTest job = test 18 (not (held job))
+
 -- Refusal 10: "the load or the speed of a lent bound is out of range"
 unfoldable pub boundTest : Bound → Test
 boundTest B = test 10 (leb (B .load) maxBoundLoad && between 1 maxBoundSpeed (B .speed))
@@ -72,7 +84,7 @@ boundTest B = test 10 (leb (B .load) maxBoundLoad && between 1 maxBoundSpeed (B 
 unfoldable pub isPartition : Job → List ℕ → Bool
 isPartition job s =
     eqb (length s) (suc (processors job)) && eqb (at s 0) 0 && all (λ p. leb (at s p) (at s (suc p))) (processors job)
-    && eqb (at s (processors job)) (tasks job)
+    && eqb (at s (processors job)) (tasks job) && allKept job s
 
 -- Refusal 11: "the first P + 1 entries are no division"
 unfoldable pub partitionTest : Job → List ℕ → Test
@@ -138,18 +150,21 @@ pub record Lent : Type 0 where
   pub needed : ℕ
   pub given : ℕ
 
--- What a call takes beside the job's lists, and the speeds of a row that it halves; nothing of a kind where it takes none.
+-- What a call takes beside the job's lists; the speeds of a row that it halves, the job where it divides it by its holds, and the job where it takes
+-- none with holds; nothing of a kind where it takes none.
 pub record Inputs : Type 0 where
   pub methods : List ℕ
   pub rows : List (List ℕ)
   pub lists : List Lent
+  pub keeping : List Job
+  pub free : List Job
   pub bounds : List Bound
   pub divisions : List (List ℕ)
   pub plans : List PlanRecords
 
 -- A call that takes nothing more,
 abbrev pub nothing : Inputs
-nothing = record { methods = []; rows = []; lists = []; bounds = []; divisions = []; plans = [] }
+nothing = record { methods = []; rows = []; lists = []; keeping = []; free = []; bounds = []; divisions = []; plans = [] }
 
 -- and one input more of a kind, before the others of that kind.
 abbrev pub withMethod : ℕ → Inputs → Inputs
@@ -158,6 +173,8 @@ withMethod m inputs =
       methods = m ∷ inputs .methods;
       rows = inputs .rows;
       lists = inputs .lists;
+      keeping = inputs .keeping;
+      free = inputs .free;
       bounds = inputs .bounds;
       divisions = inputs .divisions;
       plans = inputs .plans;
@@ -169,6 +186,8 @@ withRow es inputs =
       methods = inputs .methods;
       rows = es ∷ inputs .rows;
       lists = inputs .lists;
+      keeping = inputs .keeping;
+      free = inputs .free;
       bounds = inputs .bounds;
       divisions = inputs .divisions;
       plans = inputs .plans;
@@ -180,6 +199,34 @@ lending needed given inputs =
       methods = inputs .methods;
       rows = inputs .rows;
       lists = record { needed = needed; given = given } ∷ inputs .lists;
+      keeping = inputs .keeping;
+      free = inputs .free;
+      bounds = inputs .bounds;
+      divisions = inputs .divisions;
+      plans = inputs .plans;
+    }
+
+abbrev pub dividing : Job → Inputs → Inputs
+dividing job inputs =
+    record {
+      methods = inputs .methods;
+      rows = inputs .rows;
+      lists = inputs .lists;
+      keeping = job ∷ inputs .keeping;
+      free = inputs .free;
+      bounds = inputs .bounds;
+      divisions = inputs .divisions;
+      plans = inputs .plans;
+    }
+
+abbrev pub withoutHolds : Job → Inputs → Inputs
+withoutHolds job inputs =
+    record {
+      methods = inputs .methods;
+      rows = inputs .rows;
+      lists = inputs .lists;
+      keeping = inputs .keeping;
+      free = job ∷ inputs .free;
       bounds = inputs .bounds;
       divisions = inputs .divisions;
       plans = inputs .plans;
@@ -191,6 +238,8 @@ withBound B inputs =
       methods = inputs .methods;
       rows = inputs .rows;
       lists = inputs .lists;
+      keeping = inputs .keeping;
+      free = inputs .free;
       bounds = B ∷ inputs .bounds;
       divisions = inputs .divisions;
       plans = inputs .plans;
@@ -202,6 +251,8 @@ withDivision s inputs =
       methods = inputs .methods;
       rows = inputs .rows;
       lists = inputs .lists;
+      keeping = inputs .keeping;
+      free = inputs .free;
       bounds = inputs .bounds;
       divisions = s ∷ inputs .divisions;
       plans = inputs .plans;
@@ -213,6 +264,8 @@ withPlan plan inputs =
       methods = inputs .methods;
       rows = inputs .rows;
       lists = inputs .lists;
+      keeping = inputs .keeping;
+      free = inputs .free;
       bounds = inputs .bounds;
       divisions = inputs .divisions;
       plans = plan ∷ inputs .plans;
@@ -228,17 +281,17 @@ measureInputs job s = lending (separatorsNeeded job) (length s) (withDivision s 
 
 -- Halving the row: the row, and a list of this length for the separators.
 abbrev pub halvingInputs : Job → ℕ → Inputs
-halvingInputs job lent = withRow (job .speeds) (lending (separatorsNeeded job) lent nothing)
+halvingInputs job lent = withRow (job .speeds) (lending (separatorsNeeded job) lent (withoutHolds job nothing))
 
 -- The tests of a plan file, in order.
 unfoldable pub planTests : Job → PlanRecords → List Test
 planTests job plan = planLengthTest plan ∷ joinedTest job plan ∷ trueTest job plan ∷ []
 
--- The tests of a call by lists, in order: 1; 16, 5, 6, 7, 8; 14; 9; 10; 12; 11; 13.
+-- The tests of a call by lists, in order: 1; 16, 5, 6, 7, 8; 14; 9; 17; 18; 10; 12; 11; 13.
 unfoldable pub callTests : Job → Inputs → List Test
 callTests job inputs =
-    map methodTest (inputs .methods) ++ jobTests job ++ map rowTest (inputs .rows) ++ map (λ l. lengthTest (l .needed) (l .given)) (inputs .lists)
-    ++ map boundTest (inputs .bounds) ++ map planLengthTest (inputs .plans) ++ map (partitionTest job) (inputs .divisions)
+    map methodTest (inputs .methods) ++ jobTests job ++ map rowTest (inputs .rows) ++ (holdsTest job ∷ map (λ l. lengthTest (l .needed) (l .given)) (inputs .lists))
+    ++ map enoughTest (inputs .keeping) ++ map freeTest (inputs .free) ++ map boundTest (inputs .bounds) ++ map planLengthTest (inputs .plans) ++ map (partitionTest job) (inputs .divisions)
     ++ map (joinedTest job) (inputs .plans) ++ map (trueTest job) (inputs .plans)
 
 -- The number that a call by lists is refused with, 0 where it is accepted.
