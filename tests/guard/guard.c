@@ -341,6 +341,10 @@ static void holds_behind(void) {
     part(plan, 0, 256, 0, 1);
     every_length(file, n, HELD, plan, 16);
     graded_all(file, n, plan, 16, 1);
+    /* The lower byte of 257 is that of 1. */
+    put_machine(file, 1, 257);
+    every_length(file, n, HELD, plan, 16);
+    graded_all(file, n, plan, 16, 1);
     put_machine(file, 1, 255);
     every_length(file, n, SHORT, plan, 16);
     graded_all(file, n, plan, 16, BROKEN);
