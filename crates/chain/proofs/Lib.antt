@@ -29,4 +29,5 @@ pub mod Tests
 pub mod Walk
 pub mod Visited
 pub mod Counts
+pub mod Cut
 pub mod Within

@@ -7,7 +7,8 @@ use Rattle.chain.specs.Job.{Job, held, ideal, widest, bottleneck}
 use Rattle.chain.specs.Probe.{walk, fits, nextBid}
 use Rattle.chain.specs.Heuristic.{heuristic}
 
--- Scope 5.13: "its low end is the least next bid of that trial, its high end the bottleneck of the quick plan"
+-- Scope 5.13: "its low end is the least next bid of that trial, its high end the bottleneck of the quick plan". Scope 18.16: "Of a
+-- job with holds the high end of bisection starts at (Wtot + c)/slowest, not at the bottleneck of the quick plan."
 unfoldable pub firstEnds : Job → Ends
 firstEnds job = record { low = nextBid job (ideal job); high = pick (held job) (widest job) (bottleneck job (heuristic job)) }
 

@@ -11,17 +11,18 @@ use Rattle.chain.specs.Job.{Job, tasks, last, holdOf, offer}
 unfoldable pub candidate : Job → (ℕ → Bound) → ℕ → ℕ → ℕ → Bound
 candidate job before p i j = greater (before j) (offer job p j i)
 
--- Where j begins in the table: at i less the hold, at 0 where that is less or there is no limit.
+-- Scope 18.12: "In the table j begins at i minus the hold of machine p, at 0 where that is less or there is no limit."
 unfoldable pub startOf : Job → ℕ → ℕ → ℕ
 startOf job p i = let h = holdOf job p in cond (eqb h 0) 0 (i - h)
 
--- Scope 5.5: "the crossing of (p,i) is the smallest j ≤ i with L(j+1,i)/ep at most B(p−1,j)"
+-- Scope 5.5: "the crossing of (p,i) is the smallest j ≤ i with L(j+1,i)/ep at most B(p−1,j)". Scope 18.13: "from there on"
 unfoldable pub crossingOf : Job → (ℕ → Bound) → ℕ → ℕ → ℕ
 crossingOf job before p i =
     let a = startOf job p i in
     smallestFrom (λ j. le (offer job p j i) (before j)) a (i - a)
 
--- Scope 5.6: "at the crossing and, where the crossing is above 0, at the index before"
+-- Scope 5.6: "at the crossing and, where the crossing is above 0, at the index before". Scope 18.13: "the index before it counts only where the crossing
+-- is above where j begins"
 -- Here the crossing is c, and a is where j begins.
 unfoldable pub lesserAt : (ℕ → Bound) → ℕ → ℕ → Bound
 lesserAt f a c = pick (ltb a c) (lesser (f c) (f (c - 1))) (f c)

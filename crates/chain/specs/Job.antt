@@ -38,7 +38,8 @@ pub record Job : Type 0 where
   pub speeds : List ℕ
   pub holds : List ℕ
 
--- A job by lists, with the start-up work that counts. A list of holds that is longer than that of the speeds is cut.
+-- Scope 1.5: "A job may come as three lists, of speeds, holds and weights", with the start-up work that counts. Scope 18.4: "a longer one is cut to
+-- P, and the entries behind are not looked at".
 abbrev pub jobOf : ℕ → List ℕ → List ℕ → List ℕ → Job
 jobOf c es hs ws = record { startup = c; weights = ws; speeds = es; holds = take (length es) hs }
 
@@ -65,15 +66,15 @@ last job = processors job - 1
 unfoldable pub speedOf : Job → ℕ → ℕ
 speedOf job p = getD (job .speeds) p 1
 
--- The hold of processor p, the most tasks that it can take; 0 for no limit. (Past the last it reads as 0.)
+-- Scope 18.1: "Each machine has a hold, the most tiles that it can take; 0 stands for no limit." (Past the last it reads as 0.)
 unfoldable pub holdOf : Job → ℕ → ℕ
 holdOf job p = getD (job .holds) p 0
 
--- Some hold is set.
+-- Scope 18.5: "A job has holds where any of them is not 0."
 unfoldable pub held : Job → Bool
 held job = not (eachOf (λ h. eqb h 0) (job .holds))
 
--- Every processor has a limit, and all of them together hold less than the tasks: the holds fall short. Else they are enough.
+-- Not so that, Refusal 17: "the holds are all limited and add up to less than N".
 unfoldable pub enough : Job → Bool
 enough job = not (all (λ p. ltb 0 (holdOf job p)) (processors job) && ltb (sumTo (holdOf job) (processors job)) (tasks job))
 
@@ -132,16 +133,16 @@ slowest job = slowestOf (job .speeds)
 unfoldable pub partBound : Job → ℕ → ℕ → ℕ → Bound
 partBound job p a b = over (partLoad job a b) (speedOf job p)
 
--- The part from a to b keeps the hold of processor p: that has no limit, or the tasks are no more.
+-- Scope 18.6: "where the hold of a machine is not 0, its share has at most as many tiles as the hold": the part from a to b on processor p.
 unfoldable pub keeps : Job → ℕ → ℕ → ℕ → Bool
 keeps job p a b = let h = holdOf job p in eqb h 0 || leb (b - a) h
 
--- The part from a to b on processor p is within the bound B, and keeps the hold.
+-- Scope 18.7: "A share is within a bound where its bound is at most that and it keeps the hold". The part from a to b on processor p.
 unfoldable pub within : Job → ℕ → ℕ → ℕ → Bound → Bool
 within job p a b B = le (partBound job p a b) B && keeps job p a b
 
--- What a processor bids for the part from a to b, and what the table enters for it: the part's bound, or the infinite one, above all others, where
--- the part does not keep the hold.
+-- What a processor bids for the part from a to b, and what the table enters for it: the part's bound, where it keeps the hold. Scope 18.11: "Where a machine
+-- does not bid, 1/0 stands for its bid and ranks above all others." Scope 18.14: "Entries without a division are 1/0 and rank above all others".
 unfoldable pub offer : Job → ℕ → ℕ → ℕ → Bound
 offer job p a b = pick (keeps job p a b) (partBound job p a b) infinite
 
@@ -149,7 +150,7 @@ offer job p a b = pick (keeps job p a b) (partBound job p a b) infinite
 abbrev pub at : List ℕ → ℕ → ℕ
 at s p = getD s p 0
 
--- Scope 1.9: "A division is P + 1 separators, s0 = 0 ≤ s1 ≤ … ≤ sP = N."
+-- Scope 1.9: "A division is P + 1 separators, s0 = 0 ≤ s1 ≤ … ≤ sP = N." Scope 18.6: "A division keeps every hold".
 pub record Partition (job : Job) (s : List ℕ) : Type 0 where
   pub count : length s ≡ suc (processors job)
   pub first : at s 0 ≡ 0

@@ -1,4 +1,4 @@
--- The worked jobs of the scope, sections 11, 16 and 17, as one table, and what it means that a row holds.
+-- The worked jobs of the scope, sections 11, 16, 17 and 18, as one table, and what it means that a row holds.
 use Prim.Native.Nat.{ℕ, zero, suc, _+_, _*_}
 use mathlib.Core.Bool.{Bool, true, false, not, _&&_}
 use mathlib.Core.List.{List, [], _∷_}
@@ -10,13 +10,14 @@ use Rattle.chain.specs.declared.Method.{Method}
 use Rattle.chain.specs.declared.Method.the-variants.{Table, Bidding, Bisection, Nicol}
 use Rattle.chain.specs.declared.Outcome.{Outcome}
 use Rattle.chain.specs.declared.Outcome.the-variants.{Fits, Fails}
-use Rattle.chain.specs.Job.{Edition, First, Second, startupOf, Job, freeJob, processors, last, totalWeight, heaviest, at, bottleneck}
+use Rattle.chain.specs.Job.{Edition, First, Second, startupOf, Job, jobOf, freeJob, held, processors, last, totalWeight, heaviest, at, bottleneck}
 use Rattle.chain.specs.Probe.{walk, walked, probe}
 use Rattle.chain.specs.Heuristic.{heuristic}
 use Rattle.chain.specs.Halving.{halving}
+use Rattle.chain.specs.Dynamic.{crossing}
 use Rattle.chain.specs.Plan.{planOf, allowance, countBy, foundBy, imbalance}
 use Rattle.chain.specs.Grade.{unbeaten}
-use Rattle.chain.specs.Refusal.{isPartition, PlanRecords, firstRefusal, measureInputs, halvingInputs, planTests, refusal}
+use Rattle.chain.specs.Refusal.{isPartition, PlanRecords, enoughTest, freeTest, firstRefusal, measureInputs, halvingInputs, planTests, refusal}
 
 -- The same list; the same pair, load and speed.
 unfoldable pub sameList : List ℕ → List ℕ → Bool
@@ -49,6 +50,22 @@ walksAre job s =
     sameList (walk job (foundBy Table job)) s && sameList (walk job (foundBy Bidding job)) s
     && sameList (walk job (foundBy Bisection job)) s && sameList (walk job (foundBy Nicol job)) s
 
+-- Of a job with holds, which Nicol's search does not take, the figures of the other three methods.
+pub record Three : Type 0 where
+  pub byTable : ℕ
+  pub byBidding : ℕ
+  pub byBisection : ℕ
+
+abbrev pub three : ℕ → ℕ → ℕ → Three
+three a b c = record { byTable = a; byBidding = b; byBisection = c }
+
+unfoldable pub threeAre : (Method → ℕ) → Three → Bool
+threeAre f n = eqb (f Table) (n .byTable) && eqb (f Bidding) (n .byBidding) && eqb (f Bisection) (n .byBisection)
+
+unfoldable pub threeWalk : Job → List ℕ → Bool
+threeWalk job s =
+    sameList (walk job (foundBy Table job)) s && sameList (walk job (foundBy Bidding job)) s && sameList (walk job (foundBy Bisection job)) s
+
 -- The list at an index, none past the last.
 unfoldable pub rowAt : List (List ℕ) → ℕ → List ℕ
 rowAt [] p = []
@@ -74,6 +91,8 @@ fieldsOf a b c d = a ∷ b ∷ c ∷ d ∷ []
 pub data Row : Type 0 where
   -- the plan of a job of this edition: separators, bottleneck, imbalance, counts, allowances
   planned : Edition → Job → List ℕ → Bound → ℕ → Four → Four → Row
+  -- the plan of a job with holds, by the three methods that take it
+  heldPlan : Edition → Job → List ℕ → Bound → ℕ → Three → Three → Row
   -- a trial that fits, with how many machines it came to and its separators; one that fails, with its next bid and how far each machine got
   fitsWith : Job → Bound → ℕ → List ℕ → Row
   failsWith : Job → Bound → Bound → List ℕ → Row
@@ -91,6 +110,11 @@ pub data Row : Type 0 where
   unhalved : Job → ℕ → ℕ → Row
   -- the records of a plan file, four fields each, and the number that their tests give
   filed : Job → List (List ℕ) → ℕ → Row
+  -- the crossing of (p + 2, i) in the table: scope and definitions count rows from 1 and from 0
+  crosses : Job → ℕ → ℕ → ℕ → Row
+  -- the number that the holds give where a job is divided, 0 or 17, and where none with holds is taken, 0 or 18
+  divides : Job → ℕ → Row
+  unheld : Job → ℕ → Row
 
 unfoldable pub isFailing : Outcome → Bound → Bool
 isFailing (Fits n) C = false
@@ -105,6 +129,9 @@ unfoldable pub holds : Row → Bool
 holds (planned edition job s B i n a) =
     eqb (job .startup) (startupOf edition) && sameList (planOf job) s && samePair (bottleneck job s) B && eqb (imbalance job B) i && figuresAre (λ m. countBy m job) n
     && figuresAre (λ m. allowance edition m job) a && walksAre job s
+holds (heldPlan edition job s B i n a) =
+    eqb (job .startup) (startupOf edition) && sameList (planOf job) s && samePair (bottleneck job s) B && eqb (imbalance job B) i && threeAre (λ m. countBy m job) n
+    && threeAre (λ m. allowance edition m job) a && threeWalk job s && held job
 holds (fitsWith job B n s) = isFitting (probe job B) n && sameList (walk job B) s && sameList (walked job B) s
 holds (failsWith job B C s) = isFailing (probe job B) C && sameList (walked job B) s
 holds (quick job s B) = sameList (heuristic job) s && samePair (bottleneck job s) B
@@ -117,6 +144,9 @@ holds (heavy job) =
     eqb (processors job * (bottleneck job (halving job)) .load) (totalWeight job + heaviest job * last job + job .startup * processors job)
 holds (unhalved job lent n) = eqb (refusal job (halvingInputs job lent)) n
 holds (filed job rows n) = eqb (firstRefusal (planTests job (recordsIn job rows))) n
+holds (crosses job p i c) = eqb (crossing job p i) c
+holds (divides job n) = eqb (firstRefusal (enoughTest job ∷ [])) n
+holds (unheld job n) = eqb (firstRefusal (freeTest job ∷ [])) n
 
 unfoldable pub everyHolds : List Row → Bool
 everyHolds [] = true
@@ -311,4 +341,88 @@ fittedTrials =
     ∷ fitsWith (freeJob 0 (replicate 96 1) (5 ∷ 5 ∷ 5 ∷ [])) (over 15 1) 1 (0 ∷ replicate 96 3)
     ∷ fitsWith (freeJob 0 (1 ∷ 1 ∷ []) (4 ∷ 4 ∷ [])) (over 4 1) 2 (0 ∷ 1 ∷ 2 ∷ [])
     ∷ fitsWith (freeJob 0 (3 ∷ []) []) (over 0 1) 0 (0 ∷ 0 ∷ [])
+    ∷ []
+
+abbrev pub jobR : Job
+jobR = jobOf 0 (1 ∷ 1 ∷ 5 ∷ []) (1 ∷ 2 ∷ 2 ∷ []) (1 ∷ 1 ∷ 1 ∷ 1 ∷ 1 ∷ [])
+
+abbrev pub jobS : Job
+jobS = jobOf 0 (1 ∷ 3 ∷ []) (0 ∷ 1 ∷ []) (1 ∷ 3 ∷ 8 ∷ [])
+
+abbrev pub jobT : Job
+jobT = jobOf 0 (1 ∷ 2 ∷ 1 ∷ []) (1 ∷ 0 ∷ 1 ∷ []) (2 ∷ 1 ∷ 3 ∷ 1 ∷ 2 ∷ 4 ∷ [])
+
+-- U, with holds of its own and with others.
+abbrev pub jobUWith : List ℕ → Job
+jobUWith hs = jobOf 0 (3 ∷ 1 ∷ []) hs (2 ∷ 9 ∷ 4 ∷ [])
+
+abbrev pub jobU : Job
+jobU = jobUWith (1 ∷ 2 ∷ [])
+
+abbrev pub jobV : Job
+jobV = jobOf 3 (1 ∷ 4 ∷ []) (0 ∷ 2 ∷ []) (1 ∷ 4 ∷ 4 ∷ [])
+
+abbrev pub jobW : Job
+jobW = jobOf 0 (1 ∷ 1 ∷ 1 ∷ []) (1 ∷ 2 ∷ 0 ∷ []) (0 ∷ 0 ∷ 0 ∷ 0 ∷ [])
+
+-- X on its own speeds, and on others.
+abbrev pub jobXOn : List ℕ → Job
+jobXOn es = jobOf 0 es (3 ∷ 3 ∷ []) (1 ∷ 3 ∷ 8 ∷ [])
+
+abbrev pub jobX : Job
+jobX = jobXOn (1 ∷ 3 ∷ [])
+
+abbrev pub jobY : Job
+jobY = jobOf 0 (7 ∷ 2 ∷ []) (1 ∷ 1 ∷ []) []
+
+-- The jobs R to Y of the scope's section 18, with holds: their plans and trials. Scope 18.37: "In row 2 of R the crossing at i = 5 is 3, where j
+-- begins". Scope 18.38: "Measuring 0 1 3 of S is refused with 11, and it is the plan of A, which is S without holds; measuring 0 2 3 gives 4/1."
+-- Scope 18.39: "Of S the division 0 2 3 is best and 0 3 3 is valid." Scope 18.40: "With holds 1 1 in place of 1 2 job U is refused with 17 .. with holds 1 0
+-- it is planned." Scope 18.41: "Method 4 and the quick plan of R are refused with 18". Scope 18.42: "The halved row of X is refused with 14; on speeds 1 1
+-- it is refused with 18." Beside them: plan files of S, one of separators that break a hold; a list of holds too short, and one that is cut; sums of holds just below, at and
+-- above N, one hold of 0 among them; the greatest hold; a single machine that holds all, and one that does not.
+unfoldable pub heldJobs : List Row
+heldJobs =
+    heldPlan First jobR (0 ∷ 1 ∷ 3 ∷ 5 ∷ []) (over 2 1) 1800 (three 6 3 3) (three 10 11 8)
+    ∷ heldPlan First jobS (0 ∷ 2 ∷ 3 ∷ []) (over 4 1) 334 (three 2 2 2) (three 3 4 8)
+    ∷ heldPlan First jobT (0 ∷ 1 ∷ 5 ∷ 6 ∷ []) (over 4 1) 231 (three 8 3 4) (three 12 13 7)
+    ∷ heldPlan First jobU (0 ∷ 1 ∷ 3 ∷ []) (over 13 1) 2467 (three 2 2 2) (three 3 4 9)
+    ∷ heldPlan (Second 3) jobV (0 ∷ 1 ∷ 3 ∷ []) (over 4 1) 1223 (three 1 2 3) (three 3 4 9)
+    ∷ heldPlan First jobW (0 ∷ 1 ∷ 3 ∷ 4 ∷ []) (over 0 1) 0 (three 2 1 1) (three 8 9 1)
+    ∷ heldPlan First jobX (0 ∷ 1 ∷ 3 ∷ []) (over 11 3) 223 (three 2 2 3) (three 3 4 8)
+    ∷ heldPlan First jobY (0 ∷ 0 ∷ 0 ∷ []) (over 0 7) 0 (three 0 1 1) (three 0 1 1)
+    ∷ failsWith jobR (over 1 1) (over 2 1) (0 ∷ 1 ∷ 2 ∷ 4 ∷ [])
+    ∷ fitsWith jobR (over 100 1) 3 (0 ∷ 1 ∷ 3 ∷ 5 ∷ [])
+    ∷ failsWith jobS (over 11 3) (over 4 1) (0 ∷ 1 ∷ 2 ∷ [])
+    ∷ fitsWith jobS (over 12 1) 1 (0 ∷ 3 ∷ 3 ∷ [])
+    ∷ failsWith jobT (over 13 4) (over 7 2) (0 ∷ 1 ∷ 4 ∷ 5 ∷ [])
+    ∷ failsWith jobU (over 11 1) (over 13 1) (0 ∷ 1 ∷ 2 ∷ [])
+    ∷ failsWith jobV (over 3 1) (over 4 1) (0 ∷ 0 ∷ 2 ∷ [])
+    ∷ fitsWith jobW (over 0 1) 3 (0 ∷ 1 ∷ 3 ∷ 4 ∷ [])
+    ∷ crosses jobR 0 5 3
+    ∷ refused jobS (0 ∷ 1 ∷ 3 ∷ []) 11
+    ∷ measures jobS (0 ∷ 2 ∷ 3 ∷ []) (over 4 1)
+    ∷ best jobS (0 ∷ 2 ∷ 3 ∷ [])
+    ∷ beaten jobS (0 ∷ 3 ∷ 3 ∷ [])
+    ∷ filed jobS (fieldsOf 0 2 4 1 ∷ fieldsOf 2 3 8 3 ∷ []) 0
+    ∷ filed jobS (fieldsOf 0 1 1 1 ∷ fieldsOf 1 3 11 3 ∷ []) 11
+    ∷ filed jobS (fieldsOf 0 1 1 1 ∷ fieldsOf 1 3 11 4 ∷ []) 11
+    ∷ divides (jobUWith (1 ∷ 1 ∷ [])) 17
+    ∷ divides jobU 0
+    ∷ divides (jobUWith (2 ∷ 2 ∷ [])) 0
+    ∷ divides (jobUWith (1 ∷ 0 ∷ [])) 0
+    ∷ divides jobA 0
+    ∷ unheld jobR 18
+    ∷ unheld (jobUWith (1 ∷ 1 ∷ [])) 18
+    ∷ unheld jobA 0
+    ∷ unhalved jobX 3 14
+    ∷ unhalved (jobXOn (1 ∷ 1 ∷ [])) 3 18
+    ∷ unhalved (jobXOn (1 ∷ 1 ∷ [])) 2 9
+    ∷ refused (jobUWith (1 ∷ [])) (0 ∷ 1 ∷ 3 ∷ []) 9
+    ∷ measures (jobUWith (1 ∷ 2 ∷ 7 ∷ [])) (0 ∷ 1 ∷ 3 ∷ []) (over 13 1)
+    ∷ unheld (jobUWith (0 ∷ 0 ∷ 7 ∷ [])) 0
+    ∷ measures (jobUWith (65535 ∷ 65535 ∷ [])) (0 ∷ 3 ∷ 3 ∷ []) (over 15 3)
+    ∷ divides (jobOf 0 (2 ∷ []) (2 ∷ []) (5 ∷ 1 ∷ [])) 0
+    ∷ divides (jobOf 0 (2 ∷ []) (1 ∷ []) (5 ∷ 1 ∷ [])) 17
+    ∷ heldPlan (Second 0) (jobOf 0 (3 ∷ []) (2 ∷ []) (5 ∷ 2 ∷ [])) (0 ∷ 2 ∷ []) (over 7 3) 0 (three 0 1 1) (three 0 2 6)
     ∷ []

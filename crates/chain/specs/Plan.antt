@@ -88,7 +88,7 @@ pub data NicolEnds (job : Job) (count : ℕ) (found : Bound) : Type 0 where
   whole : T (all (λ p. not (emptyFits job p)) (last job)) → TrialsTo job (last job) count → found ≡ leastCandidate job
       → NicolEnds job count found
 
--- The method takes the job: Nicol's search none with holds.
+-- The method takes the job. Refusal 18: "method 4 or a quick plan is asked for a job with holds": Nicol's search takes none with holds.
 unfoldable pub takes : Method → Job → Bool
 takes Table job = true
 takes Bidding job = true
@@ -107,7 +107,7 @@ MethodEnds Nicol job count found = NicolEnds job count found
 abbrev pub breadth : Job → ℕ
 breadth job = cond (held job) (totalWeight job) (heaviest job) + job .startup
 
--- Scope 6.3: "D is (heaviest + c) × fastest² / slowest, rounded down"
+-- Scope 6.3: "D is (heaviest + c) × fastest² / slowest, rounded down". Scope 18.17: "Of a job with holds D is (Wtot + c) × fastest² / slowest, rounded down."
 unfoldable pub difference : Job → ℕ
 difference job = breadth job * (fastest job * fastest job) / slowest job
 

@@ -64,15 +64,15 @@ rowTest es = test 14 (allEqual es && powerOfTwo (length es))
 unfoldable pub lengthTest : ℕ → ℕ → Test
 lengthTest needed given = test 9 (leb needed given)
 
--- The test of the list of holds: one for each processor.
+-- Scope 18.4: "A list of holds with fewer than P entries is refused with 9"
 unfoldable pub holdsTest : Job → Test
 holdsTest job = lengthTest (processors job) (length (job .holds))
 
--- Refusal 17: "all holds are limited and add up to less than N"
+-- Refusal 17: "the holds are all limited and add up to less than N"
 unfoldable pub enoughTest : Job → Test
 enoughTest job = test 17 (enough job)
 
--- Refusal 18: "the job has holds": of a call that takes none with holds.
+-- Refusal 18: "method 4 or a quick plan is asked for a job with holds": of a call that takes none with holds.
 unfoldable pub freeTest : Job → Test
 freeTest job = test 18 (not (held job))
 
@@ -124,7 +124,7 @@ unfoldable pub trueTest : Job → PlanRecords → Test
 trueTest job plan = test 13 (all (trueAt job plan) (processors job))
 
 -- The number of the first test that fails, 0 where all pass. Scope 8.2: "The tests are made in the order of the numbers, but 14
--- directly after 8, 12 before 11, 15 directly after 4, and 16 directly after 6 or, in lists, directly before 5, each call making those of the
+-- directly after 8, 17 and then 18 directly after 9, 12 before 11, 15 directly after 4, and 16 directly after 6 or, in lists, directly before 5, each call making those of the
 -- inputs that it takes."
 unfoldable pub firstRefusal : List Test → ℕ
 firstRefusal [] = 0

@@ -7,7 +7,7 @@ ghost use lib.ListN.{length, getD, take, drop};
 ghost use Rattle.bound.specs.Order.{over};
 ghost use Rattle.chain.specs.Lists.{sum};
 ghost use Rattle.chain.specs.Ranges.{Narrow};
-ghost use Rattle.chain.specs.Job.{Job, jobOf, processors, ideal, Partition, boundAt, bottleneck};
+ghost use Rattle.chain.specs.Job.{Job, jobOf, processors, Valid, holdOf, ideal, Partition, boundAt, bottleneck};
 ghost use Rattle.parts.specs.Prefix.{prefixes, weightBetween, loadBetween, Loadable, Ready};
 ghost use Rattle.parts.specs.Rising.{Rising, near, Spanned, LastAtMost};
 use bound::Bound;
@@ -28,6 +28,14 @@ pub fn wide(x: u32) -> u64
 // A separator as an index.
 pub fn index(x: u32) -> usize
     ensures { λ r. ⌜ r ≡ x ⌝ }
+{
+    x as usize
+}
+
+// A hold as a count of tasks.
+pub fn hold_count(x: u16) -> usize
+    ensures { λ r. ⌜ r ≡ x ⌝ }
+    ensures { λ r. ⌜ r < 2 ^ 16 ⌝ }
 {
     x as usize
 }
@@ -125,9 +133,9 @@ pub fn started_bound(startup: u32, speed: u32, sums: &[u32], a: usize, b: usize)
 }
 
 // Inner. The ideal, all weight over all speed.
-pub fn ideal_of(startup: u32, speeds: &[u32], weights: &[u32], sums: &[u32]) -> Bound
+pub fn ideal_of(startup: u32, speeds: &[u32], holds: &[u16], weights: &[u32], sums: &[u32]) -> Bound
     ghost { Job }
-    requires { λ job. ⌜ jobOf startup (now speeds) (now weights) ≡ job ⌝ }
+    requires { λ job. ⌜ jobOf startup (now speeds) (now holds) (now weights) ≡ job ⌝ }
     requires { λ job. ⌜ Ready job (now sums) ⌝ }
     ensures { λ job r. ⌜ r ≡ ideal job ⌝ }
 {
@@ -137,17 +145,30 @@ pub fn ideal_of(startup: u32, speeds: &[u32], weights: &[u32], sums: &[u32]) -> 
     }
 }
 
+// Inner. The hold of processor p, 0 for no limit.
+pub fn hold_of(startup: u32, speeds: &[u32], holds: &[u16], weights: &[u32], p: usize) -> usize
+    ghost { Job }
+    requires { λ job. ⌜ jobOf startup (now speeds) (now holds) (now weights) ≡ job ⌝ }
+    requires { λ job. ⌜ Valid job ⌝ }
+    requires { λ job. ⌜ p < processors job ⌝ }
+    ensures { λ job r. ⌜ r ≡ holdOf job p ⌝ }
+    ensures { λ job r. ⌜ r < 2 ^ 16 ⌝ }
+{
+    hold_count(holds[p])
+}
+
 // Inner. The bound of processor p's part.
 fn bound_at(
     startup: u32,
     speeds: &[u32],
+    holds: &[u16],
     weights: &[u32],
     sums: &[u32],
     separators: &[u32],
     p: usize,
 ) -> Bound
     ghost { Job }
-    requires { λ job. ⌜ jobOf startup (now speeds) (now weights) ≡ job ⌝ }
+    requires { λ job. ⌜ jobOf startup (now speeds) (now holds) (now weights) ≡ job ⌝ }
     requires { λ job. ⌜ Ready job (now sums) ⌝ }
     requires { λ job. ⌜ Partition job (take (suc (processors job)) (now separators)) ⌝ }
     requires { λ job. ⌜ p < processors job ⌝ }
@@ -162,22 +183,23 @@ fn bound_at(
 pub fn measure_parts(
     startup: u32,
     speeds: &[u32],
+    holds: &[u16],
     weights: &[u32],
     sums: &[u32],
     separators: &[u32],
 ) -> Bound
     ghost { Job }
-    requires { λ job. ⌜ jobOf startup (now speeds) (now weights) ≡ job ⌝ }
+    requires { λ job. ⌜ jobOf startup (now speeds) (now holds) (now weights) ≡ job ⌝ }
     requires { λ job. ⌜ Ready job (now sums) ⌝ }
     requires { λ job. ⌜ Partition job (take (suc (processors job)) (now separators)) ⌝ }
     ensures { λ job r. ⌜ r ≡ bottleneck job (now (separators .entry)) ⌝ }
     ensures { λ job r. ⌜ r ≡ bottleneck job (take (suc (processors job)) (now (separators .entry))) ⌝ }
 {
     let last = speeds.len() - 1;
-    let mut greatest = bound_at(startup, speeds, weights, sums, separators, 0);
+    let mut greatest = bound_at(startup, speeds, holds, weights, sums, separators, 0);
     let mut p = 1;
     while p <= last {
-        let here = bound_at(startup, speeds, weights, sums, separators, p);
+        let here = bound_at(startup, speeds, holds, weights, sums, separators, p);
         greatest = Bound::greater(greatest, here);
         p += 1;
     }
@@ -188,21 +210,22 @@ pub fn measure_parts(
 pub fn measure_in(
     startup: u32,
     speeds: &[u32],
+    holds: &[u16],
     weights: &[u32],
     sums: &[u32],
     separators: &[u32],
 ) -> Bound
     ghost { Job }
-    requires { λ job. ⌜ jobOf startup (now speeds) (now weights) ≡ job ⌝ }
+    requires { λ job. ⌜ jobOf startup (now speeds) (now holds) (now weights) ≡ job ⌝ }
     requires { λ job. ⌜ Ready job (now sums) ⌝ }
     requires { λ job. ⌜ Partition job (take (suc (processors job)) (now separators)) ⌝ }
     ensures { λ job r. ⌜ r ≡ bottleneck job (now (separators .entry)) ⌝ }
     ensures { λ job r. ⌜ r ≡ bottleneck job (take (suc (processors job)) (now (separators .entry))) ⌝ }
 {
     if startup == 0 {
-        return measure_parts(0, speeds, weights, sums, separators);
+        return measure_parts(0, speeds, holds, weights, sums, separators);
     }
-    measure_parts(startup, speeds, weights, sums, separators)
+    measure_parts(startup, speeds, holds, weights, sums, separators)
 }
 
 // The search takes steps of this many entries, twice as many, and so on; it ends by counting the last fewer than so many.

@@ -3,6 +3,7 @@ pub mod Steps
 pub mod Counts
 pub mod ByLists
 pub mod Division
+pub mod Holds
 pub mod Tests
 pub mod Methods
 pub mod Accepted

@@ -2,21 +2,21 @@
 -- Assumes nothing.
 use Prim.Native.Nat.{ℕ, _+_, _*_, _≤_, _<_}
 use mathlib.Core.Path.{_≡_, refl, sym, ap, _∙_}
-use mathlib.Core.Bool.{Bool, true, false, _&&_, not}
-use mathlib.Core.List.{List, [], _∷_, _++_}
+use mathlib.Core.Bool.{Bool, true, false, _&&_, not, cond}
+use mathlib.Core.List.{List, [], _∷_, _++_, map}
 use mathlib.Core.Logic.{_≢_}
 use native.Mathlib.Omega.{arith}
 use native.Mathlib.Numerals.{add-one}
-use lib.Dec.{leb}
+use lib.Dec.{leb, eqb}
 use lib.ListN.{length, getD, take}
-use borrow.Author.Tests.{le-leb, lt-leb, not-true, not-false}
+use borrow.Author.Tests.{le-leb, lt-leb, eq-eqb, ne-eqb, not-true, not-false}
 use Rattle.bound.specs.declared.Bound.{Bound}
 use Rattle.chain.specs.Limits.{maxBoundLoad, maxBoundSpeed}
 use Rattle.chain.specs.Lists.{powerOfTwo}
 use Rattle.chain.specs.Job.{Edition, Job, tasks, processors}
-use Rattle.chain.specs.Refusal.{Test, between, eachBetween, methodTest, allEqual, rowTest, lengthTest, boundTest, isPartition, partitionTest, firstRefusal, jobTests, separatorsNeeded, measureInputs, halvingInputs, callTests, refusal}
+use Rattle.chain.specs.Refusal.{Test, between, eachBetween, methodTest, allEqual, rowTest, lengthTest, holdsTest, enoughTest, freeTest, boundTest, isPartition, partitionTest, firstRefusal, jobTests, nothing, separatorsNeeded, measureInputs, halvingInputs, callTests, refusal}
 use Rattle.chain.proofs.Refusals.{numbered-nil, numbered-cons, first-decide, others-decide, job-numbered, call-numbered}
-use Rattle.refusals.specs.Inputs.{recordSize, scratchLists, scratchNeeded, planNeeded, headRecords, bytesNeeded, probeInputs, heuristicInputs, planLists, planInputs, writeInputs, writePlanInputs}
+use Rattle.refusals.specs.Inputs.{recordSize, scratchLists, scratchNeeded, planNeeded, headRecords, bytesNeeded, listInputs, probeInputs, heuristicInputs, planLists, freeBy, methodInputs, planInputs, writeInputs, writePlanInputs}
 use Rattle.refusals.proofs.Each.{between-low, between-high, between-in}
 use Rattle.refusals.proofs.Steps.{fails, passes, passed-all}
 
@@ -125,56 +125,104 @@ pub ruleset division-laws = (no-division, division)
 
 -- The tests of each call, as the code makes them: n is what the first ones give, and k what the next ones do.
 module _ (job : Job) where
-  -- The heuristic: the job, then the list of separators.
-  pub heuristic-job : {n : ℕ} (lent : ℕ) → n ≡ firstRefusal (jobTests job) → n ≢ 0 → n ≡ refusal job (heuristicInputs job lent)
+  -- The job, then the list of its holds.
+  pub all-job : {n : ℕ} → n ≡ firstRefusal (jobTests job) → n ≢ 0 → n ≡ refusal job nothing
   unfolding refusal callTests jobTests
-  heuristic-job lent e h = first-decide (jobTests job) (lengthTest (separatorsNeeded job) lent ∷ []) e h
+  all-job e h = first-decide (jobTests job) (holdsTest job ∷ []) e h
 
-  pub heuristic-list : {n k : ℕ} (lent : ℕ) → n ≡ firstRefusal (jobTests job) → n ≡ 0
-      → k ≡ firstRefusal (lengthTest (processors job + 1) lent ∷ []) → k ≡ refusal job (heuristicInputs job lent)
+  pub all-holds : {n k : ℕ} → n ≡ firstRefusal (jobTests job) → n ≡ 0 → k ≡ firstRefusal (holdsTest job ∷ []) → k ≡ refusal job nothing
   unfolding refusal callTests jobTests
-  heuristic-list lent e z f =
-      others-decide (jobTests job) (lengthTest (separatorsNeeded job) lent ∷ []) e (job-numbered job) z
-      (f ∙ ap (λ (n : ℕ). firstRefusal (lengthTest n lent ∷ [])) (add-one (processors job)))
+  all-holds e z f = others-decide (jobTests job) (holdsTest job ∷ []) e (job-numbered job) z f
 
-  -- Halving the row: the job, then the row, then the list of separators.
-  module _ (lent : ℕ) {n : ℕ} (e : n ≡ firstRefusal (jobTests job)) where
-    row-and-list : List Test
-    row-and-list = (rowTest (job .speeds) ∷ []) ++ lengthTest (separatorsNeeded job) lent ∷ []
+  -- Then the list of separators.
+  module _ (lent : ℕ) {n : ℕ} (e : n ≡ refusal job nothing) where
+    pub separators-job : n ≢ 0 → n ≡ refusal job (listInputs job lent)
+    unfolding refusal callTests jobTests
+    separators-job h = first-decide (callTests job nothing) (lengthTest (separatorsNeeded job) lent ∷ []) e h
 
-    pub halving-job : n ≢ 0 → n ≡ refusal job (halvingInputs job lent)
-    unfolding refusal callTests jobTests row-and-list
-    halving-job h = first-decide (jobTests job) row-and-list e h
+    pub separators-list : n ≡ 0 → {k : ℕ} → k ≡ firstRefusal (lengthTest (processors job + 1) lent ∷ []) → k ≡ refusal job (listInputs job lent)
+    unfolding refusal callTests jobTests
+    separators-list z f =
+        others-decide (callTests job nothing) (lengthTest (separatorsNeeded job) lent ∷ []) e (call-numbered job nothing) z
+        (f ∙ ap (λ (n : ℕ). firstRefusal (lengthTest n lent ∷ [])) (add-one (processors job)))
 
-    module _ (z : n ≡ 0) {k : ℕ} (f : k ≡ firstRefusal (rowTest (job .speeds) ∷ [])) where
-      by-row-and-list : {l : ℕ} → l ≡ firstRefusal row-and-list → l ≡ refusal job (halvingInputs job lent)
-      unfolding refusal callTests jobTests row-and-list
-      by-row-and-list g = others-decide (jobTests job) row-and-list e (job-numbered job) z g
+  -- The tests of a quick plan past those of the job: the holds, the list of separators, no holds.
+  module _ (lent : ℕ) where
+    quick : List Test
+    quick = holdsTest job ∷ lengthTest (separatorsNeeded job) lent ∷ freeTest job ∷ []
 
-      pub halving-row : k ≢ 0 → k ≡ refusal job (halvingInputs job lent)
-      unfolding row-and-list
-      halving-row h = by-row-and-list (first-decide (rowTest (job .speeds) ∷ []) (lengthTest (separatorsNeeded job) lent ∷ []) f h)
+    list-and-free : List Test
+    list-and-free = (lengthTest (separatorsNeeded job) lent ∷ []) ++ freeTest job ∷ []
 
-      pub halving-list : k ≡ 0 → {l : ℕ} → l ≡ firstRefusal (lengthTest (processors job + 1) lent ∷ []) → l ≡ refusal job (halvingInputs job lent)
-      unfolding row-and-list rowTest
-      halving-list y g =
-          by-row-and-list
-          (others-decide (rowTest (job .speeds) ∷ []) (lengthTest (separatorsNeeded job) lent ∷ []) f (numbered-cons (omega arith) numbered-nil) y
-          (g ∙ ap (λ (m : ℕ). firstRefusal (lengthTest m lent ∷ [])) (add-one (processors job))))
+    module _ {n : ℕ} (e : n ≡ firstRefusal (holdsTest job ∷ [])) where
+      pub quick-holds : n ≢ 0 → n ≡ firstRefusal (holdsTest job ∷ lengthTest (separatorsNeeded job) lent ∷ freeTest job ∷ [])
+      unfolding list-and-free
+      quick-holds h = first-decide (holdsTest job ∷ []) list-and-free e h
 
-  -- Any call that begins as the heuristic: those tests, then others.
-  module _ {n : ℕ} (lent : ℕ) (us : List Test) (e : n ≡ refusal job (heuristicInputs job lent)) where
-    by-list : n ≢ 0 → n ≡ firstRefusal (callTests job (heuristicInputs job lent) ++ us)
+      module _ (z : n ≡ 0) {k : ℕ} (f : k ≡ firstRefusal (lengthTest (processors job + 1) lent ∷ [])) where
+        lent-is : k ≡ firstRefusal (lengthTest (separatorsNeeded job) lent ∷ [])
+        lent-is = f ∙ ap (λ (m : ℕ). firstRefusal (lengthTest m lent ∷ [])) (add-one (processors job))
+
+        past-holds : {l : ℕ} → l ≡ firstRefusal list-and-free → l ≡ firstRefusal (holdsTest job ∷ lengthTest (separatorsNeeded job) lent ∷ freeTest job ∷ [])
+        unfolding list-and-free holdsTest lengthTest
+        past-holds g = others-decide (holdsTest job ∷ []) list-and-free e (numbered-cons (omega arith) numbered-nil) z g
+
+        pub quick-list : k ≢ 0 → k ≡ firstRefusal (holdsTest job ∷ lengthTest (separatorsNeeded job) lent ∷ freeTest job ∷ [])
+        unfolding list-and-free
+        quick-list h = past-holds (first-decide (lengthTest (separatorsNeeded job) lent ∷ []) (freeTest job ∷ []) lent-is h)
+
+        pub quick-free : k ≡ 0 → {l : ℕ} → l ≡ firstRefusal (freeTest job ∷ []) → l ≡ firstRefusal (holdsTest job ∷ lengthTest (separatorsNeeded job) lent ∷ freeTest job ∷ [])
+        unfolding list-and-free lengthTest
+        quick-free y g =
+            past-holds (others-decide (lengthTest (separatorsNeeded job) lent ∷ []) (freeTest job ∷ []) lent-is (numbered-cons (omega arith) numbered-nil) y g)
+
+    -- The heuristic: the job, then those.
+    module _ {n : ℕ} (e : n ≡ firstRefusal (jobTests job)) where
+      pub heuristic-job : n ≢ 0 → n ≡ refusal job (heuristicInputs job lent)
+      unfolding refusal callTests jobTests quick
+      heuristic-job h = first-decide (jobTests job) quick e h
+
+      pub heuristic-list : n ≡ 0 → {k : ℕ} → k ≡ firstRefusal (holdsTest job ∷ lengthTest (separatorsNeeded job) lent ∷ freeTest job ∷ [])
+          → k ≡ refusal job (heuristicInputs job lent)
+      unfolding refusal callTests jobTests quick
+      heuristic-list z f = others-decide (jobTests job) quick e (job-numbered job) z f
+
+      -- Halving the row: the job, then the row, then those.
+      row-and-quick : List Test
+      row-and-quick = (rowTest (job .speeds) ∷ []) ++ quick
+
+      pub halving-job : n ≢ 0 → n ≡ refusal job (halvingInputs job lent)
+      unfolding refusal callTests jobTests quick row-and-quick
+      halving-job h = first-decide (jobTests job) row-and-quick e h
+
+      module _ (z : n ≡ 0) {k : ℕ} (f : k ≡ firstRefusal (rowTest (job .speeds) ∷ [])) where
+        by-row-and-quick : {l : ℕ} → l ≡ firstRefusal row-and-quick → l ≡ refusal job (halvingInputs job lent)
+        unfolding refusal callTests jobTests quick row-and-quick
+        by-row-and-quick g = others-decide (jobTests job) row-and-quick e (job-numbered job) z g
+
+        pub halving-row : k ≢ 0 → k ≡ refusal job (halvingInputs job lent)
+        unfolding row-and-quick
+        halving-row h = by-row-and-quick (first-decide (rowTest (job .speeds) ∷ []) quick f h)
+
+        pub halving-list : k ≡ 0 → {l : ℕ} → l ≡ firstRefusal (holdsTest job ∷ lengthTest (separatorsNeeded job) lent ∷ freeTest job ∷ [])
+            → l ≡ refusal job (halvingInputs job lent)
+        unfolding quick row-and-quick rowTest
+        halving-list y g =
+            by-row-and-quick (others-decide (rowTest (job .speeds) ∷ []) quick f (numbered-cons (omega arith) numbered-nil) y g)
+
+  -- Any call that begins so: the job, its holds and the list of separators, then others.
+  module _ {n : ℕ} (lent : ℕ) (us : List Test) (e : n ≡ refusal job (listInputs job lent)) where
+    by-list : n ≢ 0 → n ≡ firstRefusal (callTests job (listInputs job lent) ++ us)
     unfolding refusal
-    by-list h = first-decide (callTests job (heuristicInputs job lent)) us e h
+    by-list h = first-decide (callTests job (listInputs job lent)) us e h
 
-    by-others : n ≡ 0 → {k : ℕ} → k ≡ firstRefusal us → k ≡ firstRefusal (callTests job (heuristicInputs job lent) ++ us)
+    by-others : n ≡ 0 → {k : ℕ} → k ≡ firstRefusal us → k ≡ firstRefusal (callTests job (listInputs job lent) ++ us)
     unfolding refusal
     by-others z f =
-        others-decide (callTests job (heuristicInputs job lent)) us e (call-numbered job (heuristicInputs job lent)) z f
+        others-decide (callTests job (listInputs job lent)) us e (call-numbered job (listInputs job lent)) z f
 
   -- Measuring: then the division.
-  module _ (s : List ℕ) {n : ℕ} (e : n ≡ refusal job (heuristicInputs job (length s))) where
+  module _ (s : List ℕ) {n : ℕ} (e : n ≡ refusal job (listInputs job (length s))) where
     pub measure-list : n ≢ 0 → n ≡ refusal job (measureInputs job s)
     unfolding refusal callTests jobTests
     measure-list h = by-list (length s) (partitionTest job s ∷ []) e h
@@ -183,56 +231,109 @@ module _ (job : Job) where
     unfolding refusal callTests jobTests
     measure-division z f = by-others (length s) (partitionTest job s ∷ []) e z f
 
-  -- The probe: then the bound.
-  module _ (B : Bound) (lent : ℕ) {n : ℕ} (e : n ≡ refusal job (heuristicInputs job lent)) where
+  -- The probe: then the holds, then the bound.
+  module _ (B : Bound) (lent : ℕ) {n : ℕ} (e : n ≡ refusal job (listInputs job lent)) where
+    holds-and-bound : List Test
+    holds-and-bound = (enoughTest job ∷ []) ++ boundTest B ∷ []
+
     pub probe-list : n ≢ 0 → n ≡ refusal job (probeInputs job B lent)
-    unfolding refusal callTests jobTests
-    probe-list h = by-list lent (boundTest B ∷ []) e h
+    unfolding refusal callTests jobTests holds-and-bound
+    probe-list h = by-list lent holds-and-bound e h
 
-    pub probe-bound : n ≡ 0 → {k : ℕ} → k ≡ firstRefusal (boundTest B ∷ []) → k ≡ refusal job (probeInputs job B lent)
-    unfolding refusal callTests jobTests
-    probe-bound z f = by-others lent (boundTest B ∷ []) e z f
+    module _ (z : n ≡ 0) {k : ℕ} (f : k ≡ firstRefusal (enoughTest job ∷ [])) where
+      by-holds-and-bound : {l : ℕ} → l ≡ firstRefusal holds-and-bound → l ≡ refusal job (probeInputs job B lent)
+      unfolding refusal callTests jobTests holds-and-bound
+      by-holds-and-bound g = by-others lent holds-and-bound e z g
 
-  -- Planning by a method that is known: then the work numbers.
-  module _ (separators scratch : ℕ) {n : ℕ} (e : n ≡ refusal job (heuristicInputs job separators)) where
+      pub probe-holds : k ≢ 0 → k ≡ refusal job (probeInputs job B lent)
+      unfolding holds-and-bound
+      probe-holds h = by-holds-and-bound (first-decide (enoughTest job ∷ []) (boundTest B ∷ []) f h)
+
+      pub probe-bound : k ≡ 0 → {l : ℕ} → l ≡ firstRefusal (boundTest B ∷ []) → l ≡ refusal job (probeInputs job B lent)
+      unfolding holds-and-bound enoughTest
+      probe-bound y g =
+          by-holds-and-bound (others-decide (enoughTest job ∷ []) (boundTest B ∷ []) f (numbered-cons (omega arith) numbered-nil) y g)
+
+  -- Planning, the method apart: then the work numbers, then the holds.
+  module _ (separators scratch : ℕ) {n : ℕ} (e : n ≡ refusal job (listInputs job separators)) where
+    scratch-and-holds : List Test
+    scratch-and-holds = (lengthTest (scratchNeeded job) scratch ∷ []) ++ enoughTest job ∷ []
+
     pub plan-list : n ≢ 0 → n ≡ refusal job (planLists job separators scratch)
-    unfolding refusal callTests jobTests
-    plan-list h = by-list separators (lengthTest (scratchNeeded job) scratch ∷ []) e h
+    unfolding refusal callTests jobTests scratch-and-holds
+    plan-list h = by-list separators scratch-and-holds e h
 
-    pub plan-scratch : n ≡ 0 → {k : ℕ} → k ≡ firstRefusal (lengthTest (scratchLists * (tasks job + 1)) scratch ∷ [])
-        → k ≡ refusal job (planLists job separators scratch)
-    unfolding refusal callTests jobTests
-    plan-scratch z f =
-        by-others separators (lengthTest (scratchNeeded job) scratch ∷ []) e z
-        (f ∙ ap (λ (n : ℕ). firstRefusal (lengthTest (scratchLists * n) scratch ∷ [])) (add-one (tasks job)))
+    module _ (z : n ≡ 0) {k : ℕ} (f : k ≡ firstRefusal (lengthTest (scratchLists * (tasks job + 1)) scratch ∷ [])) where
+      scratch-is : k ≡ firstRefusal (lengthTest (scratchNeeded job) scratch ∷ [])
+      scratch-is = f ∙ ap (λ (n : ℕ). firstRefusal (lengthTest (scratchLists * n) scratch ∷ [])) (add-one (tasks job))
+
+      by-scratch-and-holds : {l : ℕ} → l ≡ firstRefusal scratch-and-holds → l ≡ refusal job (planLists job separators scratch)
+      unfolding refusal callTests jobTests scratch-and-holds
+      by-scratch-and-holds g = by-others separators scratch-and-holds e z g
+
+      pub plan-scratch : k ≢ 0 → k ≡ refusal job (planLists job separators scratch)
+      unfolding scratch-and-holds
+      plan-scratch h = by-scratch-and-holds (first-decide (lengthTest (scratchNeeded job) scratch ∷ []) (enoughTest job ∷ []) scratch-is h)
+
+      pub plan-holds : k ≡ 0 → {l : ℕ} → l ≡ firstRefusal (enoughTest job ∷ []) → l ≡ refusal job (planLists job separators scratch)
+      unfolding scratch-and-holds lengthTest
+      plan-holds y g =
+          by-scratch-and-holds
+          (others-decide (lengthTest (scratchNeeded job) scratch ∷ []) (enoughTest job ∷ []) scratch-is (numbered-cons (omega arith) numbered-nil) y g)
+
+  -- Planning by a method that is known: then, by method 4, no holds.
+  module _ (m separators scratch : ℕ) {n : ℕ} (e : n ≡ refusal job (planLists job separators scratch)) where
+    by-method : (b : Bool) → eqb m 4 ≡ b
+        → refusal job (methodInputs job m separators scratch) ≡ firstRefusal (callTests job (planLists job separators scratch) ++ map freeTest (cond b (job ∷ []) []))
+    unfolding refusal callTests jobTests freeBy
+    by-method true b = rw b
+    by-method false b = rw b
+
+    pub method-list : n ≢ 0 → n ≡ refusal job (methodInputs job m separators scratch)
+    unfolding refusal
+    method-list h =
+        first-decide (callTests job (planLists job separators scratch)) (map freeTest (cond (eqb m 4) (job ∷ []) [])) e h ∙ sym (by-method (eqb m 4) refl)
+
+    module _ (z : n ≡ 0) where
+      past-lists : {k : ℕ} (b : Bool) → eqb m 4 ≡ b → k ≡ firstRefusal (map freeTest (cond b (job ∷ []) [])) → k ≡ refusal job (methodInputs job m separators scratch)
+      unfolding refusal
+      past-lists b h f =
+          others-decide (callTests job (planLists job separators scratch)) (map freeTest (cond b (job ∷ []) [])) e (call-numbered job (planLists job separators scratch)) z f
+          ∙ sym (by-method b h)
+
+      pub method-free : {x : ℕ} → x ≡ m → x ≡ 4 → {k : ℕ} → k ≡ firstRefusal (freeTest job ∷ []) → k ≡ refusal job (methodInputs job m separators scratch)
+      method-free f h g = past-lists true (eq-eqb m 4 (sym f ∙ h)) g
+
+      pub method-other : {x : ℕ} → x ≡ m → x ≢ 4 → 0 ≡ refusal job (methodInputs job m separators scratch)
+      method-other f h = past-lists false (ne-eqb m 4 (λ k. h (f ∙ k))) (sym passed-all)
 
   -- Planning by a number: the method, then those.
   module _ (m separators scratch : ℕ) where
     pub plan-unknown : 1 ≡ firstRefusal (methodTest m ∷ []) → 1 ≡ refusal job (planInputs job m separators scratch)
     unfolding refusal callTests
-    plan-unknown e = first-decide (methodTest m ∷ []) (callTests job (planLists job separators scratch)) e (λ z. omega arith)
+    plan-unknown e = first-decide (methodTest m ∷ []) (callTests job (methodInputs job m separators scratch)) e (λ z. omega arith)
 
-    pub plan-known : 0 ≡ firstRefusal (methodTest m ∷ []) → {n : ℕ} → n ≡ refusal job (planLists job separators scratch)
+    pub plan-known : 0 ≡ firstRefusal (methodTest m ∷ []) → {n : ℕ} → n ≡ refusal job (methodInputs job m separators scratch)
         → n ≡ refusal job (planInputs job m separators scratch)
     unfolding refusal callTests methodTest
     plan-known e f =
-        others-decide (methodTest m ∷ []) (callTests job (planLists job separators scratch)) e (numbered-cons (omega arith) numbered-nil) refl f
+        others-decide (methodTest m ∷ []) (callTests job (methodInputs job m separators scratch)) e (numbered-cons (omega arith) numbered-nil) refl f
 
   -- Writing a job file: the job, then the buffer.
-  module _ (edition : Edition) (lent : ℕ) {n : ℕ} (e : n ≡ firstRefusal (jobTests job)) where
+  module _ (edition : Edition) (lent : ℕ) {n : ℕ} (e : n ≡ refusal job nothing) where
     pub write-job-tests : n ≢ 0 → n ≡ refusal job (writeInputs edition job lent)
     unfolding refusal callTests jobTests
-    write-job-tests h = first-decide (jobTests job) (lengthTest (bytesNeeded edition job) lent ∷ []) e h
+    write-job-tests h = first-decide (callTests job nothing) (lengthTest (bytesNeeded edition job) lent ∷ []) e h
 
     pub write-bytes : n ≡ 0 → {h : ℕ} → h ≡ headRecords edition → {k : ℕ} → k ≡ firstRefusal (lengthTest (recordSize * (h + (tasks job + processors job))) lent ∷ [])
         → k ≡ refusal job (writeInputs edition job lent)
     unfolding refusal callTests jobTests
     write-bytes z head f =
-        others-decide (jobTests job) (lengthTest (bytesNeeded edition job) lent ∷ []) e (job-numbered job) z
+        others-decide (callTests job nothing) (lengthTest (bytesNeeded edition job) lent ∷ []) e (call-numbered job nothing) z
         (f ∙ ap (λ (h : ℕ). firstRefusal (lengthTest (recordSize * (h + (tasks job + processors job))) lent ∷ [])) head)
 
   -- Writing a plan file: the job and the separators, then the buffer, then the division.
-  module _ (s : List ℕ) (lent : ℕ) {n : ℕ} (e : n ≡ refusal job (heuristicInputs job (length s))) where
+  module _ (s : List ℕ) (lent : ℕ) {n : ℕ} (e : n ≡ refusal job (listInputs job (length s))) where
     after : List Test
     after = (lengthTest (planNeeded job) lent ∷ []) ++ partitionTest job s ∷ []
 
@@ -254,15 +355,23 @@ module _ (job : Job) where
       write-plan-division y g =
           by-after (others-decide (lengthTest (planNeeded job) lent ∷ []) (partitionTest job s ∷ []) f (numbered-cons (omega arith) numbered-nil) y g)
 
+pub ruleset all-laws = (all-job, all-holds)
+
+pub ruleset separators-laws = (separators-job, separators-list)
+
+pub ruleset quick-laws = (quick-holds, quick-list, quick-free)
+
 pub ruleset heuristic-laws = (heuristic-job, heuristic-list)
 
 pub ruleset halving-laws = (halving-job, halving-row, halving-list)
 
 pub ruleset measure-laws = (measure-list, measure-division)
 
-pub ruleset probe-laws = (probe-list, probe-bound)
+pub ruleset probe-laws = (probe-list, probe-holds, probe-bound)
 
-pub ruleset plan-laws = (plan-list, plan-scratch)
+pub ruleset plan-laws = (plan-list, plan-scratch, plan-holds)
+
+pub ruleset method-laws = (method-list, method-free, method-other)
 
 pub ruleset write-job-laws = (write-job-tests, write-bytes)
 

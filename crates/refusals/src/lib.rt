@@ -8,11 +8,11 @@ ghost use lib.Dec.{leb};
 ghost use Rattle.chain.specs.Limits.{maxProcessors, maxTasks};
 ghost use Rattle.chain.specs.Lists.{powerOfTwo};
 ghost use Rattle.chain.specs.Job as counts;
-ghost use Rattle.chain.specs.Job.{editionOf, Job, jobOf, processors};
-ghost use Rattle.chain.specs.Refusal.{test, between, eachBetween, rowTest, lengthTest, boundTest, isPartition, partitionTest};
-ghost use Rattle.chain.specs.Refusal.{firstRefusal, jobTests, measureInputs, halvingInputs, refusal};
+ghost use Rattle.chain.specs.Job.{editionOf, Job, jobOf, processors, Valid, held, enough};
+ghost use Rattle.chain.specs.Refusal.{test, between, eachBetween, rowTest, lengthTest, holdsTest, enoughTest, freeTest, boundTest, isPartition, partitionTest};
+ghost use Rattle.chain.specs.Refusal.{firstRefusal, jobTests, nothing, separatorsNeeded, measureInputs, halvingInputs, refusal};
 ghost use Rattle.refusals.specs.Methods.{chosenOf, numberOf};
-ghost use Rattle.refusals.specs.Inputs.{headRecords, probeInputs, heuristicInputs, planLists, writeInputs, writePlanInputs};
+ghost use Rattle.refusals.specs.Inputs.{headRecords, listInputs, probeInputs, heuristicInputs, planLists, methodInputs, writeInputs, writePlanInputs};
 use bound::Bound;
 use chain::Method;
 
@@ -103,9 +103,9 @@ pub fn effective(second: bool, startup: u32) -> u32
 }
 
 // Inner. The test of a job by its start-up work and its lists: 0, or the number of the refusal: 16, 5, 6, 7 or 8, in this order.
-pub fn test_lists(startup: u32, speeds: &[u32], weights: &[u32]) -> u32
+pub fn test_lists(startup: u32, speeds: &[u32], holds: &[u16], weights: &[u32]) -> u32
     ensures { λ r.
-        let job = jobOf startup (now (speeds .entry)) (now (weights .entry)) in
+        let job = jobOf startup (now (speeds .entry)) (now (holds .entry)) (now (weights .entry)) in
         ⌜ r ≡ firstRefusal (jobTests job) ⌝ }
 {
     if MAX_STARTUP < startup {
@@ -120,19 +120,120 @@ pub fn test_lists(startup: u32, speeds: &[u32], weights: &[u32]) -> u32
     test_counts(speeds.len(), weights.len())
 }
 
-// The test of a job by lists: 0, or the number of the refusal: 16, 5, 6, 7 or 8, in this order.
-pub fn test_job(second: bool, startup: u32, speeds: &[u32], weights: &[u32]) -> u32
-    ensures { λ r.
-        let job = jobOf (counts.effective second startup) (now (speeds .entry)) (now (weights .entry)) in
-        ⌜ r ≡ firstRefusal (jobTests job) ⌝ }
+// Inner. The test of a lent list's length: 0 or 9.
+pub fn test_length(needed: usize, given: usize) -> u32
+    ensures { λ r. ⌜ r ≡ firstRefusal (lengthTest needed given ∷ []) ⌝ }
 {
-    test_lists(effective(second, startup), speeds, weights)
+    if given < needed {
+        return 9;
+    }
+    0
+}
+
+// Inner. The test of the list of holds, one for each processor: 0 or 9.
+pub fn test_holds(startup: u32, speeds: &[u32], holds: &[u16], weights: &[u32]) -> u32
+    ensures { λ r.
+        let job = jobOf startup (now (speeds .entry)) (now (holds .entry)) (now (weights .entry)) in
+        ⌜ r ≡ firstRefusal (holdsTest job ∷ []) ⌝ }
+{
+    test_length(speeds.len(), holds.len())
+}
+
+// Inner. The test of a job by its start-up work and all its lists: 0, or the number of the refusal: 16, 5, 6, 7, 8 or 9, in this order.
+pub fn test_all_lists(startup: u32, speeds: &[u32], holds: &[u16], weights: &[u32]) -> u32
+    ensures { λ r.
+        let job = jobOf startup (now (speeds .entry)) (now (holds .entry)) (now (weights .entry)) in
+        ⌜ r ≡ refusal job nothing ⌝ }
+{
+    let by_job = test_lists(startup, speeds, holds, weights);
+    if by_job != 0 {
+        return by_job;
+    }
+    test_holds(startup, speeds, holds, weights)
+}
+
+// The test of a job by lists: 0, or the number of the refusal: 16, 5, 6, 7, 8 or 9, in this order.
+pub fn test_job(second: bool, startup: u32, speeds: &[u32], holds: &[u16], weights: &[u32]) -> u32
+    ensures { λ r.
+        let job = jobOf (counts.effective second startup) (now (speeds .entry)) (now (holds .entry)) (now (weights .entry)) in
+        ⌜ r ≡ refusal job nothing ⌝ }
+{
+    test_all_lists(effective(second, startup), speeds, holds, weights)
+}
+
+// Inner. Whether some hold is set.
+pub fn any_hold(startup: u32, speeds: &[u32], holds: &[u16], weights: &[u32]) -> bool
+    ghost { Job }
+    requires { λ job. ⌜ jobOf startup (now speeds) (now holds) (now weights) ≡ job ⌝ }
+    requires { λ job. ⌜ Valid job ⌝ }
+    ensures { λ job r. ⌜ r ≡ held job ⌝ }
+{
+    let mut p = 0;
+    while p < speeds.len() {
+        if holds[p] != 0 {
+            return true;
+        }
+        p += 1;
+    }
+    false
+}
+
+// Inner. Whether the holds are enough: some processor has none, or all together they hold the tasks.
+pub fn enough_holds(startup: u32, speeds: &[u32], holds: &[u16], weights: &[u32]) -> bool
+    ghost { Job }
+    requires { λ job. ⌜ jobOf startup (now speeds) (now holds) (now weights) ≡ job ⌝ }
+    requires { λ job. ⌜ Valid job ⌝ }
+    ensures { λ job r. ⌜ r ≡ enough job ⌝ }
+{
+    let mut sum = 0usize;
+    let mut p = 0;
+    while p < speeds.len() {
+        let hold = holds[p] as usize;
+        if hold == 0 {
+            return true;
+        }
+        sum += hold;
+        p += 1;
+    }
+    weights.len() <= sum
+}
+
+// Inner. The test of the holds of a job that is to be divided: 0 or 17.
+pub fn test_enough(startup: u32, speeds: &[u32], holds: &[u16], weights: &[u32]) -> u32
+    ghost { Job }
+    requires { λ job. ⌜ jobOf startup (now speeds) (now holds) (now weights) ≡ job ⌝ }
+    requires { λ job. ⌜ Valid job ⌝ }
+    ensures { λ job r. ⌜ r ≡ firstRefusal (enoughTest job ∷ []) ⌝ }
+{
+    if !enough_holds(startup, speeds, holds, weights) {
+        return 17;
+    }
+    0
+}
+
+// Inner. The test of a call that takes no holds: 0 or 18.
+pub fn test_free(startup: u32, speeds: &[u32], holds: &[u16], weights: &[u32]) -> u32
+    ghost { Job }
+    requires { λ job. ⌜ jobOf startup (now speeds) (now holds) (now weights) ≡ job ⌝ }
+    requires { λ job. ⌜ Valid job ⌝ }
+    ensures { λ job r. ⌜ r ≡ firstRefusal (freeTest job ∷ []) ⌝ }
+{
+    if any_hold(startup, speeds, holds, weights) {
+        return 18;
+    }
+    0
 }
 
 // Inner. Whether the first P + 1 separators are a partition of the job.
-pub fn is_partition(startup: u32, speeds: &[u32], weights: &[u32], separators: &[u32]) -> bool
+pub fn is_partition(
+    startup: u32,
+    speeds: &[u32],
+    holds: &[u16],
+    weights: &[u32],
+    separators: &[u32],
+) -> bool
     ghost { Job }
-    requires { λ job. ⌜ jobOf startup (now speeds) (now weights) ≡ job ⌝ }
+    requires { λ job. ⌜ jobOf startup (now speeds) (now holds) (now weights) ≡ job ⌝ }
     requires { λ job. ⌜ processors job < length (now separators) ⌝ }
     ensures { λ job r. ⌜ r ≡ isPartition job (take (suc (processors job)) (now (separators .entry))) ⌝ }
 {
@@ -172,16 +273,6 @@ pub fn method_number(method: Method) -> u32
         Method::Bisection => 3,
         Method::Nicol => 4,
     }
-}
-
-// Inner. The test of a lent list's length: 0 or 9.
-pub fn test_length(needed: usize, given: usize) -> u32
-    ensures { λ r. ⌜ r ≡ firstRefusal (lengthTest needed given ∷ []) ⌝ }
-{
-    if given < needed {
-        return 9;
-    }
-    0
 }
 
 // Inner. Whether a number above 0 is a power of two: it is halved for as long as it is above 1 and even.
@@ -231,44 +322,99 @@ fn test_bound(bound: Bound) -> u32
 }
 
 // Inner. The test of a division: 0 or 11.
-fn test_division(startup: u32, speeds: &[u32], weights: &[u32], separators: &[u32]) -> u32
+fn test_division(
+    startup: u32,
+    speeds: &[u32],
+    holds: &[u16],
+    weights: &[u32],
+    separators: &[u32],
+) -> u32
     ghost { Job }
-    requires { λ job. ⌜ jobOf startup (now speeds) (now weights) ≡ job ⌝ }
+    requires { λ job. ⌜ jobOf startup (now speeds) (now holds) (now weights) ≡ job ⌝ }
     requires { λ job. ⌜ processors job < length (now separators) ⌝ }
     ensures { λ job r. ⌜ r ≡ firstRefusal (partitionTest job (now (separators .entry)) ∷ []) ⌝ }
 {
-    if !is_partition(startup, speeds, weights, separators) {
+    if !is_partition(startup, speeds, holds, weights, separators) {
         return 11;
     }
     0
 }
 
-// Inner. The tests of the heuristic, with which every call with a list of separators begins: 0, or the refusal: 16, 5, 6, 7, 8 or 9, in
-// this order.
-pub fn test_heuristic(startup: u32, speeds: &[u32], weights: &[u32], lent: usize) -> u32
+// Inner. The tests with which every call with a list of separators begins: 0, or the refusal: 16, 5, 6, 7, 8 or 9, in this order.
+pub fn test_separators(
+    startup: u32,
+    speeds: &[u32],
+    holds: &[u16],
+    weights: &[u32],
+    lent: usize,
+) -> u32
     ensures { λ r.
-        let job = jobOf startup (now (speeds .entry)) (now (weights .entry)) in
-        ⌜ r ≡ refusal job (heuristicInputs job lent) ⌝ }
+        let job = jobOf startup (now (speeds .entry)) (now (holds .entry)) (now (weights .entry)) in
+        ⌜ r ≡ refusal job (listInputs job lent) ⌝ }
 {
-    let by_job = test_lists(startup, speeds, weights);
+    let by_job = test_all_lists(startup, speeds, holds, weights);
     if by_job != 0 {
         return by_job;
     }
     test_length(speeds.len() + 1, lent)
 }
 
-// Inner. The tests of halving the row: 0, or the refusal: 16, 5, 6, 7, 8, 14 or 9, in this order.
-pub fn test_halving(startup: u32, speeds: &[u32], weights: &[u32], lent: usize) -> u32
+// Inner. The tests of a quick plan past those of the job, and of its row: 0, or the refusal: 9 or 18.
+fn test_quick(startup: u32, speeds: &[u32], holds: &[u16], weights: &[u32], lent: usize) -> u32
+    ghost { Job }
+    requires { λ job. ⌜ jobOf startup (now speeds) (now holds) (now weights) ≡ job ⌝ }
+    requires { λ job. ⌜ firstRefusal (jobTests job) ≡ 0 ⌝ }
+    ensures { λ job r. ⌜ r ≡ firstRefusal (holdsTest job ∷ lengthTest (separatorsNeeded job) lent ∷ freeTest job ∷ []) ⌝ }
+{
+    let by_holds = test_holds(startup, speeds, holds, weights);
+    if by_holds != 0 {
+        return by_holds;
+    }
+    let by_lent = test_length(speeds.len() + 1, lent);
+    let by_free = test_free(startup, speeds, holds, weights);
+    if by_lent != 0 {
+        return by_lent;
+    }
+    by_free
+}
+
+// Inner. The tests of the heuristic: 0, or the refusal: 16, 5, 6, 7, 8, 9 or 18, in this order.
+pub fn test_heuristic(
+    startup: u32,
+    speeds: &[u32],
+    holds: &[u16],
+    weights: &[u32],
+    lent: usize,
+) -> u32
     ensures { λ r.
-        let job = jobOf startup (now (speeds .entry)) (now (weights .entry)) in
+        let job = jobOf startup (now (speeds .entry)) (now (holds .entry)) (now (weights .entry)) in
+        ⌜ r ≡ refusal job (heuristicInputs job lent) ⌝ }
+{
+    let by_job = test_lists(startup, speeds, holds, weights);
+    if by_job != 0 {
+        return by_job;
+    }
+    test_quick(startup, speeds, holds, weights, lent)
+}
+
+// Inner. The tests of halving the row: 0, or the refusal: 16, 5, 6, 7, 8, 14, 9 or 18, in this order.
+pub fn test_halving(
+    startup: u32,
+    speeds: &[u32],
+    holds: &[u16],
+    weights: &[u32],
+    lent: usize,
+) -> u32
+    ensures { λ r.
+        let job = jobOf startup (now (speeds .entry)) (now (holds .entry)) (now (weights .entry)) in
         ⌜ r ≡ refusal job (halvingInputs job lent) ⌝ }
 {
-    let by_job = test_lists(startup, speeds, weights);
+    let by_job = test_lists(startup, speeds, holds, weights);
     if by_job != 0 {
         return by_job;
     }
     let by_row = test_row(speeds);
-    let by_list = test_length(speeds.len() + 1, lent);
+    let by_list = test_quick(startup, speeds, holds, weights, lent);
     if by_row != 0 {
         return by_row;
     }
@@ -276,49 +422,96 @@ pub fn test_halving(startup: u32, speeds: &[u32], weights: &[u32], lent: usize) 
 }
 
 // Inner. The tests of measuring: 0, or the refusal: 16, 5, 6, 7, 8, 9 or 11, in this order.
-pub fn test_measure(startup: u32, speeds: &[u32], weights: &[u32], separators: &[u32]) -> u32
+pub fn test_measure(
+    startup: u32,
+    speeds: &[u32],
+    holds: &[u16],
+    weights: &[u32],
+    separators: &[u32],
+) -> u32
     ensures { λ r.
-        let job = jobOf startup (now (speeds .entry)) (now (weights .entry)) in
+        let job = jobOf startup (now (speeds .entry)) (now (holds .entry)) (now (weights .entry)) in
         ⌜ r ≡ refusal job (measureInputs job (now (separators .entry))) ⌝ }
 {
-    let by_list = test_heuristic(startup, speeds, weights, separators.len());
+    let by_list = test_separators(startup, speeds, holds, weights, separators.len());
     if by_list != 0 {
         return by_list;
     }
-    test_division(startup, speeds, weights, separators)
+    test_division(startup, speeds, holds, weights, separators)
 }
 
-// Inner. The tests of a probe: 0, or the refusal: 16, 5, 6, 7, 8, 9 or 10, in this order.
-pub fn test_probe(startup: u32, speeds: &[u32], weights: &[u32], bound: Bound, lent: usize) -> u32
+// Inner. The tests of a probe: 0, or the refusal: 16, 5, 6, 7, 8, 9, 17 or 10, in this order.
+pub fn test_probe(
+    startup: u32,
+    speeds: &[u32],
+    holds: &[u16],
+    weights: &[u32],
+    bound: Bound,
+    lent: usize,
+) -> u32
     ensures { λ r.
-        let job = jobOf startup (now (speeds .entry)) (now (weights .entry)) in
+        let job = jobOf startup (now (speeds .entry)) (now (holds .entry)) (now (weights .entry)) in
         ⌜ r ≡ refusal job (probeInputs job bound lent) ⌝ }
 {
-    let by_list = test_heuristic(startup, speeds, weights, lent);
-    let by_bound = test_bound(bound);
+    let by_list = test_separators(startup, speeds, holds, weights, lent);
     if by_list != 0 {
         return by_list;
+    }
+    let by_enough = test_enough(startup, speeds, holds, weights);
+    let by_bound = test_bound(bound);
+    if by_enough != 0 {
+        return by_enough;
     }
     by_bound
 }
 
-// Inner. The tests of planning into lists of these lengths, the method apart: 0, or the refusal: 16, 5, 6, 7, 8 or 9, in this order.
+// Inner. The tests of planning into lists of these lengths, the method apart: 0, or the refusal: 16, 5, 6, 7, 8, 9 or 17, in this order.
 pub fn test_plan(
     startup: u32,
     speeds: &[u32],
+    holds: &[u16],
     weights: &[u32],
     separators: usize,
     scratch: usize,
 ) -> u32
     ensures { λ r.
-        let job = jobOf startup (now (speeds .entry)) (now (weights .entry)) in
+        let job = jobOf startup (now (speeds .entry)) (now (holds .entry)) (now (weights .entry)) in
         ⌜ r ≡ refusal job (planLists job separators scratch) ⌝ }
 {
-    let by_list = test_heuristic(startup, speeds, weights, separators);
+    let by_list = test_separators(startup, speeds, holds, weights, separators);
     if by_list != 0 {
         return by_list;
     }
-    test_length(SCRATCH_LISTS * (weights.len() + 1), scratch)
+    let by_scratch = test_length(SCRATCH_LISTS * (weights.len() + 1), scratch);
+    let by_holds = test_enough(startup, speeds, holds, weights);
+    if by_scratch != 0 {
+        return by_scratch;
+    }
+    by_holds
+}
+
+// Inner. The same by a method that is known: method 4 takes no holds, refusal 18.
+pub fn test_method(
+    method: Method,
+    startup: u32,
+    speeds: &[u32],
+    holds: &[u16],
+    weights: &[u32],
+    separators: usize,
+    scratch: usize,
+) -> u32
+    ensures { λ r.
+        let job = jobOf startup (now (speeds .entry)) (now (holds .entry)) (now (weights .entry)) in
+        ⌜ r ≡ refusal job (methodInputs job (numberOf method) separators scratch) ⌝ }
+{
+    let by_list = test_plan(startup, speeds, holds, weights, separators, scratch);
+    if by_list != 0 {
+        return by_list;
+    }
+    if method_number(method) == 4 {
+        return test_free(startup, speeds, holds, weights);
+    }
+    0
 }
 
 // Inner. How many records of a job file stand before its machines: one in the second edition.
@@ -334,14 +527,15 @@ pub fn test_write_job(
     second: bool,
     startup: u32,
     speeds: &[u32],
+    holds: &[u16],
     weights: &[u32],
     lent: usize,
 ) -> u32
     ensures { λ r.
-        let job = jobOf startup (now (speeds .entry)) (now (weights .entry)) in
+        let job = jobOf startup (now (speeds .entry)) (now (holds .entry)) (now (weights .entry)) in
         ⌜ r ≡ refusal job (writeInputs (editionOf second startup) job lent) ⌝ }
 {
-    let by_job = test_lists(startup, speeds, weights);
+    let by_job = test_all_lists(startup, speeds, holds, weights);
     if by_job != 0 {
         return by_job;
     }
@@ -353,20 +547,21 @@ pub fn test_write_job(
 pub fn test_write_plan(
     startup: u32,
     speeds: &[u32],
+    holds: &[u16],
     weights: &[u32],
     separators: &[u32],
     lent: usize,
 ) -> u32
     ensures { λ r.
-        let job = jobOf startup (now (speeds .entry)) (now (weights .entry)) in
+        let job = jobOf startup (now (speeds .entry)) (now (holds .entry)) (now (weights .entry)) in
         ⌜ r ≡ refusal job (writePlanInputs job (now (separators .entry)) lent) ⌝ }
 {
-    let by_list = test_heuristic(startup, speeds, weights, separators.len());
+    let by_list = test_separators(startup, speeds, holds, weights, separators.len());
     if by_list != 0 {
         return by_list;
     }
     let by_bytes = test_length(PLAN_RECORD * speeds.len(), lent);
-    let by_division = test_division(startup, speeds, weights, separators);
+    let by_division = test_division(startup, speeds, holds, weights, separators);
     if by_bytes != 0 {
         return by_bytes;
     }

@@ -14,7 +14,7 @@ mul-index c = search needs
 
 shared-slice-read-index : tie.Need-shared-slice-read-index
 shared-slice-read-index c =
-    let s = c .before .before .before .before .before in
+    let s = c .before .before .before .before .before .before in
     omega (arith, front-length (s .args .separators .now) (s .pre .1 .0))
 
 index-requires : tie.Need-index-requires
@@ -28,7 +28,7 @@ mul-index-2 c = search needs
 
 shared-slice-read-index-2 : tie.Need-shared-slice-read-index-2
 shared-slice-read-index-2 c =
-    let s = c .before .before .before .before .before .before .before in
+    let s = c .before .before .before .before .before .before .before .before in
     omega (arith, front-length (s .args .separators .now) (s .pre .1 .0))
 
 index-requires-2 : tie.Need-index-requires-2
@@ -42,14 +42,14 @@ shared-slice-read-part-bound c = search needs
 
 part-bound-requires : tie.Need-part-bound-requires
 part-bound-requires c κs =
-    let s = c .before .before .before .before .before .before .before .before .before in
+    let s = c .before .before .before .before .before .before .before .before .before .before in
     let h = front-part (s .args .separators .now) (s .pre .1 .0) (s .pre .1 .1) (c .before .before .before .index .ensures) (c .before .index2 .ensures) in
     (loads-to (s .pre .0) (h .1), h .0)
 
 returns : tie.Need-returns
 returns c =
-    let s = c .before .before .before .before .before .before .before .before .before .before in
-    let job : Job = jobOf (s .args .startup) (s .args .speeds .now) (s .args .weights .now) in
+    let s = c .before .before .before .before .before .before .before .before .before .before .before in
+    let job : Job = jobOf (s .args .startup) (s .args .speeds .now) (s .args .holds .now) (s .args .weights .now) in
     let i = c .before .before .before .before .index in
     let j = c .before .before .index2 in
     let h = front-part (s .args .separators .now) (s .pre .1 .0) (s .pre .1 .1) (i .ensures) (j .ensures) in

@@ -12,7 +12,7 @@ use Rattle.parts.proofs.ideal_of.Tie as tie
 
 -- The job that the lists make.
 abbrev job-at : tie.Start → Job
-job-at s = jobOf (s .args .startup) (s .args .speeds .now) (s .args .weights .now)
+job-at s = jobOf (s .args .startup) (s .args .speeds .now) (s .args .holds .now) (s .args .weights .now)
 
 mul-wide : tie.Need-mul-wide
 mul-wide c = search needs
@@ -24,12 +24,12 @@ wide-requires : tie.Need-wide-requires
 wide-requires c κs = search needs
 
 total-requires : tie.Need-total-requires
-total-requires c κs = let s = c .before .before .before .before .before in speeds-add-up (s .pre .valid)
+total-requires c κs = let s = c .before .before .before .before .before .before in speeds-add-up (s .pre .valid)
 
 returns : tie.Need-returns
 unfolding ideal
 returns c =
-    let s = c .before .before .before .before .before .before in
+    let s = c .before .before .before .before .before .before .before in
     ap₂ over
     (c .before .wide .ensures ∙ s .pre .prefix .sums (tasks (job-at s)) (omega arith)
     ∙ weight-all (job-at s)) (c .total .ensures)

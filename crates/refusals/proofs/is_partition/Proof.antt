@@ -12,14 +12,14 @@ use Rattle.refusals.proofs.is_partition.Statement.{statement}
 use Rattle.refusals.proofs.is_partition.Tie as tie
 
 abbrev Inv-loop : tie.InvT-loop
-Inv-loop startup speeds weights separators p₀ p = (p ≤ length speeds) × (getD separators 0 0 ≡ 0) × ((k : ℕ) → k < p → getD separators k 0 ≤ getD separators (suc k) 0)
+Inv-loop startup speeds holds weights separators p₀ p = (p ≤ length speeds) × (getD separators 0 0 ≡ 0) × ((k : ℕ) → k < p → getD separators k 0 ≤ getD separators (suc k) 0)
 
 abbrev μ-loop : tie.MeasureT-loop
-μ-loop startup speeds weights separators p₀ p = length speeds - p
+μ-loop startup speeds holds weights separators p₀ p = length speeds - p
 
 -- The job that the lists make.
 abbrev job-at : tie.Start Inv-loop μ-loop → Job
-job-at s = jobOf (s .args .startup) (s .args .speeds .now) (s .args .weights .now)
+job-at s = jobOf (s .args .startup) (s .args .speeds .now) (s .args .holds .now) (s .args .weights .now)
 
 shared-slice-read-if1 : tie.Need-shared-slice-read-if1 Inv-loop μ-loop
 shared-slice-read-if1 c = omega arith

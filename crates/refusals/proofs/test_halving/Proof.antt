@@ -1,7 +1,8 @@
--- `test_halving` meets its contract: the job, then the row, then the list of separators.
+-- `test_halving` meets its contract: the job, then the row, then what a quick plan takes.
 -- Assumes nothing.
 use mathlib.Core.Path.{sym, _∙_}
-use Rattle.chain.proofs.Refusals.{job-accepted}
+use Rattle.chain.specs.Job.{jobOf}
+use Rattle.refusals.proofs.Holds.{some-processor}
 use Rattle.refusals.proofs.Tests.{halving-laws}
 use borrow.Author.Needs.{needs}
 use Rattle.refusals.proofs.test_halving.Statement.{statement}
@@ -14,13 +15,12 @@ returns : tie.Need-returns
 returns c = search halving-laws
 
 test-row-requires : tie.Need-test-row-requires
-test-row-requires c κs = (job-accepted .0 (sym (c .before .test-lists .ensures) ∙ c .if1 .left)) .some-processor
+test-row-requires c κs =
+    let a = c .before .before .before .before .before .args in
+    some-processor (jobOf (a .startup) (a .speeds .now) (a .holds .now) (a .weights .now)) (sym (c .before .test-lists .ensures) ∙ c .if1 .left)
 
-add-test-length : tie.Need-add-test-length
-add-test-length c = search needs
-
-test-length-requires : tie.Need-test-length-requires
-test-length-requires c κs = search needs
+test-quick-requires : tie.Need-test-quick-requires
+test-quick-requires c κs = search needs
 
 returns-2 : tie.Need-returns-2
 returns-2 c = search halving-laws
@@ -35,7 +35,6 @@ test-halving-spec =
     test-lists-requires
     returns
     test-row-requires
-    add-test-length
-    test-length-requires
+    test-quick-requires
     returns-2
     returns-3)

@@ -1,17 +1,16 @@
 -- `test_write_job` meets its contract: the job, then the buffer.
 -- Assumes nothing.
-use mathlib.Core.Path.{sym, _∙_}
 use native.Mathlib.Omega.{arith}
 use Rattle.chain.specs.Limits.{maxProcessors, maxTasks}
 use Rattle.chain.specs.Job.{jobOf, Valid}
-use Rattle.chain.proofs.Refusals.{job-accepted}
+use Rattle.refusals.proofs.Accepted.{passed}
 use Rattle.refusals.proofs.Tests.{write-job-laws}
 use borrow.Author.Needs.{needs}
 use Rattle.refusals.proofs.test_write_job.Statement.{statement}
 use Rattle.refusals.proofs.test_write_job.Tie as tie
 
-test-lists-requires : tie.Need-test-lists-requires
-test-lists-requires c κs = search needs
+test-all-lists-requires : tie.Need-test-all-lists-requires
+test-all-lists-requires c κs = search needs
 
 returns : tie.Need-returns
 returns c = search write-job-laws
@@ -26,15 +25,15 @@ add-test-length c = search needs
 add-test-length-2 : tie.Need-add-test-length-2
 unfolding maxProcessors maxTasks
 add-test-length-2 c =
-    let a = c .before .before .before .before .before .args in
-    let v : Valid (jobOf (a .startup) (a .speeds .now) (a .weights .now)) = job-accepted .0 (sym (c .before .before .test-lists .ensures) ∙ c .before .if1 .left) in
+    let a = c .before .before .before .before .before .before .args in
+    let v : Valid (jobOf (a .startup) (a .speeds .now) (a .holds .now) (a .weights .now)) = (passed (c .before .before .test-all-lists .ensures) (c .before .if1 .left)) .valid in
     omega (arith, v .tasks-limit, v .processors-limit, c .head-records .ensures .1)
 
 mul-test-length : tie.Need-mul-test-length
 unfolding maxProcessors maxTasks
 mul-test-length c =
-    let a = c .before .before .before .before .before .args in
-    let v : Valid (jobOf (a .startup) (a .speeds .now) (a .weights .now)) = job-accepted .0 (sym (c .before .before .test-lists .ensures) ∙ c .before .if1 .left) in
+    let a = c .before .before .before .before .before .before .args in
+    let v : Valid (jobOf (a .startup) (a .speeds .now) (a .holds .now) (a .weights .now)) = (passed (c .before .before .test-all-lists .ensures) (c .before .if1 .left)) .valid in
     omega (arith, v .tasks-limit, v .processors-limit, c .head-records .ensures .1)
 
 test-length-requires : tie.Need-test-length-requires
@@ -47,7 +46,7 @@ pub test-write-job-spec : {M : Type 1} → statement M
 test-write-job-spec =
     tie.close
     (tie.spec
-    test-lists-requires
+    test-all-lists-requires
     returns
     head-records-requires
     add-test-length

@@ -4,7 +4,7 @@ use native.Mathlib.Omega.{arith}
 use lib.ListN.{length}
 use Rattle.chain.specs.Limits.{maxProcessors}
 use Rattle.chain.specs.Job.{jobOf}
-use Rattle.refusals.specs.Inputs.{heuristicInputs}
+use Rattle.refusals.specs.Inputs.{listInputs}
 use Rattle.refusals.proofs.Accepted.{Accepted, passed}
 use Rattle.refusals.proofs.Tests.{write-plan-laws}
 use borrow.Author.Needs.{needs}
@@ -14,14 +14,14 @@ use Rattle.refusals.proofs.test_write_plan.Tie as tie
 -- Past the tests of the job and the list they are all passed.
 abbrev Passed : tie.Start → Type 0
 Passed s =
-    let job = jobOf (s .args .startup) (s .args .speeds .now) (s .args .weights .now) in
-    Accepted job (heuristicInputs job (length (s .args .separators .now)))
+    let job = jobOf (s .args .startup) (s .args .speeds .now) (s .args .holds .now) (s .args .weights .now) in
+    Accepted job (listInputs job (length (s .args .separators .now)))
 
-tested : (c : tie.Else1) → Passed (c .before .before .before .before .before)
-tested c = passed (c .before .test-heuristic .ensures) (c .if1 .left)
+tested : (c : tie.Else1) → Passed (c .before .before .before .before .before .before)
+tested c = passed (c .before .test-separators .ensures) (c .if1 .left)
 
-test-heuristic-requires : tie.Need-test-heuristic-requires
-test-heuristic-requires c κs = search needs
+test-separators-requires : tie.Need-test-separators-requires
+test-separators-requires c κs = search needs
 
 returns : tie.Need-returns
 returns c = search write-plan-laws
@@ -46,7 +46,7 @@ pub test-write-plan-spec : {M : Type 1} → statement M
 test-write-plan-spec =
     tie.close
     (tie.spec
-    test-heuristic-requires
+    test-separators-requires
     returns
     mul-test-length
     test-length-requires
