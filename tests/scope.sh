@@ -148,13 +148,21 @@ printf '%s\n' "$trials" >"$work"
 while read -r trial; do
     grep -qF "$trial" crates/chain/specs/Marked.antt || { echo "crates/chain/specs/Marked.antt: no row '$trial'"; failed=1; }
 done <"$work"
-# The jobs of section 18, with their speeds, holds and weights, are those of the computed rows.
+# The jobs of section 18 are those of the computed rows, and so are their figures. A job's line may be of a function of its holds or its speeds.
 awk -F ' *[|] *' 'function list(s) { if (s == "none") return "[]"; gsub(/ /, " ∷ ", s); return "(" s " ∷ [])" }
+    function three(s) { gsub(/,/, "", s); return "(three " s ")" }
     /^## / { inside = /^## 18 / }
-    inside && $2 ~ /^[A-Z]$/ { print "job" $2 " = jobOf " ($6 == "none" ? 0 : $6) " " list($4) " " list($5) " " list($3) }' docs/SCOPE.md >"$work"
-[ "$(grep -c jobOf "$work")" = 8 ] || { echo "docs/SCOPE.md, section 18: eight jobs are looked for"; failed=1; }
-while read -r job; do
-    grep -qxF "$job" crates/chain/specs/Marked.antt || { echo "crates/chain/specs/Marked.antt: no line '$job'"; failed=1; }
+    inside && $2 ~ /^[A-Z]$/ { job = "job" $2; c = $6 == "none" ? 0 : $6; edition = $6 == "none" ? "First" : "(Second " $6 ")"; sub(/\//, " ", $8)
+        print job "|" c "|" list($4) "|" list($5) "|" list($3) "|heldPlan " edition " " job " " list($7) " (over " $8 ") " $9 " " three($10) " " three($11) }' \
+    docs/SCOPE.md >"$work"
+[ "$(grep -c heldPlan "$work")" = 8 ] || { echo "docs/SCOPE.md, section 18: eight jobs are looked for"; failed=1; }
+marked() { grep -qxF "$1" crates/chain/specs/Marked.antt; }
+while IFS='|' read -r job c speeds holds weights row; do
+    marked "$job = jobOf $c $speeds $holds $weights" ||
+        { marked "$job = ${job}With $holds" && marked "${job}With hs = jobOf $c $speeds hs $weights"; } ||
+        { marked "$job = ${job}On $speeds" && marked "${job}On es = jobOf $c es $holds $weights"; } ||
+        { echo "crates/chain/specs/Marked.antt: $job is not 'jobOf $c $speeds $holds $weights'"; failed=1; }
+    marked "    $row" || marked "    ∷ $row" || { echo "crates/chain/specs/Marked.antt: no row '$row'"; failed=1; }
 done <"$work"
 printf '%s\n' "$trials" >"$work"
 told=$(tr '\n' ' ' <docs/WHY.md | sed -n 's/.*Job B has tiles of \([0-9 ]*\) on machines of speed 1 and 2\. At the bound \([0-9]*\)\/\([0-9]*\), .* The trial fails and writes \([0-9 ]*\)\. .*The next bid, here \([0-9]*\)\/\([0-9]*\), .*At \([0-9]*\/[0-9]*\) this one does, with \([0-9 ]*\)\..*/\1|failsWith jobB (over \2 \3) (over \5 \6) (\4)|\7 \8/p')
