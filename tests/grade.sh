@@ -65,6 +65,10 @@ says "a best plan with other separators" best examples/D.job examples/D-other.pl
 says "a best plan with start-up work" best examples/N.job examples/N-best.plan
 says "a valid plan with start-up work" valid examples/N.job examples/N-valid.plan
 says "a plan whose loads have no start-up work" "refused 13" examples/N.job examples/N-first.plan
+says "a best plan with holds" best examples/S.job examples/S-best.plan
+says "a valid plan with holds" valid examples/S.job examples/S-valid.plan
+says "a plan that breaks a hold" "refused 11" examples/S.job examples/S-broken.plan
+says "the same plan without holds" best "$a" examples/S-broken.plan
 says "a plan beside another job" "refused 11" examples/B.job "$best"
 says "job and plan exchanged" "refused 3" "$best" "$a"
 says "a job for both" "refused 12" "$a" "$a"
@@ -108,6 +112,65 @@ for word in "0 0 3 valid" "0 1 3 best" "0 2 3 valid" "0 3 3 valid"; do
     says "N, $1 $2 $3 with the loads of the first edition" "refused 13" examples/N.job "$work/plan"
 done
 
+# S, whose second machine holds one tile: every division of A, and those with loads that are untrue, of which 11 is said first
+examples/make-job 1 3 holds 65535 65535 : 1 3 8 >"$work/wide.job"
+for word in "0 0 3 refused 11" "0 1 3 refused 11" "0 2 3 best" "0 3 3 valid"; do
+    # shellcheck disable=SC2086
+    set -- $word
+    line=${word#? ? ? }
+    examples/make-plan "$a" "$1" "$2" "$3" >"$work/plan"
+    says "S, $1 $2 $3" "$line" examples/S.job "$work/plan"
+    # with holds that are no limit for three tiles
+    says "A with the greatest holds, $1 $2 $3" "$("$program" "$a" "$work/plan")" "$work/wide.job" "$work/plan"
+    {
+        head -c 8 "$work/plan"
+        printf '\377'
+        tail -c +10 "$work/plan"
+    } >"$work/untrue"
+    case $line in refused*) ;; *) line="refused 13" ;; esac
+    says "S, $1 $2 $3 with an untrue load" "$line" examples/S.job "$work/untrue"
+    printf '\000' | cat "$work/plan" - >"$work/longer"
+    says "S, $1 $2 $3 and a byte more" "refused 12" examples/S.job "$work/longer"
+done
+
+# five tiles on machines that hold 1, 3 and 2: a share with as many tiles as the hold, and with one more, at each place; two holds broken
+examples/make-job 1 1 5 holds 1 3 2 : 1 1 1 1 1 >"$work/held.job"
+examples/make-job 1 1 5 : 1 1 1 1 1 >"$work/free.job"
+for word in "0 1 3 5 best" "0 0 3 5 valid" "0 1 4 5 valid" "0 2 4 5 refused 11" "0 0 4 5 refused 11" "0 1 2 5 refused 11" "0 2 2 5 refused 11" \
+    "0 5 5 5 refused 11" "0 0 0 5 refused 11" "0 0 5 5 refused 11"; do
+    # shellcheck disable=SC2086
+    set -- $word
+    examples/make-plan "$work/free.job" "$1" "$2" "$3" "$4" >"$work/plan"
+    says "holds 1 3 2, $1 $2 $3 $4" "${word#? ? ? ? }" "$work/held.job" "$work/plan"
+done
+# a hold of two bytes
+# shellcheck disable=SC2046
+set -- $(awk 'BEGIN { for (i = 0; i < 257; i++) print 1 }')
+examples/make-job 1 1 holds 1 256 : "$@" >"$work/held.job"
+examples/make-job 1 1 : "$@" >"$work/free.job"
+examples/make-plan "$work/held.job" 0 1 257 >"$work/plan"
+says "holds 1 and 256, 0 1 257" best "$work/held.job" "$work/plan"
+says "holds 1 and 256, 0 1 257, without the holds" valid "$work/free.job" "$work/plan"
+for s in 0 2 128 256 257; do
+    examples/make-plan "$work/free.job" 0 $s 257 >"$work/plan"
+    says "holds 1 and 256, 0 $s 257" "refused 11" "$work/held.job" "$work/plan"
+done
+# a hold with start-up work: N with hold 2 on machine 2, whose best plan without the hold breaks it
+examples/make-job startup 3 1 4 holds 0 2 : 1 4 4 >"$work/held.job"
+for word in "0 0 3 refused 11" "0 1 3 best" "0 2 3 valid" "0 3 3 valid"; do
+    # shellcheck disable=SC2086
+    set -- $word
+    examples/make-plan examples/N.job "$1" "$2" "$3" >"$work/plan"
+    says "N with hold 2 on machine 2, $1 $2 $3" "${word#? ? ? }" "$work/held.job" "$work/plan"
+done
+# holds that add up to too little: there is no division, so 11 is said, of a plan of the right length; 17 is for planning
+examples/make-job 1 3 holds 1 1 : 1 3 8 >"$work/held.job"
+for s in 0 1 2 3; do
+    examples/make-plan "$a" 0 $s 3 >"$work/plan"
+    says "A with holds 1 1, 0 $s 3" "refused 11" "$work/held.job" "$work/plan"
+done
+says "A with holds 1 1, an empty plan" "refused 12" "$work/held.job" /dev/null
+
 # the plans of strips, as its listings give them
 for job in examples/*.job; do
     # shellcheck disable=SC2046
@@ -132,7 +195,8 @@ int main(int count, char **words) {
 CODE
     cc -std=c99 -Iinclude -DINTAKE="$job_intake" -o "$work/write" "$work/write.c" target/staticlib/libplanner.a
     for job in examples/*.job; do
-        for method in 1 2 3 4; do
+        # the methods that the listing has: with holds the first three
+        for method in $(tail -n +2 "${job%.job}.txt" | cut -d ' ' -f 1); do
             "$work/write" "$method" <"$job" >"$work/plan"
             says "$job: the plan of plan_job by method $method" best "$job" "$work/plan"
         done
@@ -160,6 +224,20 @@ refused() {
 }
 record 4 1 >"$work/job"
 refused 3 "kind 4"
+record $((1 + 256)) 1 >"$work/job"
+refused 3 "byte 1 of a machine not zero"
+for place in 256 65536 16777216; do
+    {
+        record 1 1
+        record $((2 + place)) 1
+    } >"$work/job"
+    refused 3 "byte 1, 2 or 3 of a tile not zero, $place"
+    {
+        record $((3 + place)) 1
+        record 1 1
+    } >"$work/job"
+    refused 3 "byte 1, 2 or 3 of start-up work not zero, $place"
+done
 {
     record 1 1
     record 2 1
@@ -549,7 +627,7 @@ for page in README.md docs/grade.1; do
         shown=$((shown + 1))
     done <"$work/shown"
 done
-equal "grades that the pages show" 4 "$shown"
+equal "grades that the pages show" 5 "$shown"
 taken="$(figure "$job_intake") $(figure "$plan_intake")"
 equal "how much is read, ./grade --help" "$taken" "$(./grade --help | tr '\n' ' ' | sed -n 's/.*at most \([0-9,]*\) bytes are read and of the plan at most \([0-9,]*\),.*/\1 \2/p')"
 equal "how much is read, docs/grade.1" "$taken" "$(tr '\n' ' ' <docs/grade.1 | sed -n 's/.*at most \([0-9,]*\) bytes are read and of the plan at most \([0-9,]*\),.*/\1 \2/p')"

@@ -79,6 +79,8 @@ limit() {
 }
 tiles=$(limit maxTasks) && weight=$(limit maxWeight) && machines=$(limit maxProcessors) && speed=$(limit maxSpeed) &&
     startup=$(limit maxStartup) && bound_load=$(limit maxBoundLoad) && bound_speed=$(limit maxBoundSpeed) || exit 1
+# The greatest hold, which has 16 bits and no other limit.
+hold=$((256 * 256 - 1))
 # The records of the longest job file, which is of the second edition; one record more than it has, and than the longest plan file.
 job_records=$((1 + machines + tiles))
 job_bytes=$((8 * (job_records + 1)))
@@ -118,6 +120,7 @@ says $text 17.1 'c, 0 to #' "$startup"
 says $text 17.5 'c = # is taken' "$startup"
 says $text 17.5 'taken; # is refused' $((startup + 1))
 says $text 17.17 'file has # records' "$job_records"
+says $text 18.2 '16 bits, 0 to #' "$hold"
 
 # The pages for users
 text=README.md
@@ -135,6 +138,8 @@ says $text '' "$(grouped "$tiles") = # records" $((machines + tiles))
 says $text '' "$(grouped $((machines + tiles))) records, # bytes" $((8 * (machines + tiles)))
 says $text '' 'one more: # records' "$job_records"
 says $text '' "$(grouped "$job_records") records, # bytes" $((8 * job_records))
+says $text '' 'A hold of # is 00 08' "$tiles"
+says $text '' 'the most, #, is ff ff' "$hold"
 text=docs/REFUSALS.md
 says $text '| 16 |' 'c = #' $((startup + 1))
 says $text '| 16 |' 'work is 0 to #' "$startup"
@@ -215,6 +220,7 @@ text=include/pelshaqu.h
 says $text '#define PELSHAQU_MAX_MACHINES' 'PELSHAQU_MAX_MACHINES #' "$machines"
 says $text '#define PELSHAQU_MAX_TILES' 'PELSHAQU_MAX_TILES #' "$tiles"
 says $text '#define PELSHAQU_MAX_STARTUP' 'PELSHAQU_MAX_STARTUP #' "$startup"
+says $text '#define PELSHAQU_MAX_HOLD' 'PELSHAQU_MAX_HOLD #' "$hold"
 says $text '' 'start-up work (0 to #)' "$startup"
 says $text '' 'speed (1 to #)' "$speed"
 says $text '' 'weight (0 to #)' "$weight"

@@ -67,6 +67,15 @@ of_file() {
     of 7 8
 }
 
+# What planning a job can give behind that: by its holds, and by its holds and the method.
+of_holds() {
+    of 17 17
+}
+
+of_holds_and_method() {
+    of 17 18
+}
+
 # What a plan file can give, in the order of the tests.
 of_plan() {
     of 12 12
@@ -78,9 +87,9 @@ all=$(in_table)
 numbers=$(in_table | sed 's/:.*//')
 same "the table's numbers, which are to rise by one" "$(in_table | awk '{ print NR }')" "$numbers"
 same "the number of refusals in the table, which is not to be 0" yes "$([ -n "$all" ] && echo yes || echo no)"
-same "include/pelshaqu.h, what the C calls can give" "$(of 1 1; of_file; of 9 9; of 9 9; of_plan)" "$(in_header)"
-same "./strips --help, what a file can give" "$(of_file)" "$(in_help strips)"
-same "docs/strips.1, what a file can give" "$(of_file)" "$(in_manual docs/strips.1)"
+same "include/pelshaqu.h, what the C calls can give" "$(of 1 1; of_file; of 9 9; of_holds_and_method; of 9 9; of_plan)" "$(in_header)"
+same "./strips --help, what a file can give" "$(of_file; of_holds)" "$(in_help strips)"
+same "docs/strips.1, what a file can give" "$(of_file; of_holds)" "$(in_manual docs/strips.1)"
 same "./grade --help, what two files can give" "$(of_file; of_plan)" "$(in_help grade)"
 same "docs/grade.1, what two files can give" "$(of_file; of_plan)" "$(in_manual docs/grade.1)"
 same "the definitions' numbers" "$numbers" "$(in_definitions crates/chain/specs/Refusal.antt crates/jobs/specs/Parse.antt)"

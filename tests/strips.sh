@@ -84,20 +84,30 @@ record 4 1 >"$work/job"
 gives "kind 4" "refused 3"
 record 0 1 >"$work/job"
 gives "kind 0" "refused 3"
-for place in 1 2 3; do
-    {
-        record 1 1 | head -c "$place"
-        printf '\001'
-        record 1 1 | tail -c "+$((place + 2))"
-    } >"$work/job"
-    gives "byte $place not zero" "refused 3"
-    {
-        record 3 1 | head -c "$place"
-        printf '\001'
-        record 3 1 | tail -c "+$((place + 2))"
-        cat examples/A.job
-    } >"$work/job"
-    gives "byte $place of the start-up work's record not zero" "refused 3"
+# damaged KIND PLACE BYTE: a record with another byte
+damaged() {
+    record "$1" 1 | head -c "$2"
+    printf "$3"
+    record "$1" 1 | tail -c "+$(($2 + 2))"
+}
+for byte in '\001' '\200' '\377'; do
+    damaged 1 1 "$byte" >"$work/job"
+    gives "byte 1 of a machine is $byte" "refused 3"
+    for place in 1 2 3; do
+        {
+            damaged 3 "$place" "$byte"
+            cat examples/A.job
+        } >"$work/job"
+        gives "byte $place of the start-up work is $byte" "refused 3"
+        for tile in 2 3 4; do
+            {
+                head -c $((8 * tile)) examples/A.job
+                damaged 2 "$place" "$byte"
+                tail -c "+$((8 * tile + 9))" examples/A.job
+            } >"$work/job"
+            gives "byte $place of tile $((tile - 1)) of A is $byte" "refused 3"
+        done
+    done
 done
 {
     record 1 1
@@ -164,6 +174,162 @@ examples/make-job startup 2 5 : 4 0 3 >"$work/job"
 printf '%s\n' "tiles 3 machines 1 total 7" "1 0 0 9 5 286 0 3" "2 2 2 9 5 286 0 3" "3 1 6 9 5 286 0 3" "4 0 0 9 5 286 0 3" >"$work/wanted"
 "$program" <"$work/job" >"$work/got"
 same "one machine with start-up work 2" "$work/wanted" "$work/got"
+
+# holds: the jobs of the scope's section 18, each with the listing that its table gives
+awk -F ' *[|] *' '/^## / { inside = /^## 18 / }
+    inside && $2 ~ /^[A-Z]$/ { print $2 "|" ($6 == "none" ? "" : "startup " $6 " ") $4 " holds " $5 " : " ($3 == "none" ? "" : $3) "|" $7 "|" $8 "|" $9 "|" $10 "|" $11 }' \
+    docs/SCOPE.md >"$work/rows"
+equal "docs/SCOPE.md, section 18: the jobs of its table" "R S T U V W X Y" "$(cut -d '|' -f 1 "$work/rows" | tr '\n' ' ' | sed 's/ $//')"
+while IFS='|' read -r name words separators bottleneck imbalance counts allowances; do
+    # shellcheck disable=SC2086
+    examples/make-job $words >"$work/job"
+    printf '%s\n' "$words" | awk -v s="$separators" -v b="$bottleneck" -v i="$imbalance" -v counts="$counts" -v allowances="$allowances" '
+        { weights = $0; sub(/.*:/, "", weights); n = split(weights, w, " "); for (k = 1; k <= n; k++) total += w[k]
+          machines = split(s, none, " ") - 1; sub(/\//, " ", b); methods = split(counts, c, ", "); split(allowances, a, ", ")
+          printf "tiles %d machines %d total %d\n", n, machines, total
+          for (m = 1; m <= methods; m++) print m, c[m], a[m], b, i, s }' >"$work/listing"
+    "$program" <"$work/job" >"$work/got"
+    same "job $name of the scope" "$work/listing" "$work/got"
+    equal "job $name of the scope: its lines" 4 "$(wc -l <"$work/got" | tr -d ' ')"
+done <"$work/rows"
+
+# lists NAME LINE WORD..: the listing of the job that make-job makes of the words, which has holds, begins with the line, and then has a line
+# of each of the first three methods; or it is a refusal, the line alone
+lists() {
+    name=$1
+    line=$2
+    shift 2
+    examples/make-job "$@" >"$work/job"
+    "$program" <"$work/job" >"$work/lines"
+    case $line in
+    refused*) methods= ;;
+    *) methods='1 2 3 ' ;;
+    esac
+    equal "$name" "$line, $methods" "$(head -n 1 "$work/lines"), $(tail -n +2 "$work/lines" | cut -d ' ' -f 1 | tr '\n' ' ')"
+}
+# holds that add up to just enough, to just too little, and with one machine without a limit
+lists "holds that add up to N" "tiles 3 machines 2 total 15" 3 1 holds 1 2 : 2 9 4
+lists "holds that add up to N - 1" "refused 17" 3 1 holds 1 1 : 2 9 4
+lists "holds that add up to N - 1, the other way round" "refused 17" 3 1 holds 2 1 : 2 9 4 1
+lists "one limit of two" "tiles 3 machines 2 total 15" 3 1 holds 1 0 : 2 9 4
+lists "the other limit of two" "tiles 3 machines 2 total 15" 3 1 holds 0 1 : 2 9 4
+lists "hold 1 and a tile" "tiles 1 machines 1 total 7" 5 holds 1 : 7
+lists "hold 1 and two tiles" "refused 17" 5 holds 1 : 7 7
+lists "hold 1 and two tiles of weight 0" "refused 17" 5 holds 1 : 0 0
+lists "hold 1 and no tiles" "tiles 0 machines 1 total 0" 5 holds 1 :
+lists "start-up work and holds that add up to N" "tiles 3 machines 2 total 9" startup 3 1 4 holds 1 2 : 1 4 4
+lists "start-up work and holds that add up to N - 1" "refused 17" startup 3 1 4 holds 1 1 : 1 4 4
+lists "three holds that add up to N - 1" "refused 17" 1 1 5 holds 1 1 2 : 1 1 1 1 1
+lists "holds whose sum has 17 bits, 0 in the lower 16" "tiles 2 machines 2 total 3" 1 1 holds 32768 32768 : 1 2
+lists "the greatest hold" "tiles 2 machines 1 total 3" 1 holds 65535 : 1 2
+for job in "A 1 3 holds 0 0 : 1 3 8" "C 7 2 holds 0 0 :" "N startup 3 1 4 holds 0 0 : 1 4 4"; do
+    # shellcheck disable=SC2086
+    examples/make-job ${job#* } >"$work/job"
+    "$program" <"$work/job" >"$work/got"
+    same "${job%% *} with holds that are all 0" "examples/${job%% *}.txt" "$work/got"
+done
+# both bytes of a hold: 257 tiles on machines that hold 1 and 256, 256 and 1, 0x0100 and 0x0001
+# shellcheck disable=SC2046
+set -- $(awk 'BEGIN { for (i = 0; i < 257; i++) print 1 }')
+lists "holds 1 and 256" "tiles 257 machines 2 total 257" 1 1 holds 1 256 : "$@"
+equal "holds 1 and 256: the only division" "0 1 257" "$(tail -n 1 "$work/lines" | cut -d ' ' -f 7-)"
+lists "holds 256 and 1" "tiles 257 machines 2 total 257" 1 1 holds 256 1 : "$@"
+equal "holds 256 and 1: the only division" "0 256 257" "$(tail -n 1 "$work/lines" | cut -d ' ' -f 7-)"
+lists "holds 1 and 256, and a tile more" "refused 17" 1 1 holds 1 256 : "$@" 1
+lists "holds 255 and 1" "refused 17" 1 1 holds 255 1 : "$@"
+# the hold's place: each machine of C in turn, by each of its two bytes
+for place in 2 3; do
+    for at in 0 1; do
+        {
+            head -c $((8 * at + place)) examples/C.job
+            printf '\001'
+            tail -c "+$((8 * at + place + 2))" examples/C.job
+        } >"$work/job"
+        printf '%s\n' "tiles 0 machines 2 total 0" "1 0 0 0 7 0 0 0 0" "2 1 1 0 7 0 0 0 0" "3 1 1 0 7 0 0 0 0" >"$work/wanted"
+        "$program" <"$work/job" >"$work/got"
+        same "C with 1 in byte $place of machine $((at + 1))" "$work/wanted" "$work/got"
+    done
+done
+# 17 behind every test of the file
+{
+    machine 1 1
+    record 2 1
+    record 2 1000001
+} >"$work/job"
+gives "hold 1 and two tiles, the second too heavy" "refused 6"
+{
+    machine 1 1
+    record 2 1
+    record $((2 + 256)) 1
+} >"$work/job"
+gives "hold 1 and two tiles, byte 1 of the second not zero" "refused 3"
+{
+    machine 1 1
+    record 2 1
+    machine 1 1
+} >"$work/job"
+gives "hold 1, a tile, and a machine" "refused 4"
+{
+    machine 1 1
+    record 2 1
+    record 3 1
+} >"$work/job"
+gives "hold 1, a tile, and start-up work" "refused 15"
+{
+    machine 1 0
+    records 2 2 1
+} >"$work/job"
+gives "hold 1, speed 0 and two tiles" "refused 5"
+{
+    record 3 $((startup + 1))
+    machine 1 1
+    records 2 2 1
+} >"$work/job"
+gives "hold 1, two tiles and start-up work 1,000,001" "refused 16"
+{
+    machine 1 1
+    records 2 2 1
+    printf '\002'
+} >"$work/job"
+gives "hold 1, two tiles and a byte" "refused 2"
+{
+    records $((machines + 1)) "$(held 1)" 1
+    records $((machines + 2)) 2 1
+} >"$work/job"
+gives "$((machines + 1)) machines with hold 1 and a tile too many" "refused 7"
+{
+    machine 1 1
+    records $((tiles + 1)) 2 0
+} >"$work/job"
+gives "hold 1 and $(figure $((tiles + 1))) tiles" "refused 8"
+# the longest row and the most tiles, with holds that add up to enough and to one less
+{
+    records $((machines - 1)) "$(held 1)" 1
+    machine $((tiles - machines + 1)) 1
+    records "$tiles" 2 0
+} >"$work/job"
+first "the most machines and tiles, holds that add up to N" "tiles $tiles machines $machines total 0"
+{
+    records $((machines - 1)) "$(held 1)" 1
+    machine $((tiles - machines)) 1
+    records "$tiles" 2 0
+} >"$work/job"
+gives "the most machines and tiles, holds that add up to N - 1" "refused 17"
+{
+    records "$machines" "$(held 65535)" 1
+    records "$tiles" 2 0
+} >"$work/job"
+first "the most machines and tiles, the greatest holds" "tiles $tiles machines $machines total 0"
+# the longest job with the greatest hold on each machine: the plan of large2, by three methods
+{
+    record 3 0
+    od -An -v -tu1 -w8 examples/large2.job | awk '$1 == 1 { $3 = $4 = 255 } { for (i = 1; i <= 8; i++) printf "\\%03o", $i }' >"$work/escaped"
+    printf "$(cat "$work/escaped")"
+} >"$work/job"
+equal "large2 with the greatest holds: its bytes" "$longest_job" "$(wc -c <"$work/job" | tr -d ' ')"
+"$program" <"$work/job" >"$work/got"
+equal "large2 with the greatest holds: methods, bottleneck, imbalance, separators" \
+    "$(sed -n '2,4p' examples/large2.txt | cut -d ' ' -f 1,4-)" "$(tail -n +2 "$work/got" | cut -d ' ' -f 1,4-)"
 
 # rows: as many machines as there may be, and more
 for row in $((machines - 1)) "$machines"; do

@@ -1,5 +1,5 @@
 //! A contest: the calls of both sides that do the same work, compared for equality, then timed in turn on the same jobs.
-use crate::jobs::Shape;
+use crate::jobs::{Holds, Shape};
 use crate::sides::{self, Call, Job, Room};
 use std::time::{Duration, Instant};
 
@@ -19,6 +19,8 @@ pub struct Contest {
     pub jobs: usize,
     /// Whether it is for rows alone that can be halved.
     pub halved: bool,
+    /// Whether it is for jobs with holds too.
+    pub held: bool,
 }
 
 pub const CONTESTS: [Contest; 11] = [
@@ -28,6 +30,7 @@ pub const CONTESTS: [Contest; 11] = [
         answers: 5,
         jobs: 12,
         halved: false,
+        held: true,
     },
     Contest {
         name: "bidding",
@@ -35,6 +38,7 @@ pub const CONTESTS: [Contest; 11] = [
         answers: 5,
         jobs: 12,
         halved: false,
+        held: true,
     },
     Contest {
         name: "bidding from machine 1",
@@ -42,6 +46,7 @@ pub const CONTESTS: [Contest; 11] = [
         answers: 5,
         jobs: 12,
         halved: false,
+        held: true,
     },
     Contest {
         name: "bisection",
@@ -52,6 +57,7 @@ pub const CONTESTS: [Contest; 11] = [
         answers: 5,
         jobs: 64,
         halved: false,
+        held: true,
     },
     Contest {
         name: "Nicol",
@@ -59,6 +65,7 @@ pub const CONTESTS: [Contest; 11] = [
         answers: 5,
         jobs: 12,
         halved: false,
+        held: false,
     },
     Contest {
         name: "Nicol by the walk",
@@ -66,6 +73,7 @@ pub const CONTESTS: [Contest; 11] = [
         answers: 5,
         jobs: 12,
         halved: false,
+        held: false,
     },
     Contest {
         name: "quick plan",
@@ -73,6 +81,7 @@ pub const CONTESTS: [Contest; 11] = [
         answers: 2,
         jobs: 64,
         halved: false,
+        held: false,
     },
     Contest {
         name: "halving",
@@ -80,6 +89,7 @@ pub const CONTESTS: [Contest; 11] = [
         answers: 2,
         jobs: 64,
         halved: true,
+        held: false,
     },
     Contest {
         name: "halving by sides",
@@ -87,6 +97,7 @@ pub const CONTESTS: [Contest; 11] = [
         answers: 2,
         jobs: 64,
         halved: true,
+        held: false,
     },
     Contest {
         name: "trial",
@@ -94,6 +105,7 @@ pub const CONTESTS: [Contest; 11] = [
         answers: 3,
         jobs: 64,
         halved: false,
+        held: true,
     },
     Contest {
         name: "grading",
@@ -101,12 +113,13 @@ pub const CONTESTS: [Contest; 11] = [
         answers: 1,
         jobs: 64,
         halved: false,
+        held: true,
     },
 ];
 
 impl Contest {
     pub fn takes(&self, shape: Shape) -> bool {
-        !self.halved || shape.halves()
+        (!self.halved || shape.halves()) && (self.held || shape.holds == Holds::None)
     }
 
     /// One call of a side on buffers that hold a pattern: what it answers and what it leaves in the separators.

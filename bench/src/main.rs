@@ -1,6 +1,6 @@
 //! The benchmark of the planner against plain Rust. `run` calls it:
 //!     bench measure                         times, counts and imbalances as records, to standard output
-//!     bench count FAMILY N P FASTEST STARTUP MACHINES JOBS
+//!     bench count FAMILY N P FASTEST STARTUP HOLDS MACHINES JOBS
 //!                                           calls each side once a job, for callgrind
 //!     bench shapes                          the shapes that are to be counted, one to a line
 //!     bench summary FILE...                 the tables of docs/BENCHMARKS.md, from records
@@ -13,7 +13,7 @@ mod records;
 mod sides;
 mod tables;
 
-use jobs::{Family, Shape};
+use jobs::{Family, Holds, Shape};
 
 // Moves what is linked behind it (see build.rs).
 std::arch::global_asm!(
@@ -37,9 +37,10 @@ fn count(args: &[String]) {
         processors: number(2),
         fastest: number(3) as u32,
         startup: number(4) as u32,
-        machines: number(5),
+        holds: Holds::named(&args[5]).expect("what the machines hold"),
+        machines: number(6),
     };
-    contest::call_all(shape, number(6));
+    contest::call_all(shape, number(7));
 }
 
 fn main() {
@@ -47,12 +48,12 @@ fn main() {
     let args: Vec<String> = std::env::args().skip(1).collect();
     match args.first().map(String::as_str) {
         Some("measure") if args.len() == 1 => measure::all(),
-        Some("count") if args.len() == 8 => count(&args[1..]),
+        Some("count") if args.len() == 9 => count(&args[1..]),
         Some("shapes") if args.len() == 1 => measure::print_shapes(),
         Some("summary") if args.len() > 1 => tables::print_summary(&args[1..]),
         Some("tables") if args.len() > 1 => tables::print(&args[1..]),
         _ => {
-            eprintln!("usage: bench measure | count FAMILY N P FASTEST STARTUP MACHINES JOBS | shapes | summary FILE... | tables FILE...");
+            eprintln!("usage: bench measure | count FAMILY N P FASTEST STARTUP HOLDS MACHINES JOBS | shapes | summary FILE... | tables FILE...");
             std::process::exit(2);
         }
     }

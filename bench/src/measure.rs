@@ -1,6 +1,6 @@
 //! What is measured: the shapes, and the records of each.
 use crate::contest::{Contest, CONTESTS};
-use crate::jobs::{Family, Shape, Size};
+use crate::jobs::{Family, Holds, Shape, Size};
 use crate::plain::{self, Bound, MAX_PROCESSORS, MAX_TASKS};
 use crate::records;
 use crate::sides::{Job, BEST};
@@ -13,6 +13,8 @@ pub const HALVED_SIZES: [Size; 3] = [(8 * 64, 64), (MAX_TASKS, 64), (MAX_TASKS, 
 /// The start-up work of the shapes of the second edition, about what a tile weighs, and their greatest speed.
 pub const STARTUP: u32 = 1_000;
 pub const SECOND_FASTEST: u32 = 4;
+/// The greatest speed of the shapes with holds.
+pub const HELD_FASTEST: u32 = 4;
 /// How many machines, equal ones, the rows have whose quick plans are set beside the best plan.
 pub const ROW_PROCESSORS: [usize; 5] = [4, 8, 16, 32, 64];
 /// The contests on these rows: the four methods and both quick plans.
@@ -86,6 +88,17 @@ pub fn second() -> Vec<Shape> {
     shapes
 }
 
+/// The shapes with holds: the sizes of the ratios.
+pub fn held() -> Vec<Shape> {
+    let mut shapes = Vec::new();
+    for family in Family::ALL {
+        for holds in Holds::SET {
+            shapes.extend(SIZES.map(|size| Shape::with_holds(family, size, HELD_FASTEST, holds)));
+        }
+    }
+    shapes
+}
+
 pub fn short_strips() -> Vec<Shape> {
     SHORT.iter().map(|&(family, tasks, machines)| Shape::short(family, tasks, machines)).collect()
 }
@@ -129,6 +142,9 @@ fn measured() -> Vec<(Shape, Vec<&'static Contest>)> {
     for shape in second() {
         measured.push((shape, CONTESTS.iter().filter(|contest| contest.halved == shape.halves()).collect()));
     }
+    for shape in held() {
+        measured.push((shape, CONTESTS.iter().filter(|contest| contest.takes(shape)).collect()));
+    }
     let planned = planned_strips();
     for shape in short_strips() {
         let takes = |contest: &&Contest| {
@@ -144,8 +160,8 @@ pub fn print_shapes() {
     for (shape, _) in measured() {
         let halved = shape.halves() && HALVED_SIZES.contains(&shape.size());
         if SIZES.contains(&shape.size()) || halved || shape.machines > 0 {
-            let Shape { family, tasks, processors, fastest, startup, machines } = shape;
-            println!("{} {tasks} {processors} {fastest} {startup} {machines}", family.name());
+            let Shape { family, tasks, processors, fastest, startup, holds, machines } = shape;
+            println!("{} {tasks} {processors} {fastest} {startup} {} {machines}", family.name(), holds.name());
         }
     }
 }

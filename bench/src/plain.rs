@@ -109,6 +109,128 @@ fn test_job(second: bool, startup: u32, speeds: &[u32], weights: &[u32]) -> Resu
     Ok(())
 }
 
+/// Whether any hold is set. No early end, as above.
+fn is_held(holds: &[u16]) -> bool {
+    holds.iter().fold(0, |all, &hold| all | hold) != 0
+}
+
+/// Whether a division can keep the holds: some machine has none, or they add up to at least N.
+fn enough(holds: &[u16], tasks: usize) -> bool {
+    let limited = holds.iter().fold(true, |all, &hold| all & (hold != 0));
+    !limited || holds.iter().map(|&hold| hold as usize).sum::<usize>() >= tasks
+}
+
+/// The holds of the machines, or none at all: each loop is compiled for both, so that a job without holds does not pay for them.
+trait Holds: Copy {
+    /// Whether any is set.
+    const SET: bool;
+    type Hold: Hold;
+
+    fn of(self, p: usize) -> Self::Hold;
+
+    /// Each item with the hold of its machine; the first one is of machine `first`.
+    fn beside<I: Iterator>(self, first: usize, items: I) -> impl Iterator<Item = (I::Item, Self::Hold)>;
+}
+
+trait Hold: Copy {
+    /// The tiles up to the last that a share which begins at a can hold.
+    fn reach(self, tiles: Tiles, a: usize) -> Tiles;
+
+    /// Whether the share from a to b is all that the machine holds.
+    fn is_full(self, a: usize, b: usize) -> bool;
+
+    /// Whether the machine holds the share from a to b.
+    fn keeps(self, a: usize, b: usize) -> bool;
+
+    /// Where a share that ends at i may begin.
+    fn start(self, i: usize) -> usize;
+}
+
+/// No hold.
+#[derive(Clone, Copy)]
+struct Free;
+
+impl Holds for Free {
+    const SET: bool = false;
+    type Hold = Free;
+
+    #[inline]
+    fn of(self, _: usize) -> Free {
+        Free
+    }
+
+    #[inline]
+    fn beside<I: Iterator>(self, _: usize, items: I) -> impl Iterator<Item = (I::Item, Free)> {
+        items.map(|item| (item, Free))
+    }
+}
+
+impl Hold for Free {
+    #[inline]
+    fn reach(self, tiles: Tiles, _: usize) -> Tiles {
+        tiles
+    }
+
+    #[inline]
+    fn is_full(self, _: usize, _: usize) -> bool {
+        false
+    }
+
+    #[inline]
+    fn keeps(self, _: usize, _: usize) -> bool {
+        true
+    }
+
+    #[inline]
+    fn start(self, _: usize) -> usize {
+        0
+    }
+}
+
+impl Holds for &[u16] {
+    const SET: bool = true;
+    type Hold = u16;
+
+    #[inline]
+    fn of(self, p: usize) -> u16 {
+        self[p]
+    }
+
+    #[inline]
+    fn beside<I: Iterator>(self, first: usize, items: I) -> impl Iterator<Item = (I::Item, u16)> {
+        items.zip(self[first..].iter().copied())
+    }
+}
+
+impl Hold for u16 {
+    #[inline]
+    fn reach(self, tiles: Tiles, a: usize) -> Tiles {
+        let end = tiles.sums.len().min(a + most(self) + 1);
+        Tiles { sums: &tiles.sums[..end], ..tiles }
+    }
+
+    #[inline]
+    fn is_full(self, a: usize, b: usize) -> bool {
+        b - a == most(self)
+    }
+
+    #[inline]
+    fn keeps(self, a: usize, b: usize) -> bool {
+        b - a <= most(self)
+    }
+
+    #[inline]
+    fn start(self, i: usize) -> usize {
+        i.saturating_sub(most(self))
+    }
+}
+
+/// The most tiles that a machine takes; without a hold more than a job has.
+#[inline]
+fn most(hold: u16) -> usize {
+    hold.wrapping_sub(1) as usize + 1
+}
+
 /// Writes W(1,0) to W(1,N) to the front of the list and hands that front back.
 fn prefix_sums<'a>(weights: &[u32], list: &'a mut [u32]) -> &'a [u32] {
     let sums = &mut list[..=weights.len()];
@@ -225,9 +347,11 @@ fn started_bound(tiles: Tiles, a: usize, b: usize, speed: u32) -> Bound {
 
 /// One walk at the bound from machine `first` on, whose part begins at separators[first]; `best` is the least bid before it.
 /// Writes the separators behind it; what they hold before is a hint, most often the walk before. It ends once every tile is placed and
-/// leaves the separators from there on, so a machine that bids has a tile more to bid for. Filling is apart: here it made the walk slower.
-fn walk(
+/// leaves the separators from there on, so a machine that bids has a tile more to bid for. A machine at its hold does not bid, and the last
+/// one only where it holds the rest. Filling is apart: here it made the walk slower.
+fn walk<H: Holds>(
     speeds: &[u32],
+    holds: H,
     tiles: Tiles,
     bound: Bound,
     first: usize,
@@ -241,49 +365,63 @@ fn walk(
     if a == n {
         return Outcome::Fits(first);
     }
-    for (p, (&speed, end)) in (first + 1..).zip(speeds[first..last].iter().zip(&mut separators[first + 1..])) {
-        let Some(b) = part_end(tiles, a, speed, bound, *end as usize) else {
-            return Outcome::Fits(p);
+    let machines = speeds[first..last].iter().zip(&mut separators[first + 1..]);
+    for (p, ((&speed, end), hold)) in (first + 1..).zip(holds.beside(first, machines)) {
+        let near = hold.reach(tiles, a);
+        let b = match part_end(near, a, speed, bound, *end as usize) {
+            Some(b) => {
+                best = best.lesser(started_bound(tiles, a, b + 1, speed));
+                b
+            }
+            None if near.sums.len() > n => return Outcome::Fits(p),
+            None => near.sums.len() - 1,
         };
-        best = best.lesser(started_bound(tiles, a, b + 1, speed));
         *end = b as u32;
         a = b;
+    }
+    if !holds.of(last).keeps(a, n) {
+        return Outcome::Fails(best);
     }
     let rest = started_bound(tiles, a, n, speeds[last]);
     if rest.at_most(bound) { Outcome::Fits(last + 1) } else { Outcome::Fails(best.lesser(rest)) }
 }
 
 /// The walk of all machines.
-fn whole_walk(speeds: &[u32], tiles: Tiles, bound: Bound, separators: &mut [u32]) -> Outcome {
+fn whole_walk<H: Holds>(speeds: &[u32], holds: H, tiles: Tiles, bound: Bound, separators: &mut [u32]) -> Outcome {
     separators[0] = 0;
-    walk(speeds, tiles, bound, 0, Bound::ENDLESS, separators)
+    walk(speeds, holds, tiles, bound, 0, Bound::ENDLESS, separators)
 }
 
 /// The same; then the separators that the walk left become N.
-fn trial(speeds: &[u32], tiles: Tiles, bound: Bound, separators: &mut [u32]) -> Outcome {
-    let outcome = whole_walk(speeds, tiles, bound, separators);
+fn trial<H: Holds>(speeds: &[u32], holds: H, tiles: Tiles, bound: Bound, separators: &mut [u32]) -> Outcome {
+    let outcome = whole_walk(speeds, holds, tiles, bound, separators);
     let from = if let Outcome::Fits(machines) = outcome { machines } else { speeds.len() };
     separators[from..=speeds.len()].fill(tiles.sums.len() as u32 - 1);
     outcome
 }
 
-fn bidding(speeds: &[u32], tiles: Tiles, separators: &mut [u32]) -> Found {
+fn bidding<H: Holds>(speeds: &[u32], holds: H, tiles: Tiles, separators: &mut [u32]) -> Found {
     let mut bound = ideal(speeds, tiles.sums);
     let mut count = 1;
-    while let Outcome::Fails(next) = whole_walk(speeds, tiles, bound, separators) {
+    while let Outcome::Fails(next) = whole_walk(speeds, holds, tiles, bound, separators) {
         bound = next;
         count += 1;
     }
     Found { bound, count }
 }
 
-/// The first machine of a failed walk whose bid is at most the bound, and the least bid before it; the last machine bids all that
-/// remains.
-fn first_bidder(speeds: &[u32], tiles: Tiles, separators: &[u32], bound: Bound) -> (usize, Bound) {
+/// The first machine of a failed walk whose bid is at most the bound, and the least bid before it; machines at their holds do not bid,
+/// and the last one bids all that remains.
+fn first_bidder<H: Holds>(speeds: &[u32], holds: H, tiles: Tiles, separators: &[u32], bound: Bound) -> (usize, Bound) {
     let last = speeds.len() - 1;
     let mut best = Bound::ENDLESS;
-    for (p, (pair, &speed)) in separators.windows(2).zip(&speeds[..last]).enumerate() {
-        let bid = started_bound(tiles, pair[0] as usize, pair[1] as usize + 1, speed);
+    let machines = separators.windows(2).zip(&speeds[..last]);
+    for (p, ((pair, &speed), hold)) in holds.beside(0, machines).enumerate() {
+        let (a, b) = (pair[0] as usize, pair[1] as usize);
+        if hold.is_full(a, b) {
+            continue;
+        }
+        let bid = started_bound(tiles, a, b + 1, speed);
         if bid.at_most(bound) {
             return (p, best);
         }
@@ -293,16 +431,16 @@ fn first_bidder(speeds: &[u32], tiles: Tiles, separators: &[u32], bound: Bound) 
 }
 
 /// Bidding whose walks begin at the first machine whose separator moves.
-fn bidding_resumed(speeds: &[u32], tiles: Tiles, separators: &mut [u32]) -> Found {
+fn bidding_resumed<H: Holds>(speeds: &[u32], holds: H, tiles: Tiles, separators: &mut [u32]) -> Found {
     let mut bound = ideal(speeds, tiles.sums);
     let mut count = 1;
     let mut first = 0;
     let mut best = Bound::ENDLESS;
     separators[0] = 0;
-    while let Outcome::Fails(next) = walk(speeds, tiles, bound, first, best, separators) {
+    while let Outcome::Fails(next) = walk(speeds, holds, tiles, bound, first, best, separators) {
         bound = next;
         count += 1;
-        (first, best) = first_bidder(speeds, tiles, separators, bound);
+        (first, best) = first_bidder(speeds, holds, tiles, separators, bound);
     }
     Found { bound, count }
 }
@@ -349,16 +487,28 @@ fn quick(speeds: &[u32], sums: &[u32], separators: &mut [u32]) {
     separators[last + 1] = n as u32;
 }
 
-fn bisection(speeds: &[u32], tiles: Tiles, separators: &mut [u32]) -> Found {
+/// Where bisection's high end starts: at the quick plan's bottleneck, whose separators are a hint then; with holds at that of all tiles on
+/// the slowest machine.
+fn high_end<H: Holds>(speeds: &[u32], tiles: Tiles, separators: &mut [u32]) -> Bound {
+    if H::SET {
+        return Bound {
+            load: tiles.startup as u64 + tiles.sums[tiles.sums.len() - 1] as u64,
+            speed: speeds.iter().copied().min().unwrap_or(1) as u64,
+        };
+    }
+    quick(speeds, tiles.sums, separators);
+    bottleneck(speeds, tiles, separators)
+}
+
+fn bisection<H: Holds>(speeds: &[u32], holds: H, tiles: Tiles, separators: &mut [u32]) -> Found {
     let bound = ideal(speeds, tiles.sums);
     let mut count = 1;
-    let Outcome::Fails(mut low) = trial(speeds, tiles, bound, separators) else {
+    let Outcome::Fails(mut low) = trial(speeds, holds, tiles, bound, separators) else {
         return Found { bound, count };
     };
-    quick(speeds, tiles.sums, separators);
-    let mut high = bottleneck(speeds, tiles, separators);
+    let mut high = high_end::<H>(speeds, tiles, separators);
     while !high.at_most(low) {
-        match trial(speeds, tiles, low.midpoint(high), separators) {
+        match trial(speeds, holds, tiles, low.midpoint(high), separators) {
             Outcome::Fits(_) => high = bottleneck(speeds, tiles, separators),
             Outcome::Fails(next) => low = next,
         }
@@ -428,9 +578,9 @@ fn entry(pair: [u32; 2]) -> Bound {
     }
 }
 
-/// Fills the row of a machine of this speed from the row before it, and gives the moves of its pointer. At i itself the part has no
-/// tile, so the pointer stops there at the latest. By index, not by iterators: so there are fewer bounds checks.
-fn fill_row(tiles: Tiles, speed: u32, before: &[[u32; 2]], row: &mut [[u32; 2]]) -> u32 {
+/// Fills the row of a machine of this speed and hold from the row before it, and gives the moves of its pointer. At i itself the part has
+/// no tile, so the pointer stops there at the latest. By index, not by iterators: so there are fewer bounds checks.
+fn fill_row(tiles: Tiles, speed: u32, hold: impl Hold, before: &[[u32; 2]], row: &mut [[u32; 2]]) -> u32 {
     let sums = tiles.sums;
     let before = &before[..sums.len()];
     let row = &mut row[..sums.len()];
@@ -438,19 +588,21 @@ fn fill_row(tiles: Tiles, speed: u32, before: &[[u32; 2]], row: &mut [[u32; 2]])
     for i in 0..sums.len() {
         let started = tiles.startup + sums[i];
         let part = |a: usize| Bound { load: (started - sums[a]) as u64, speed: speed as u64 };
+        let start = hold.start(i);
+        at = at.max(start);
         while at < i && !part(at).at_most(entry(before[at])) {
             at += 1;
         }
         row[i] = before[at];
-        if at > 0 && !entry(before[at]).at_most(part(at - 1)) {
+        if at > start && !entry(before[at]).at_most(part(at - 1)) {
             row[i] = [started - sums[at - 1], speed];
         }
     }
     at as u32
 }
 
-/// The table; `rows` is room for two rows of N + 1 pairs.
-fn table(speeds: &[u32], tiles: Tiles, rows: &mut [u32]) -> Found {
+/// The table; `rows` is room for two rows of N + 1 pairs. An entry without a division is 1/0.
+fn table<H: Holds>(speeds: &[u32], holds: H, tiles: Tiles, rows: &mut [u32]) -> Found {
     let sums = tiles.sums;
     let (first, second) = rows.split_at_mut(2 * sums.len());
     let mut row = first.as_chunks_mut::<2>().0;
@@ -459,9 +611,10 @@ fn table(speeds: &[u32], tiles: Tiles, rows: &mut [u32]) -> Found {
         *slot = [tiles.startup + sum, speeds[0]];
     }
     row[0][0] = 0;
+    row[holds.of(0).reach(tiles, 0).sums.len()..sums.len()].fill([1, 0]);
     let mut count = 0;
-    for &speed in &speeds[1..] {
-        count += fill_row(tiles, speed, row, other);
+    for (&speed, hold) in holds.beside(1, speeds[1..].iter()) {
+        count += fill_row(tiles, speed, hold, row, other);
         std::mem::swap(&mut row, &mut other);
     }
     Found {
@@ -470,17 +623,19 @@ fn table(speeds: &[u32], tiles: Tiles, rows: &mut [u32]) -> Found {
     }
 }
 
-fn allowance(method: Method, second: bool, startup: u32, speeds: &[u32], weights: &[u32]) -> u32 {
+/// For bisection the heaviest weight counts, with holds all weight.
+fn allowance<H: Holds>(method: Method, second: bool, tiles: Tiles, speeds: &[u32], weights: &[u32]) -> u32 {
     let moves = ((speeds.len() - 1) * weights.len()) as u32;
     match method {
         Method::Table => moves,
         Method::Bidding | Method::BiddingResumed if second && speeds.len() == 1 => 2,
         Method::Bidding | Method::BiddingResumed => moves + 1,
         Method::Bisection => {
-            let heaviest = weights.iter().copied().max().unwrap_or(0) as u64 + startup as u64;
+            let most = if H::SET { tiles.sums[weights.len()] } else { weights.iter().copied().max().unwrap_or(0) };
+            let breadth = most as u64 + tiles.startup as u64;
             let fastest = speeds.iter().copied().max().unwrap_or(0) as u64;
             let slowest = speeds.iter().copied().min().unwrap_or(1) as u64;
-            1 + (64 - (heaviest * (fastest * fastest) / slowest).leading_zeros())
+            1 + (64 - (breadth * (fastest * fastest) / slowest).leading_zeros())
         }
         Method::Nicol | Method::NicolByWalk => (speeds.len() - 1) as u32 * (usize::BITS - weights.len().leading_zeros()),
     }
@@ -495,39 +650,66 @@ pub fn imbalance(speeds: &[u32], total: u64, bottleneck: Bound) -> u64 {
     (1000 * (bottleneck.load * total_speed(speeds) - ideal)).div_ceil(ideal)
 }
 
+/// A plan by a method, where the job and the lists are as they must be. Nicol's search is for jobs without holds.
+fn plan_in<H: Holds>(
+    method: Method,
+    second: bool,
+    startup: u32,
+    speeds: &[u32],
+    holds: H,
+    weights: &[u32],
+    separators: &mut [u32],
+    scratch: &mut [u32],
+) -> Figures {
+    let (front, rows) = scratch.split_at_mut(weights.len() + 1);
+    let tiles = Tiles::new(effective(second, startup), weights, front);
+    let found = match method {
+        Method::Table => table(speeds, holds, tiles, rows),
+        Method::Bidding => bidding(speeds, holds, tiles, separators),
+        Method::BiddingResumed => bidding_resumed(speeds, holds, tiles, separators),
+        Method::Bisection => bisection(speeds, holds, tiles, separators),
+        Method::Nicol | Method::NicolByWalk if H::SET => unreachable!("refused with holds"),
+        Method::Nicol => nicol(speeds, tiles, separators, fits),
+        Method::NicolByWalk => {
+            nicol(speeds, tiles, separators, |e, s, b, to| matches!(whole_walk(e, Free, s, b, to), Outcome::Fits(_)))
+        }
+    };
+    trial(speeds, holds, tiles, found.bound, separators);
+    let bottleneck = bottleneck(speeds, tiles, separators);
+    Figures {
+        count: found.count,
+        allowance: allowance::<H>(method, second, tiles, speeds, weights),
+        bottleneck,
+        imbalance: imbalance(speeds, tiles.sums[weights.len()] as u64, bottleneck),
+    }
+}
+
 /// A plan by a method.
 pub fn plan(
     method: Method,
     second: bool,
     startup: u32,
     speeds: &[u32],
+    holds: &[u16],
     weights: &[u32],
     separators: &mut [u32],
     scratch: &mut [u32],
 ) -> Result<Figures, u32> {
     test_job(second, startup, speeds, weights)?;
-    if separators.len() <= speeds.len() || scratch.len() < 5 * (weights.len() + 1) {
+    if holds.len() < speeds.len() || separators.len() <= speeds.len() || scratch.len() < 5 * (weights.len() + 1) {
         return Err(9);
     }
-    let (front, rows) = scratch.split_at_mut(weights.len() + 1);
-    let startup = effective(second, startup);
-    let tiles = Tiles::new(startup, weights, front);
-    let found = match method {
-        Method::Table => table(speeds, tiles, rows),
-        Method::Bidding => bidding(speeds, tiles, separators),
-        Method::BiddingResumed => bidding_resumed(speeds, tiles, separators),
-        Method::Bisection => bisection(speeds, tiles, separators),
-        Method::Nicol => nicol(speeds, tiles, separators, fits),
-        Method::NicolByWalk => nicol(speeds, tiles, separators, |e, s, b, to| matches!(whole_walk(e, s, b, to), Outcome::Fits(_))),
-    };
-    trial(speeds, tiles, found.bound, separators);
-    let bottleneck = bottleneck(speeds, tiles, separators);
-    Ok(Figures {
-        count: found.count,
-        allowance: allowance(method, second, startup, speeds, weights),
-        bottleneck,
-        imbalance: imbalance(speeds, tiles.sums[weights.len()] as u64, bottleneck),
-    })
+    let holds = &holds[..speeds.len()];
+    if !is_held(holds) {
+        return Ok(plan_in(method, second, startup, speeds, Free, weights, separators, scratch));
+    }
+    if !enough(holds, weights.len()) {
+        return Err(17);
+    }
+    if matches!(method, Method::Nicol | Method::NicolByWalk) {
+        return Err(18);
+    }
+    Ok(plan_in(method, second, startup, speeds, holds, weights, separators, scratch))
 }
 
 /// The quick plan and its bottleneck.
@@ -535,12 +717,16 @@ pub fn heuristic(
     second: bool,
     startup: u32,
     speeds: &[u32],
+    holds: &[u16],
     weights: &[u32],
     separators: &mut [u32],
 ) -> Result<Bound, u32> {
     test_job(second, startup, speeds, weights)?;
-    if separators.len() <= speeds.len() {
+    if holds.len() < speeds.len() || separators.len() <= speeds.len() {
         return Err(9);
+    }
+    if is_held(&holds[..speeds.len()]) {
+        return Err(18);
     }
     let mut room = [0; MAX_TASKS + 1];
     let tiles = Tiles::new(effective(second, startup), weights, &mut room);
@@ -611,6 +797,7 @@ fn halved(
     second: bool,
     startup: u32,
     speeds: &[u32],
+    holds: &[u16],
     weights: &[u32],
     separators: &mut [u32],
     halve: impl Fn(&[u32], &mut [u32]),
@@ -619,8 +806,11 @@ fn halved(
     if !speeds.len().is_power_of_two() || !each_between(speeds[0], speeds[0], speeds) {
         return Err(14);
     }
-    if separators.len() <= speeds.len() {
+    if holds.len() < speeds.len() || separators.len() <= speeds.len() {
         return Err(9);
+    }
+    if is_held(&holds[..speeds.len()]) {
+        return Err(18);
     }
     let mut room = [0; MAX_TASKS + 1];
     let sums = prefix_sums(weights, &mut room);
@@ -640,10 +830,11 @@ pub fn halving(
     second: bool,
     startup: u32,
     speeds: &[u32],
+    holds: &[u16],
     weights: &[u32],
     separators: &mut [u32],
 ) -> Result<Bound, u32> {
-    halved(second, startup, speeds, weights, separators, halve_levels)
+    halved(second, startup, speeds, holds, weights, separators, halve_levels)
 }
 
 /// Halving the row, one side after the other.
@@ -651,40 +842,57 @@ pub fn halving_by_sides(
     second: bool,
     startup: u32,
     speeds: &[u32],
+    holds: &[u16],
     weights: &[u32],
     separators: &mut [u32],
 ) -> Result<Bound, u32> {
-    halved(second, startup, speeds, weights, separators, |sums, separators| {
+    halved(second, startup, speeds, holds, weights, separators, |sums, separators| {
         separators[0] = 0;
         halve_sides(sums, 0, sums.len() - 1, &mut separators[1..]);
     })
 }
 
-/// The trial at a lent bound. It writes the separators whether it fits or fails, as the last one how far the last machine reaches.
+/// The trial at a bound; as the last separator it writes how far the last machine reaches.
+fn probe_in<H: Holds>(speeds: &[u32], holds: H, tiles: Tiles, bound: Bound, separators: &mut [u32]) -> Outcome {
+    let outcome = trial(speeds, holds, tiles, bound, separators);
+    if let Outcome::Fails(_) = outcome {
+        let last = speeds.len() - 1;
+        let a = separators[last] as usize;
+        let near = holds.of(last).reach(tiles, a);
+        separators[last + 1] = part_end(near, a, speeds[last], bound, a).unwrap_or(near.sums.len() - 1) as u32;
+    }
+    outcome
+}
+
+/// The trial at a lent bound. It writes the separators whether it fits or fails.
 pub fn probe(
     second: bool,
     startup: u32,
     speeds: &[u32],
+    holds: &[u16],
     weights: &[u32],
     bound: Bound,
     separators: &mut [u32],
 ) -> Result<Outcome, u32> {
     test_job(second, startup, speeds, weights)?;
-    if separators.len() <= speeds.len() {
+    if holds.len() < speeds.len() || separators.len() <= speeds.len() {
         return Err(9);
+    }
+    let holds = &holds[..speeds.len()];
+    let held = is_held(holds);
+    if held && !enough(holds, weights.len()) {
+        return Err(17);
     }
     if bound.load > MAX_BOUND_LOAD || bound.speed == 0 || bound.speed > MAX_BOUND_SPEED {
         return Err(10);
     }
     let mut room = [0; MAX_TASKS + 1];
     let tiles = Tiles::new(effective(second, startup), weights, &mut room);
-    let outcome = trial(speeds, tiles, bound, separators);
-    if let Outcome::Fails(_) = outcome {
-        let last = speeds.len() - 1;
-        let a = separators[last] as usize;
-        separators[last + 1] = part_end(tiles, a, speeds[last], bound, a).unwrap_or(weights.len()) as u32;
-    }
-    Ok(outcome)
+    Ok(if held {
+        probe_in(speeds, holds, tiles, bound, separators)
+    } else {
+        probe_in(speeds, Free, tiles, bound, separators)
+    })
 }
 
 /// The four fields of a record of a plan file: the separators before and behind its part, the part's load, the machine's speed.
@@ -714,6 +922,12 @@ fn divides(separators: &[u32], tasks: usize) -> bool {
     rising && separators[separators.len() - 1] as usize == tasks
 }
 
+/// Whether each part of a division keeps the hold of its machine.
+fn keeps(holds: &[u16], separators: &[u32]) -> bool {
+    let parts = separators.windows(2).zip(holds);
+    parts.fold(true, |all, (pair, &hold)| all & ((pair[1] - pair[0]) as usize <= most(hold)))
+}
+
 /// Whether each record has the load of its part and the speed of its machine.
 fn records_true(speeds: &[u32], tiles: Tiles, separators: &[u32], records: &[[u8; PLAN_RECORD]]) -> bool {
     let parts = separators.windows(2).zip(speeds);
@@ -725,15 +939,27 @@ fn records_true(speeds: &[u32], tiles: Tiles, separators: &[u32], records: &[[u8
 
 /// The grade of a plan file: best where no division has a smaller bottleneck. The bisection writes over the plan's separators,
 /// which are its first hint.
-pub fn grade(second: bool, startup: u32, speeds: &[u32], weights: &[u32], plan: &[u8]) -> Result<Grade, u32> {
+pub fn grade(
+    second: bool,
+    startup: u32,
+    speeds: &[u32],
+    holds: &[u16],
+    weights: &[u32],
+    plan: &[u8],
+) -> Result<Grade, u32> {
     test_job(second, startup, speeds, weights)?;
+    if holds.len() < speeds.len() {
+        return Err(9);
+    }
+    let holds = &holds[..speeds.len()];
+    let held = is_held(holds);
     if plan.len() != PLAN_RECORD * speeds.len() {
         return Err(12);
     }
     let records = plan.as_chunks::<PLAN_RECORD>().0;
     let mut list = [0; MAX_PROCESSORS + 1];
     let separators = &mut list[..=speeds.len()];
-    if !read_separators(records, separators) || !divides(separators, weights.len()) {
+    if !read_separators(records, separators) || !divides(separators, weights.len()) || (held && !keeps(holds, separators)) {
         return Err(11);
     }
     let mut room = [0; MAX_TASKS + 1];
@@ -742,7 +968,11 @@ pub fn grade(second: bool, startup: u32, speeds: &[u32], weights: &[u32], plan: 
         return Err(13);
     }
     let measured = bottleneck(speeds, tiles, separators);
-    let least = bisection(speeds, tiles, separators).bound;
+    let least = if held {
+        bisection(speeds, holds, tiles, separators).bound
+    } else {
+        bisection(speeds, Free, tiles, separators).bound
+    };
     Ok(if measured.at_most(least) { Grade::Best } else { Grade::Valid })
 }
 

@@ -1,5 +1,5 @@
-//! Records: a line each, fields parted by tabs: kind, name, the six fields of the shape, and a value for each job.
-use crate::jobs::{Family, Shape};
+//! Records: a line each, fields parted by tabs: kind, name, the seven fields of the shape, and a value for each job.
+use crate::jobs::{Family, Holds, Shape};
 use std::collections::HashMap;
 
 /// What a record is about: its kind (`time` in nanoseconds, `ratio` of times, the same ratio by the place of the code, `count` of
@@ -14,12 +14,13 @@ pub fn placed(placement: &str) -> String {
 pub fn write(kind: &str, name: &str, shape: Shape, values: &[f64]) {
     let values: Vec<String> = values.iter().map(|value| value.to_string()).collect();
     println!(
-        "{kind}\t{name}\t{}\t{}\t{}\t{}\t{}\t{}\t{}",
+        "{kind}\t{name}\t{}\t{}\t{}\t{}\t{}\t{}\t{}\t{}",
         shape.family.name(),
         shape.tasks,
         shape.processors,
         shape.fastest,
         shape.startup,
+        shape.holds.name(),
         shape.machines,
         values.join(" ")
     );
@@ -73,7 +74,7 @@ impl Records {
 
 fn parse(line: &str) -> Option<(Key, Vec<f64>)> {
     let fields: Vec<&str> = line.split('\t').collect();
-    let [kind, name, family, tasks, processors, fastest, startup, machines, values] = fields[..] else {
+    let [kind, name, family, tasks, processors, fastest, startup, holds, machines, values] = fields[..] else {
         return None;
     };
     let shape = Shape {
@@ -82,6 +83,7 @@ fn parse(line: &str) -> Option<(Key, Vec<f64>)> {
         processors: processors.parse().ok()?,
         fastest: fastest.parse().ok()?,
         startup: startup.parse().ok()?,
+        holds: Holds::named(holds)?,
         machines: machines.parse().ok()?,
     };
     let values = values.split(' ').map(|value| value.parse().ok()).collect::<Option<Vec<f64>>>()?;

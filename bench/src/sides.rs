@@ -8,6 +8,8 @@ extern "C" {
         startup: u32,
         speeds: *const u32,
         speeds_len: usize,
+        holds: *const u16,
+        holds_len: usize,
         weights: *const u32,
         weights_len: usize,
         separators: *mut u32,
@@ -21,6 +23,8 @@ extern "C" {
         startup: u32,
         speeds: *const u32,
         speeds_len: usize,
+        holds: *const u16,
+        holds_len: usize,
         weights: *const u32,
         weights_len: usize,
         separators: *mut u32,
@@ -34,6 +38,8 @@ extern "C" {
         startup: u32,
         speeds: *const u32,
         speeds_len: usize,
+        holds: *const u16,
+        holds_len: usize,
         weights: *const u32,
         weights_len: usize,
         load: u64,
@@ -50,6 +56,8 @@ extern "C" {
         startup: u32,
         speeds: *const u32,
         speeds_len: usize,
+        holds: *const u16,
+        holds_len: usize,
         weights: *const u32,
         weights_len: usize,
         separators: *mut u32,
@@ -65,6 +73,8 @@ extern "C" {
         startup: u32,
         speeds: *const u32,
         speeds_len: usize,
+        holds: *const u16,
+        holds_len: usize,
         weights: *const u32,
         weights_len: usize,
         plan: *const u8,
@@ -95,11 +105,12 @@ impl Room {
     }
 }
 
-/// A job by lists, of either edition, the bound at which its single trial is made, and the plan file that is graded.
+/// A job by lists, of either edition, with holds or without (all 0), the bound at which its single trial is made, and the plan file that is graded.
 pub struct Job {
     pub second: bool,
     pub startup: u32,
     pub speeds: Vec<u32>,
+    pub holds: Vec<u16>,
     pub weights: Vec<u32>,
     pub trial: Bound,
     pub plan: Vec<u8>,
@@ -117,6 +128,8 @@ fn planner_plan(method: u32, job: &Job, room: &mut Room) -> u32 {
             job.startup,
             job.speeds.as_ptr(),
             job.speeds.len(),
+            job.holds.as_ptr(),
+            job.holds.len(),
             job.weights.as_ptr(),
             job.weights.len(),
             room.separators.as_mut_ptr(),
@@ -153,9 +166,11 @@ pub fn planner_nicol(job: &Job, room: &mut Room) -> u32 {
     planner_plan(4, job, room)
 }
 
-/// A call that divides a job: its edition and start-up work; then speeds, weights, separators and answer, each a pointer and a length.
+/// A call that divides a job: its edition and start-up work; then speeds, holds, weights, separators and answer, each a pointer and a
+/// length.
+#[rustfmt::skip]
 type Divide =
-    unsafe extern "C" fn(bool, u32, *const u32, usize, *const u32, usize, *mut u32, usize, *mut u64, usize) -> u32;
+    unsafe extern "C" fn(bool, u32, *const u32, usize, *const u16, usize, *const u32, usize, *mut u32, usize, *mut u64, usize) -> u32;
 
 #[inline(always)]
 fn planner_divides(call: Divide, job: &Job, room: &mut Room) -> u32 {
@@ -166,6 +181,8 @@ fn planner_divides(call: Divide, job: &Job, room: &mut Room) -> u32 {
             job.startup,
             job.speeds.as_ptr(),
             job.speeds.len(),
+            job.holds.as_ptr(),
+            job.holds.len(),
             job.weights.as_ptr(),
             job.weights.len(),
             room.separators.as_mut_ptr(),
@@ -198,6 +215,8 @@ pub fn planner_trial(job: &Job, room: &mut Room) -> u32 {
             job.startup,
             job.speeds.as_ptr(),
             job.speeds.len(),
+            job.holds.as_ptr(),
+            job.holds.len(),
             job.weights.as_ptr(),
             job.weights.len(),
             job.trial.load,
@@ -220,6 +239,8 @@ pub fn planner_grade(job: &Job, room: &mut Room) -> u32 {
             job.startup,
             job.speeds.as_ptr(),
             job.speeds.len(),
+            job.holds.as_ptr(),
+            job.holds.len(),
             job.weights.as_ptr(),
             job.weights.len(),
             job.plan.as_ptr(),
@@ -238,6 +259,7 @@ fn plain_plan(method: Method, job: &Job, room: &mut Room) -> u32 {
         job.second,
         job.startup,
         &job.speeds,
+        &job.holds,
         &job.weights,
         &mut room.separators,
         &mut room.scratch,
@@ -309,28 +331,28 @@ fn plain_bottleneck(answered: Result<Bound, u32>, room: &mut Room) -> u32 {
 #[no_mangle]
 #[inline(never)]
 pub fn plain_quick(job: &Job, room: &mut Room) -> u32 {
-    let answered = plain::heuristic(job.second, job.startup, &job.speeds, &job.weights, &mut room.separators);
+    let answered = plain::heuristic(job.second, job.startup, &job.speeds, &job.holds, &job.weights, &mut room.separators);
     plain_bottleneck(answered, room)
 }
 
 #[no_mangle]
 #[inline(never)]
 pub fn plain_halving(job: &Job, room: &mut Room) -> u32 {
-    let answered = plain::halving(job.second, job.startup, &job.speeds, &job.weights, &mut room.separators);
+    let answered = plain::halving(job.second, job.startup, &job.speeds, &job.holds, &job.weights, &mut room.separators);
     plain_bottleneck(answered, room)
 }
 
 #[no_mangle]
 #[inline(never)]
 pub fn plain_halvingsides(job: &Job, room: &mut Room) -> u32 {
-    let answered = plain::halving_by_sides(job.second, job.startup, &job.speeds, &job.weights, &mut room.separators);
+    let answered = plain::halving_by_sides(job.second, job.startup, &job.speeds, &job.holds, &job.weights, &mut room.separators);
     plain_bottleneck(answered, room)
 }
 
 #[no_mangle]
 #[inline(never)]
 pub fn plain_trial(job: &Job, room: &mut Room) -> u32 {
-    match plain::probe(job.second, job.startup, &job.speeds, &job.weights, job.trial, &mut room.separators) {
+    match plain::probe(job.second, job.startup, &job.speeds, &job.holds, &job.weights, job.trial, &mut room.separators) {
         Err(number) => number,
         Ok(Outcome::Fits(machines)) => {
             room.answer[0] = 1;
@@ -349,7 +371,7 @@ pub fn plain_trial(job: &Job, room: &mut Room) -> u32 {
 #[no_mangle]
 #[inline(never)]
 pub fn plain_grade(job: &Job, room: &mut Room) -> u32 {
-    match plain::grade(job.second, job.startup, &job.speeds, &job.weights, &job.plan) {
+    match plain::grade(job.second, job.startup, &job.speeds, &job.holds, &job.weights, &job.plan) {
         Err(number) => number,
         Ok(grade) => {
             room.answer[0] = match grade {

@@ -1,32 +1,39 @@
 //! The tables of docs/BENCHMARKS.md and the further ones of target/benchmarks.md, from the records of a run.
-use crate::jobs::{Family, Shape, Size, FRONT};
+use crate::contest::CONTESTS;
+use crate::jobs::{Family, Holds, Shape, Size, FRONT};
 use crate::measure::{
-    growth_with_processors, growth_with_tasks, long_row, planned_strips, short_row, short_strips, FASTEST, HALVED_SIZES, LARGEST, PLACEMENTS,
-    ROW_PROCESSORS, SECOND_FASTEST, SIZES, STARTUP,
+    growth_with_processors, growth_with_tasks, long_row, planned_strips, short_row, short_strips, FASTEST, HALVED_SIZES, HELD_FASTEST, LARGEST,
+    PLACEMENTS, ROW_PROCESSORS, SECOND_FASTEST, SIZES, STARTUP,
 };
 use crate::records::{self, Records};
 
-/// The shapes of a ratio: every family with these sizes and ranges of speeds, with this start-up work.
+/// The shapes of a ratio: every family with these sizes and ranges of speeds, with this start-up work and these holds.
 #[derive(Clone, Copy)]
 struct Span {
     sizes: [Size; 3],
     fastest: &'static [u32],
     startup: u32,
+    holds: Holds,
 }
 
-const ALL: Span = Span { sizes: SIZES, fastest: &FASTEST, startup: 0 };
-const HALVED: Span = Span { sizes: HALVED_SIZES, fastest: &[1], startup: 0 };
+const ALL: Span = Span { sizes: SIZES, fastest: &FASTEST, startup: 0, holds: Holds::None };
+const HALVED: Span = Span { sizes: HALVED_SIZES, fastest: &[1], startup: 0, holds: Holds::None };
 
 impl Span {
     fn shapes(self) -> impl Iterator<Item = Shape> {
         let shapes = self.sizes.into_iter().flat_map(move |size| shapes(size, self.fastest));
-        shapes.map(move |shape| Shape { startup: self.startup, ..shape })
+        shapes.map(move |shape| Shape { startup: self.startup, holds: self.holds, ..shape })
     }
 
     /// The shapes of the second edition beside these.
     fn second(self) -> Span {
         let fastest: &'static [u32] = if self.fastest == [1] { &[1] } else { &[SECOND_FASTEST] };
         Span { fastest, startup: STARTUP, ..self }
+    }
+
+    /// The shapes with these holds beside them.
+    fn held(self, holds: Holds) -> Span {
+        Span { fastest: &[HELD_FASTEST], holds, ..self }
     }
 }
 
@@ -156,12 +163,20 @@ fn least(values: &[f64]) -> f64 {
     values.iter().copied().fold(f64::MAX, f64::min)
 }
 
+/// Whether a ratio is of jobs with holds too.
+fn is_held(planner: &str) -> bool {
+    CONTESTS.iter().any(|contest| contest.held && contest.sides[0].0 == planner)
+}
+
 /// The geometric mean, the least and the greatest over the shapes of each ratio, and the greatest single pass.
 fn summary(records: &Records, of: fn(Span) -> Span) {
     head(&texts(&["", "time: mean", "least", "greatest", "greatest single pass", "instructions: mean", "least", "greatest"]));
     for (title, planner, plain, span) in RATIOS {
         let mut cells = vec![title.to_string()];
         let span = of(span);
+        if span.holds != Holds::None && !is_held(planner) {
+            continue;
+        }
         for kind in KINDS {
             let all: Vec<f64> = span.shapes().map(|shape| ratio(records, kind, planner, plain, shape)).collect();
             cells.extend([geometric_mean(&all), least(&all), greatest(&all)].map(|value| format!("{value:.2}")));
@@ -406,6 +421,10 @@ pub fn print_summary(files: &[String]) {
     summary(&records, |span| span);
     println!("The same for jobs of the second edition, with start-up work {STARTUP}: speeds 1–{SECOND_FASTEST}, of halving equal ones; 9 shapes each.\n");
     summary(&records, Span::second);
+    println!("The same for jobs with holds, on every machine half as many tiles more as there are to a machine: speeds 1–{HELD_FASTEST}, 9 shapes.\n");
+    summary(&records, |span| span.held(Holds::All));
+    println!("The same with every eighth machine, the last one among them, holding a quarter of the tiles that there are to a machine.\n");
+    summary(&records, |span| span.held(Holds::Few));
     println!("Quick plan, halving and best plan on rows of equal machines with the most tiles: imbalance in thousandths, rounded up, the mean of");
     println!("64 jobs; on how many of the 64 a quick plan's bottleneck is the best plan's, and on how many it is smaller than the other one's;");
     println!("the planner's time in microseconds, the mean of the first {TIMED} jobs.\n");

@@ -1,7 +1,7 @@
 /* A fuzz target of plan_job and grade_plan. The first two bytes choose the method and the buffers, the next two what is graded: the
  * plan that plan_job wrote with a small change, or so many bytes from the end of the input; the rest is the job file. The answers are
- * judged by the rules of the scope and of requests M-102 and M-106 alone: the numbers by a reader of its own, a plan by what makes it the
- * only best one, a grade by whether a walk stays strictly below the plan's bottleneck. */
+ * judged by the rules of the scope and of requests M-102, M-106 and M-108 alone: the numbers by a reader of its own, a plan by what makes
+ * it the only best one, a grade by whether a walk stays strictly below the plan's bottleneck. */
 #include <stdio.h>
 #include <stdlib.h>
 #include <string.h>
@@ -24,35 +24,68 @@ static uint32_t field(const uint8_t *at) {
 }
 
 struct job {
-    uint32_t startup, machines, tiles, speeds[PELSHAQU_MAX_MACHINES + 1], weights[TILES + 1];
+    uint32_t startup, machines, tiles, speeds[PELSHAQU_MAX_MACHINES + 1], holds[PELSHAQU_MAX_MACHINES + 1], weights[TILES + 1];
 };
 
 /* The tests of one record; a good one is added as far as there is room. */
 static uint32_t take(struct job *job, const uint8_t *r, int first) {
     uint32_t value = field(r + 4);
-    if ((r[0] != 1 && r[0] != 2 && r[0] != 3) || r[1] || r[2] || r[3]) return 3;
+    if ((r[0] != 1 && r[0] != 2 && r[0] != 3) || r[1] || (r[0] != 1 && (r[2] || r[3]))) return 3;
     if (r[0] == 1 && job->tiles) return 4;
     if (r[0] == 3 && !first) return 15;
     if (r[0] == 1 && (value < 1 || value > 10000)) return 5;
     if (r[0] == 2 && value > 1000000) return 6;
     if (r[0] == 3 && value > 1000000) return 16;
     if (r[0] == 3) job->startup = value;
-    if (r[0] == 1 && job->machines++ < PELSHAQU_MAX_MACHINES) job->speeds[job->machines - 1] = value;
+    if (r[0] == 1 && job->machines++ < PELSHAQU_MAX_MACHINES) {
+        job->speeds[job->machines - 1] = value;
+        job->holds[job->machines - 1] = r[2] | (uint32_t)r[3] << 8;
+    }
     if (r[0] == 2 && job->tiles++ < TILES) job->weights[job->tiles - 1] = value;
     return 0;
 }
 
-static uint32_t judge(struct job *job, const uint8_t *file, size_t len, uint32_t method, size_t plan_len) {
+/* What the file alone gives. */
+static uint32_t judge_file(struct job *job, const uint8_t *file, size_t len) {
     job->startup = job->machines = job->tiles = 0;
-    if (method < 1 || method > 4) return 1;
     if (len % 8) return 2;
     for (size_t i = 0; i < len; i += 8) {
         uint32_t number = take(job, file + i, i == 0);
         if (number) return number;
     }
     if (job->machines < 1 || job->machines > PELSHAQU_MAX_MACHINES) return 7;
-    if (job->tiles > TILES) return 8;
-    return plan_len < 16 * (size_t)job->machines ? 9 : 0;
+    return job->tiles > TILES ? 8 : 0;
+}
+
+/* Whether the job has holds, and whether they are all limited and add up to less than the tiles. */
+static int held(const struct job *job) {
+    for (uint32_t p = 0; p < job->machines; p++) {
+        if (job->holds[p]) return 1;
+    }
+    return 0;
+}
+
+static int short_of(const struct job *job) {
+    uint32_t sum = 0;
+    for (uint32_t p = 0; p < job->machines; p++) {
+        if (!job->holds[p]) return 0;
+        sum += job->holds[p];
+    }
+    return sum < job->tiles;
+}
+
+static uint32_t judge(struct job *job, const uint8_t *file, size_t len, uint32_t method, size_t plan_len) {
+    if (method < 1 || method > 4) return 1;
+    uint32_t number = judge_file(job, file, len);
+    if (number) return number;
+    if (plan_len < 16 * (size_t)job->machines) return 9;
+    if (short_of(job)) return 17;
+    return method == 4 && held(job) ? 18 : 0;
+}
+
+/* Whether machine p holds the tiles from + 1 to to. */
+static int keeps(const struct job *job, uint32_t p, uint32_t from, uint32_t to) {
+    return !job->holds[p] || to - from <= job->holds[p];
 }
 
 /* The load of tiles from + 1 to to: the start-up work and their weight, 0 where there are none. */
@@ -68,13 +101,14 @@ static int walk(const struct job *job, unsigned __int128 load, unsigned __int128
     for (uint32_t p = 0; p < job->machines; p++) {
         unsigned __int128 sum = 0;
         int last = p + 1 == job->machines;
-        for (uint32_t from = at; at < job->tiles; at++) {
+        uint32_t from = at;
+        for (; at < job->tiles; at++) {
             unsigned __int128 longer = sum + job->weights[at] + (at == from ? job->startup : 0), most = load * job->speeds[p];
-            if (!last && (equal ? longer * speed > most : longer * speed >= most)) break;
+            if (!last && (!keeps(job, p, from, at + 1) || (equal ? longer * speed > most : longer * speed >= most))) break;
             sum = longer;
         }
         separators[p] = at;
-        if (last && (equal ? sum * speed > load * job->speeds[p] : sum * speed >= load * job->speeds[p])) return 0;
+        if (last && (!keeps(job, p, from, at) || (equal ? sum * speed > load * job->speeds[p] : sum * speed >= load * job->speeds[p]))) return 0;
     }
     return 1;
 }
@@ -86,6 +120,7 @@ static void best(const struct job *job, const uint8_t *plan) {
     for (uint32_t p = 0; p < job->machines; p++, plan += 16) {
         uint32_t to = field(plan + 4), sum;
         must(field(plan) == before && to >= before && to <= job->tiles, "no division");
+        must(keeps(job, p, before, to), "a hold is broken");
         sum = load_of(job, before, to);
         must(field(plan + 8) == sum && field(plan + 12) == job->speeds[p], "a wrong load or speed");
         if ((unsigned __int128)sum * speed > load * job->speeds[p]) load = sum, speed = job->speeds[p];
@@ -105,7 +140,7 @@ static uint32_t judge_plan(const struct job *job, const uint8_t *plan, size_t le
     if (len != 16 * (size_t)job->machines) return 12;
     for (uint32_t p = 0; p < job->machines; p++) {
         uint32_t from = field(plan + 16 * p), to = field(plan + 16 * p + 4);
-        if (from != before || to < from) return 11;
+        if (from != before || to < from || !keeps(job, p, from, to)) return 11;
         before = to;
     }
     if (before != job->tiles) return 11;
@@ -200,8 +235,8 @@ int LLVMFuzzerTestOneInput(const uint8_t *data, size_t size) {
         size_t changed = change(&job, plan, data[2], data[3]);
         grades(&job, file, len, 0, plan, changed, data[1] % 4);
     }
-    /* A refusal of the plan buffer or the method is none of grading. */
-    number = judge(&job, file, len, 1, SIZE_MAX);
+    /* A refusal of the plan buffer, the method or what the holds add up to is none of grading. */
+    number = judge_file(&job, file, len);
     grades(&job, file, len, number, file + len, tail, data[1] % 4);
     return 0;
 }

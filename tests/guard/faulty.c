@@ -1,5 +1,6 @@
 /* A planner with one fault made on purpose, for tests/faults: linked in front of plan_job and grade_plan by --wrap. FAULT is its number. */
 #include <stdlib.h>
+#include <string.h>
 
 #include "../../include/pelshaqu.h"
 
@@ -17,11 +18,38 @@ static size_t row(const uint8_t *job, size_t job_len) {
     return n;
 }
 
+/* A copy of a job whose holds have only these bits, as far as there is room; the job itself where there is not. */
+static const uint8_t *masked(const uint8_t *job, size_t job_len, uint16_t bits) {
+    static uint8_t copy[PELSHAQU_MAX_JOB];
+    size_t front = second(job, job_len), machines = row(job, job_len);
+    if (job_len == 0 || job_len > sizeof copy) return job;
+    memcpy(copy, job, job_len);
+    for (size_t p = front; p < front + machines; p++) {
+        copy[8 * p + 2] &= (uint8_t)bits;
+        copy[8 * p + 3] &= (uint8_t)(bits >> 8);
+    }
+    return copy;
+}
+
+/* What a plan buffer with room for every plan would give. */
+static uint32_t with_room(const uint8_t *job, size_t job_len, uint32_t method) {
+    static uint8_t room[PELSHAQU_MAX_PLAN];
+    return __real_plan_job(job, job_len, method, room, sizeof room);
+}
+
 volatile uint8_t seen;
 void *volatile lost;
 
 uint32_t __wrap_plan_job(const uint8_t *job, size_t job_len, uint32_t method, uint8_t *plan, size_t plan_len) {
+    if (FAULT == 31) job = masked(job, job_len, 0);                                             /* holds left out of account */
+    if (FAULT == 32) job = masked(job, job_len, 0xff);                                          /* of a hold the lower byte alone */
+    if (FAULT == 33) job = masked(job, job_len, 0xff00);                                        /* of a hold the higher byte alone */
     uint32_t number = __real_plan_job(job, job_len, method, plan, plan_len);
+    if (FAULT == 34 && number == 9 && with_room(job, job_len, method) == 17) return 17;         /* 17 before 9 */
+    if (FAULT == 35 && number == 9 && with_room(job, job_len, method) == 18) return 18;         /* 18 before 9 */
+    if (FAULT == 36 && number == 17 && method == 4) return 18;                                  /* 18 before 17 */
+    if (FAULT == 37 && number == 18) return __real_plan_job(job, job_len, 3, plan, plan_len);   /* a plan by method 4 with holds */
+    if (FAULT == 38 && number == 17) return 11;                                                 /* 11 for holds that add up to too little */
     if (FAULT == 1 && number == 0) plan[plan_len] ^= 1;            /* a byte past the plan */
     if (FAULT == 2 && number == 0) plan[-1] ^= 1;                  /* a byte before the plan */
     if (FAULT == 3 && number != 0 && plan_len) plan[0] ^= 1;       /* a store on refusal */
@@ -45,7 +73,10 @@ typedef uint32_t grading(const uint8_t *job, size_t job_len, const uint8_t *plan
 grading __real_grade_plan, __wrap_grade_plan;
 
 uint32_t __wrap_grade_plan(const uint8_t *job, size_t job_len, const uint8_t *plan, size_t plan_len, uint8_t *grade, size_t grade_len) {
+    if (FAULT == 39) job = masked(job, job_len, 0);                /* grading: holds left out of account */
+    if (FAULT == 40) job = masked(job, job_len, 0xff);             /* grading: of a hold the lower byte alone */
     uint32_t number = __real_grade_plan(job, job_len, plan, plan_len, grade, grade_len);
+    if (FAULT == 41 && number == 11 && with_room(job, job_len, 1) == 17) return 17;             /* grading: 17 for holds that add up to too little */
     if (FAULT == 11 && number == 0) grade[grade_len] ^= 1;         /* grading: a byte past the grade buffer */
     if (FAULT == 12 && number == 0) grade[-1] ^= 1;                /* grading: a byte before the grade buffer */
     if (FAULT == 13 && number != 0 && grade_len) grade[0] = 2;     /* grading: a grade on refusal */

@@ -29,6 +29,14 @@ static size_t put(uint8_t *at, uint8_t kind, uint32_t value) {
     return 8;
 }
 
+/* A machine with a hold. */
+static size_t put_machine(uint8_t *at, uint32_t speed, uint32_t hold) {
+    size_t n = put(at, 1, speed);
+    at[2] = (uint8_t)hold;
+    at[3] = (uint8_t)(hold >> 8);
+    return n;
+}
+
 static uint8_t pattern(size_t i) {
     return (uint8_t)(167 * i + 91);
 }
@@ -135,17 +143,20 @@ static void graded(const uint8_t *job, size_t job_len, const uint8_t *plan, size
     free(own_grade);
 }
 
-/* A true plan: with every length of the plan and of the grade buffer, and with each field a little off. */
+/* A true plan, or one that is true but for a hold that it breaks, whose grade is said to be BROKEN: with every length of the plan and of the
+ * grade buffer, and with each field a little off. */
+#define BROKEN 0
+
 static void graded_all(const uint8_t *job, size_t job_len, const uint8_t *plan, size_t plan_len, int grade) {
     uint8_t other[128] = {0};
     memcpy(other, plan, plan_len);
     for (size_t len = 0; len <= plan_len + 17; len++) {
         for (size_t room = 0; room <= 3; room++) {
-            graded(job, job_len, other, len, room, room == 0 ? 9 : len != plan_len ? 12 : 0, grade);
+            graded(job, job_len, other, len, room, room == 0 ? 9 : len != plan_len ? 12 : grade == BROKEN ? 11 : 0, grade);
         }
     }
     for (size_t at = 0; at < plan_len; at++) {
-        uint32_t number = at % 16 < 8 ? 11 : 13;
+        uint32_t number = at % 16 < 8 || grade == BROKEN ? 11 : 13;
         for (int bit = 0; bit < 8; bit += 7) {
             other[at] ^= (uint8_t)(1 << bit);
             graded(job, job_len, other, plan_len, 1, number, 0);
@@ -156,11 +167,19 @@ static void graded_all(const uint8_t *job, size_t job_len, const uint8_t *plan, 
     }
 }
 
+/* How a job stands to its holds: it has none; it has some; they are all limited and add up to less than the tiles. */
+enum holds { FREE, HELD, SHORT };
+
+/* What planning a good file gives, of a method of 1 to 4 and with room for the plan. */
+static uint32_t by_holds(enum holds holds, uint32_t method) {
+    return holds == SHORT ? 17 : holds == HELD && method == 4 ? 18 : 0;
+}
+
 /* A job by each method, with a plan buffer of every length from 0 to a record more than it needs. */
-static void every_length(const uint8_t *job, size_t job_len, const uint8_t *plan, size_t needed) {
+static void every_length(const uint8_t *job, size_t job_len, enum holds holds, const uint8_t *plan, size_t needed) {
     for (uint32_t method = 0; method <= 5; method++) {
         for (size_t len = 0; len <= needed + 17; len++) {
-            struct wanted wanted = {method < 1 || method > 4 ? 1 : len < needed ? 9 : 0, plan, needed};
+            struct wanted wanted = {method < 1 || method > 4 ? 1 : len < needed ? 9 : by_holds(holds, method), plan, needed};
             both(job, job_len, method, len, wanted);
         }
     }
@@ -185,37 +204,53 @@ static uint32_t load_of(const uint32_t *weights, uint32_t from, uint32_t to, uin
 
 /* Jobs A to E of the document, with their plans, and of the divisions 0 s N for s = 0 to N which are best (1) and which valid (2); then
  * jobs of the second edition, worked by hand: A without start-up work, with some and with more, which one machine does alone; tiles of
- * weight 0; a tile that either machine can have; no tiles; the most start-up work. */
+ * weight 0; a tile that either machine can have; no tiles; the most start-up work. Then jobs with holds, of which some separators break one
+ * (BROKEN): S, U, V, X and Y of the document; tiles of weight 0; holds that add up to just enough and to just too little, in both editions. */
 static void marked_jobs(void) {
     static const struct {
-        uint32_t startup, tiles, speeds[2], weights[5], separators[3];
+        uint32_t startup, tiles, speeds[2], holds[2], weights[5], separators[3];
         int grades[6];
     } jobs[] = {
-        {FIRST, 3, {1, 3}, {1, 3, 8}, {0, 1, 3}, {2, 1, 2, 2}},
-        {FIRST, 5, {1, 2}, {4, 3, 2, 6, 1}, {0, 1, 5}, {2, 1, 2, 2, 2, 2}},
-        {FIRST, 0, {7, 2}, {0}, {0, 0, 0}, {1}},
-        {FIRST, 2, {1, 1}, {0, 0}, {0, 2, 2}, {1, 1, 1}},
-        {FIRST, 1, {1, 1}, {6}, {0, 1, 1}, {1, 1}},
-        {0, 3, {1, 3}, {1, 3, 8}, {0, 1, 3}, {2, 1, 2, 2}},
-        {2, 3, {1, 3}, {1, 3, 8}, {0, 1, 3}, {2, 1, 2, 2}},
-        {5, 3, {1, 3}, {1, 3, 8}, {0, 0, 3}, {1, 2, 2, 2}},
-        {3, 3, {1, 4}, {1, 4, 4}, {0, 0, 3}, {1, 2, 2, 2}},
-        {3, 2, {2, 1}, {0, 0}, {0, 2, 2}, {2, 2, 1}},
-        {2, 1, {1, 1}, {5}, {0, 1, 1}, {1, 1}},
-        {9, 0, {7, 2}, {0}, {0, 0, 0}, {1}},
-        {STARTUP, 2, {1, 1}, {1000000, 0}, {0, 2, 2}, {1, 1, 1}},
+        {FIRST, 3, {1, 3}, {0, 0}, {1, 3, 8}, {0, 1, 3}, {2, 1, 2, 2}},
+        {FIRST, 5, {1, 2}, {0, 0}, {4, 3, 2, 6, 1}, {0, 1, 5}, {2, 1, 2, 2, 2, 2}},
+        {FIRST, 0, {7, 2}, {0, 0}, {0}, {0, 0, 0}, {1}},
+        {FIRST, 2, {1, 1}, {0, 0}, {0, 0}, {0, 2, 2}, {1, 1, 1}},
+        {FIRST, 1, {1, 1}, {0, 0}, {6}, {0, 1, 1}, {1, 1}},
+        {0, 3, {1, 3}, {0, 0}, {1, 3, 8}, {0, 1, 3}, {2, 1, 2, 2}},
+        {2, 3, {1, 3}, {0, 0}, {1, 3, 8}, {0, 1, 3}, {2, 1, 2, 2}},
+        {5, 3, {1, 3}, {0, 0}, {1, 3, 8}, {0, 0, 3}, {1, 2, 2, 2}},
+        {3, 3, {1, 4}, {0, 0}, {1, 4, 4}, {0, 0, 3}, {1, 2, 2, 2}},
+        {3, 2, {2, 1}, {0, 0}, {0, 0}, {0, 2, 2}, {2, 2, 1}},
+        {2, 1, {1, 1}, {0, 0}, {5}, {0, 1, 1}, {1, 1}},
+        {9, 0, {7, 2}, {0, 0}, {0}, {0, 0, 0}, {1}},
+        {STARTUP, 2, {1, 1}, {0, 0}, {1000000, 0}, {0, 2, 2}, {1, 1, 1}},
+        {FIRST, 3, {1, 3}, {0, 1}, {1, 3, 8}, {0, 2, 3}, {BROKEN, BROKEN, 1, 2}},
+        {FIRST, 3, {3, 1}, {1, 2}, {2, 9, 4}, {0, 1, 3}, {BROKEN, 1, BROKEN, BROKEN}},
+        {FIRST, 3, {3, 1}, {1, 1}, {2, 9, 4}, {0, 1, 3}, {BROKEN, BROKEN, BROKEN, BROKEN}},
+        {FIRST, 3, {3, 1}, {1, 0}, {2, 9, 4}, {0, 1, 3}, {2, 1, BROKEN, BROKEN}},
+        {3, 3, {1, 4}, {0, 2}, {1, 4, 4}, {0, 1, 3}, {BROKEN, 1, 2, 2}},
+        {3, 3, {1, 4}, {2, 1}, {1, 4, 4}, {0, 2, 3}, {BROKEN, BROKEN, 1, BROKEN}},
+        {3, 3, {1, 4}, {1, 1}, {1, 4, 4}, {0, 1, 3}, {BROKEN, BROKEN, BROKEN, BROKEN}},
+        {FIRST, 3, {1, 3}, {3, 3}, {1, 3, 8}, {0, 1, 3}, {2, 1, 2, 2}},
+        {FIRST, 3, {1, 3}, {PELSHAQU_MAX_HOLD, 256}, {1, 3, 8}, {0, 1, 3}, {2, 1, 2, 2}},
+        {FIRST, 0, {7, 2}, {1, 1}, {0}, {0, 0, 0}, {1}},
+        {FIRST, 3, {1, 1}, {2, 0}, {0, 0, 0}, {0, 2, 3}, {1, 1, 1, BROKEN}},
+        {5, 3, {1, 1}, {2, 2}, {0, 0, 0}, {0, 2, 3}, {BROKEN, 1, 1, BROKEN}},
+        {STARTUP, 2, {1, 1}, {1, 1}, {1000000, 0}, {0, 1, 2}, {BROKEN, 1, BROKEN}},
     };
     for (size_t k = 0; k < sizeof jobs / sizeof *jobs; k++) {
         uint8_t job[64], plan[32];
         uint32_t second = jobs[k].startup != FIRST, startup = second ? jobs[k].startup : 0, tiles = jobs[k].tiles;
         size_t n = second ? put(job, 3, startup) : 0, m = 0;
-        for (uint32_t p = 0; p < 2; p++) n += put(job + n, 1, jobs[k].speeds[p]);
+        const uint32_t *limit = jobs[k].holds;
+        enum holds holds = !limit[0] && !limit[1] ? FREE : limit[0] && limit[1] && limit[0] + limit[1] < tiles ? SHORT : HELD;
+        for (uint32_t p = 0; p < 2; p++) n += put_machine(job + n, jobs[k].speeds[p], limit[p]);
         for (uint32_t i = 0; i < tiles; i++) n += put(job + n, 2, jobs[k].weights[i]);
         for (uint32_t p = 0; p < 2; p++) {
             uint32_t from = jobs[k].separators[p], to = jobs[k].separators[p + 1];
             m += part(plan + m, from, to, load_of(jobs[k].weights, from, to, startup), jobs[k].speeds[p]);
         }
-        every_length(job, n, plan, m);
+        every_length(job, n, holds, plan, m);
         for (uint32_t s = 0; s <= tiles; s++) {
             part(plan, 0, s, load_of(jobs[k].weights, 0, s, startup), jobs[k].speeds[0]);
             part(plan + 16, s, tiles, load_of(jobs[k].weights, s, tiles, startup), jobs[k].speeds[1]);
@@ -247,7 +282,8 @@ static void refusals(void) {
     put(file, 4, 1);
     refused(file, 8, 3);
     for (int place = 1; place < 4; place++) {
-        for (uint8_t kind = 1; kind <= 3; kind++) {
+        /* Bytes 2 and 3 of a machine are its hold. */
+        for (uint8_t kind = place == 1 ? 1 : 2; kind <= 3; kind++) {
             put(file, kind, 1);
             file[place] = 1;
             refused(file, 8, 3);
@@ -282,25 +318,71 @@ static void refusals(void) {
     refused(file, n, 8);
 }
 
+/* What is tested behind the plan buffer, 17, and what is tested before it, each with a hold of one tile and two tiles or more. */
+static void holds_behind(void) {
+    static uint8_t file[LARGEST];
+    uint8_t plan[32];
+    size_t n = put_machine(file, 1, 1);
+    n += put(file + n, 2, 0);
+    part(plan, 0, 1, 0, 1);
+    every_length(file, n, HELD, plan, 16);
+    graded_all(file, n, plan, 16, 1);
+    n += put(file + n, 2, 0);
+    part(plan, 0, 2, 0, 1);
+    every_length(file, n, SHORT, plan, 16);
+    graded_all(file, n, plan, 16, BROKEN);
+    put_machine(file, 1, 2);
+    every_length(file, n, HELD, plan, 16);
+    graded_all(file, n, plan, 16, 1);
+    /* 256 is no hold of 0 or of 1 tile, and 255 is none of all that there are. */
+    put_machine(file, 1, 256);
+    every_length(file, n, HELD, plan, 16);
+    for (n = put_machine(file, 1, 256); n < 8 * (1 + 256);) n += put(file + n, 2, 0);
+    part(plan, 0, 256, 0, 1);
+    every_length(file, n, HELD, plan, 16);
+    graded_all(file, n, plan, 16, 1);
+    /* The lower byte of 257 is that of 1. */
+    put_machine(file, 1, 257);
+    every_length(file, n, HELD, plan, 16);
+    graded_all(file, n, plan, 16, 1);
+    put_machine(file, 1, 255);
+    every_length(file, n, SHORT, plan, 16);
+    graded_all(file, n, plan, 16, BROKEN);
+    put_machine(file, 0, 1);
+    refused(file, n, 5);
+    put_machine(file, 1, 1);
+    put(file + n - 8, 2, 1000001);
+    refused(file, n, 6);
+    put(file + n - 8, 1, 1);
+    refused(file, n, 4);
+    put(file + n - 8, 3, 1);
+    refused(file, n, 15);
+    put(file + n - 8, 4, 1);
+    refused(file, n, 3);
+    refused(file, n - 1, 2);
+    for (n = put_machine(file, 1, 1); n < 8 * (1 + TILES + 1);) n += put(file + n, 2, 0);
+    refused(file, n, 8);
+}
+
 /* Writes machines, then tiles, behind the start-up work if there is any, and gives the bytes. */
-static size_t fill(uint8_t *job, uint32_t startup, size_t machines, size_t tiles) {
+static size_t fill(uint8_t *job, uint32_t startup, uint32_t hold, size_t machines, size_t tiles) {
     size_t n = startup == FIRST ? 0 : put(job, 3, startup);
-    for (size_t p = 0; p < machines; p++) n += put(job + n, 1, 1);
+    for (size_t p = 0; p < machines; p++) n += put_machine(job + n, 1, hold);
     for (size_t i = 0; i < tiles; i++) n += put(job + n, 2, 0);
     return n;
 }
 
 /* Rows of the most machines and longer ones, by plan buffers and plans that would do for them. */
-static void rows(uint32_t startup) {
+static void rows(uint32_t startup, uint32_t hold) {
     const size_t most = PELSHAQU_MAX_MACHINES, longer[] = {most + 1, most + 2, 2 * most - 1, 2 * most, 3 * most + 1};
     static uint8_t job[LARGEST], plan[LARGEST];
     size_t n, m = 0;
     for (size_t p = 0; p < LARGEST / 16; p++) m += part(plan + m, 0, 0, 0, 1);
     for (size_t row = PELSHAQU_MAX_MACHINES - 1; row <= PELSHAQU_MAX_MACHINES; row++) {
-        n = fill(job, startup, row, 0);
+        n = fill(job, startup, hold, row, 0);
         for (uint32_t method = 1; method <= 4; method++) {
             for (size_t len = 16 * row - 1; len <= 16 * row + 1; len++) {
-                both(job, n, method, len, (struct wanted){len < 16 * row ? 9 : 0, plan, 16 * row});
+                both(job, n, method, len, (struct wanted){len < 16 * row ? 9 : by_holds(hold ? HELD : FREE, method), plan, 16 * row});
             }
         }
         graded(job, n, plan, 16 * row, 1, 0, 1);
@@ -309,7 +391,7 @@ static void rows(uint32_t startup) {
         refused(job, n, 5);
     }
     for (size_t k = 0; k < sizeof longer / sizeof *longer; k++) {
-        n = fill(job, startup, longer[k], 1);
+        n = fill(job, startup, hold, longer[k], 1);
         refused(job, n - 8, 7);
         for (uint32_t method = 1; method <= 4; method++) {
             for (size_t len = 16 * longer[k] - 1; len <= 16 * longer[k] + 1; len++) both(job, n, method, len, (struct wanted){7, NULL, 0});
@@ -321,9 +403,9 @@ static void rows(uint32_t startup) {
         put(job + n - 16, 1, 10001);
         refused(job, n, 5);
     }
-    n = fill(job, startup, PELSHAQU_MAX_MACHINES + 1, TILES + 1);
+    n = fill(job, startup, hold, PELSHAQU_MAX_MACHINES + 1, TILES + 1);
     refused(job, n, 7);
-    n = fill(job, startup, PELSHAQU_MAX_MACHINES, TILES + 1);
+    n = fill(job, startup, hold, PELSHAQU_MAX_MACHINES, TILES + 1);
     refused(job, n, 8);
 }
 
@@ -335,39 +417,42 @@ static size_t equal_part(uint8_t *at, uint32_t from, uint32_t to) {
 }
 
 /* The longest job: equal tiles and machines. Some machine has to take as many tiles as this share; the plan gives it to each machine
- * as long as there are tiles, and an even division is as good. */
-static void longest(uint32_t startup) {
+ * as long as there are tiles, and an even division is as good. With holds each machine holds the share, so that both keep them; with one
+ * tile less they add up to too little. */
+static void longest(uint32_t startup, enum holds holds) {
     static uint8_t job[LARGEST], plan[PELSHAQU_MAX_PLAN];
     const uint32_t machines = PELSHAQU_MAX_MACHINES, share = (TILES + machines - 1) / machines;
+    const uint32_t hold = holds == FREE ? 0 : holds == HELD ? share : share - 1;
     size_t n = startup == FIRST ? 0 : put(job, 3, startup), m = 0;
     equal_startup = startup == FIRST ? 0 : startup;
-    for (uint32_t p = 0; p < machines; p++) n += put(job + n, 1, 10000);
+    for (uint32_t p = 0; p < machines; p++) n += put_machine(job + n, 10000, hold);
     for (int i = 0; i < TILES; i++) n += put(job + n, 2, 1000000);
     for (uint32_t p = 0; p < machines; p++) {
         uint32_t from = share * p, to = from + share;
         m += equal_part(plan + m, from < TILES ? from : TILES, to < TILES ? to : TILES);
     }
     for (uint32_t method = 1; method <= 4; method++) {
-        for (size_t len = m - 2; len <= m + 2; len++) both(job, n, method, len, (struct wanted){len < m ? 9 : 0, plan, m});
+        for (size_t len = m - 2; len <= m + 2; len++) both(job, n, method, len, (struct wanted){len < m ? 9 : by_holds(holds, method), plan, m});
     }
     static uint8_t longer[PELSHAQU_MAX_PLAN + 32];
     memcpy(longer, plan, m);
-    for (size_t len = m - 17; len <= m + 17; len++) graded(job, n, longer, len, 1, len == m ? 0 : 12, 1);
+    const uint32_t kept = holds == SHORT ? 11 : 0, one = holds == FREE ? 0 : 11;
+    for (size_t len = m - 17; len <= m + 17; len++) graded(job, n, longer, len, 1, len == m ? kept : 12, 1);
     graded(job, n, plan, m, 0, 9, 0);
     /* All on the first machine, and on the last. */
     for (uint32_t p = 0; p < machines; p++) equal_part(longer + 16 * p, p ? TILES : 0, TILES);
-    graded(job, n, longer, m, 2, 0, 2);
+    graded(job, n, longer, m, 2, one, 2);
     for (uint32_t p = 0; p < machines; p++) equal_part(longer + 16 * p, 0, p + 1 < machines ? 0 : TILES);
-    graded(job, n, longer, m, 2, 0, 2);
+    graded(job, n, longer, m, 2, one, 2);
     /* An even division; a load one off in its last record, and a gap before it. */
     uint32_t last = 0;
     for (uint32_t p = 0; p < machines; p++) {
         last = TILES * p / machines;
         equal_part(longer + 16 * p, last, TILES * (p + 1) / machines);
     }
-    graded(job, n, longer, m, 1, 0, 1);
+    graded(job, n, longer, m, 1, kept, 1);
     part(longer + m - 16, last, TILES, equal_startup + 1000000 * (TILES - last) + 1, 10000);
-    graded(job, n, longer, m, 1, 13, 0);
+    graded(job, n, longer, m, 1, kept ? kept : 13, 0);
     equal_part(longer + m - 16, last + 1, TILES);
     graded(job, n, longer, m, 1, 11, 0);
 }
@@ -376,9 +461,11 @@ int main(void) {
     static const uint32_t startups[] = {FIRST, 0, STARTUP};
     marked_jobs();
     refusals();
+    holds_behind();
     for (size_t k = 0; k < sizeof startups / sizeof *startups; k++) {
-        rows(startups[k]);
-        longest(startups[k]);
+        rows(startups[k], 0);
+        rows(startups[k], k == 1 ? 1 : PELSHAQU_MAX_HOLD);
+        for (enum holds holds = FREE; holds <= SHORT; holds++) longest(startups[k], holds);
     }
     printf("tests/guard: %lu calls, all as they must be\n", calls);
     return 0;

@@ -1,5 +1,5 @@
-/* How many bytes of stack the two calls take: on jobs of the largest size and smaller ones, of both editions, by all four methods, and on
- * files that are refused. Each call is made in a thread of its own, whose stack is an area filled with a pattern before; the lowest byte that has
+/* How many bytes of stack the two calls take: on jobs of the largest size and smaller ones, of both editions, with holds and without, by all
+ * four methods, and on files that are refused. Each call is made in a thread of its own, whose stack is an area filled with a pattern before; the lowest byte that has
  * changed says how deep the call went. An empty call of the same kind, made in the same way, is taken off, so the figure is what lies
  * below the return address of the call: the frames of all functions in it, memset's too. Two patterns, since a byte may be written with
  * the value that it had. The figures are the greatest of all calls. Prints one line and gives 0 if every call gave the number that it must.
@@ -154,10 +154,14 @@ static uint32_t drawn(int family, uint32_t i, uint32_t most) {
     }
 }
 
-/* Fills the job and gives its records. */
-static size_t fill(uint32_t startup, uint32_t machines, uint32_t tiles, int speeds, int weights) {
+/* Fills the job and gives its records. Each machine has the hold. */
+static size_t fill(uint32_t startup, uint32_t hold, uint32_t machines, uint32_t tiles, int speeds, int weights) {
     size_t n = startup == FIRST ? 0 : put(0, 3, startup);
-    for (uint32_t p = 0; p < machines; p++) n = put(n, 1, 1 + drawn(speeds, p, 9999));
+    for (uint32_t p = 0; p < machines; p++) {
+        n = put(n, 1, 1 + drawn(speeds, p, 9999));
+        job[8 * n - 6] = (uint8_t)hold;
+        job[8 * n - 5] = (uint8_t)(hold >> 8);
+    }
     for (uint32_t i = 0; i < tiles; i++) n = put(n, 2, drawn(weights, i, 1000000));
     return n;
 }
@@ -175,23 +179,38 @@ static void all_on_first(uint32_t startup, uint32_t machines, uint32_t tiles) {
     }
 }
 
-/* An accepted job: by each method, graded as planned and with all on the first machine; and every refusal that it can be given. */
-static void accepted(uint32_t startup, uint32_t machines, uint32_t tiles, int speeds, int weights) {
-    size_t len = 8 * fill(startup, machines, tiles, speeds, weights), plan_len = 16 * machines;
+/* A job with this hold on each machine, 0 for no limit: by each method, graded as planned and with all on the first machine; and every
+ * refusal that it can be given. */
+static void accepted_with(uint32_t hold, uint32_t startup, uint32_t machines, uint32_t tiles, int speeds, int weights) {
+    size_t len = 8 * fill(startup, hold, machines, tiles, speeds, weights), plan_len = 16 * machines;
     for (uint32_t method = 0; method <= 5; method++) {
         plans(len, method, plan_len - 1, method < 1 || method > 4 ? 1 : 9);
-        plans(len, method, plan_len, method < 1 || method > 4 ? 1 : 0);
+        plans(len, method, plan_len, method < 1 || method > 4 ? 1 : method == 4 && hold ? 18 : 0);
     }
     grades(len, plan, plan_len, 1, 0);
     if (grade[0] != PELSHAQU_BEST) fail("the plan is not best", grade[0], PELSHAQU_BEST);
     all_on_first(startup, machines, tiles);
-    grades(len, other, plan_len, 1, 0);
+    uint32_t broken = hold && tiles > hold ? 11 : 0;
+    grades(len, other, plan_len, 1, broken);
     grades(len, other, plan_len, 0, 9);
     grades(len, other, plan_len + 16, 1, 12);
     other[plan_len - 4] ^= 1;
-    grades(len, other, plan_len, 1, 13);
+    grades(len, other, plan_len, 1, broken ? broken : 13);
     other[plan_len - 12] ^= 1;
     grades(len, other, plan_len, 1, 11);
+}
+
+/* A job without holds; with holds that add up to enough, and not much more; with the greatest. With one tile less to a machine, where that
+ * is a limit still, they add up to too little. */
+static void accepted(uint32_t startup, uint32_t machines, uint32_t tiles, int speeds, int weights) {
+    uint32_t hold = tiles == 0 ? 1 : (tiles + machines - 1) / machines;
+    accepted_with(0, startup, machines, tiles, speeds, weights);
+    accepted_with(hold, startup, machines, tiles, speeds, weights);
+    accepted_with(PELSHAQU_MAX_HOLD, startup, machines, tiles, speeds, weights);
+    if (hold > 1) {
+        size_t len = 8 * fill(startup, hold - 1, machines, tiles, speeds, weights);
+        for (uint32_t method = 1; method <= 4; method++) plans(len, method, 16 * machines, 17);
+    }
 }
 
 /* A file that is refused, by each method and by grading. */
@@ -201,7 +220,7 @@ static void refused(size_t len, uint32_t wanted) {
 }
 
 static void refusals(uint32_t startup) {
-    size_t n = fill(startup, MACHINES, TILES, 4, 4), last = n - 1, first = startup == FIRST ? 0 : 1;
+    size_t n = fill(startup, 0, MACHINES, TILES, 4, 4), last = n - 1, first = startup == FIRST ? 0 : 1;
     refused(8 * n - 1, 2);
     put(last, 4, 1);
     refused(8 * n, 3);
@@ -217,8 +236,8 @@ static void refusals(uint32_t startup) {
     put(0, 3, STARTUP + 1);
     refused(8 * n, 16);
     refused(0, 7);
-    refused(8 * fill(startup, MACHINES + 1, TILES, 4, 4), 7);
-    refused(8 * fill(startup, MACHINES, TILES + 1, 4, 4), 8);
+    refused(8 * fill(startup, 1, MACHINES + 1, TILES, 4, 4), 7);
+    refused(8 * fill(startup, 1, MACHINES, TILES + 1, 4, 4), 8);
 }
 
 int main(void) {

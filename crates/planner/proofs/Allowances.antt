@@ -52,58 +52,6 @@ most-end {xs} {i} {m} w h = omega (arith, w .below, greatest-cases (λ n. n ≤ 
         past : (suc k ≤ length xs → ⊥) → getD xs k 0 ≤ m
         past l = omega (arith, lib.ListN.List·getD-eq-default xs 0 {n = k} (omega arith))
 
--- A property of every entry is the least's.
-least-cases : (Q : ℕ → Type 0) (x : ℕ) (ys : List ℕ) → Q x → ((k : ℕ) → k < length ys → Q (getD ys k 0)) → Q (leastOf x ys)
-unfolding leastOf
-least-cases Q x [] q h = q
-least-cases Q x (y ∷ ys) q h = go (leb x (leastOf y ys)) (least-cases Q y ys (h 0 (omega arith)) (λ k l. h (suc k) (omega arith)))
-  where
-    go : (t : Bool) → Q (leastOf y ys) → Q (cond t x (leastOf y ys))
-    go true r = q
-    go false r = r
-
--- The least so far: at most each entry passed, at least the least of all.
-pub record Fewest (xs : List ℕ) (i m : ℕ) : Type 0 where
-  pub from : 1 ≤ i
-  pub to : i ≤ length xs
-  pub above : slowestOf xs ≤ m
-  pub below : (k : ℕ) → k < i → m ≤ getD xs k 0
-
-slowest-at : (xs : List ℕ) (i : ℕ) → i < length xs → slowestOf xs ≤ getD xs i 0
-slowest-at xs i h = subst (λ (n : ℕ). slowestOf xs ≤ n) (same-default xs i 1 0 h) (slowest-le xs i h)
-
-pub fewest-start : (xs : List ℕ) → 0 < length xs → Fewest xs 1 (getD xs 0 0)
-fewest-start xs h =
-    record {
-      from = omega arith;
-      to = h;
-      above = slowest-at xs 0 h;
-      below = λ k l. subst (λ (i : ℕ). getD xs 0 0 ≤ getD xs i 0) (let e : 0 ≡ k = omega arith in e) (omega arith);
-    }
-
-pub fewest-lowered : {xs : List ℕ} {i m : ℕ} → Fewest xs i m → i < length xs → getD xs i 0 ≤ m → Fewest xs (i + 1) (getD xs i 0)
-fewest-lowered {xs} {i} {m} w h l =
-    record {
-      from = omega arith;
-      to = omega arith;
-      above = slowest-at xs i h;
-      below = more {Q = λ k. getD xs i 0 ≤ getD xs k 0} (λ k x. omega (arith, w .below k x)) (omega arith);
-    }
-
-pub fewest-kept : {xs : List ℕ} {i m : ℕ} → Fewest xs i m → i < length xs → m ≤ getD xs i 0 → Fewest xs (i + 1) m
-fewest-kept {xs} {i} {m} w h l =
-    record { from = omega (arith, w .from); to = omega arith; above = w .above; below = more {Q = λ k. m ≤ getD xs k 0} (w .below) l }
-
-pub fewest-end : (xs : List ℕ) {i m : ℕ} → Fewest xs i m → length xs ≤ i → m ≡ slowestOf xs
-unfolding slowestOf
-fewest-end [] {i} {m} w h = absurd (let z : ⊥ = omega (arith, w .from, w .to) in z)
-fewest-end (x ∷ xs) {i} {m} w h =
-    omega (
-      arith,
-      w .above,
-      least-cases (λ n. m ≤ n) x xs (w .below 0 (omega (arith, w .from))) (λ k l. w .below (suc k) (omega (arith, w .to))),
-    )
-
 -- One processor fewer, times at most 64 digits, fits 32 bits.
 trials-fit : maxProcessors * 64 < 2 ^ 32
 unfolding maxProcessors

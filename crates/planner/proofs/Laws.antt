@@ -1,12 +1,13 @@
 -- Laws for planning: what each method ends with, the closing walk, and the answer.
 -- Assumes nothing.
-use Prim.Native.Nat.{ℕ, zero, suc, _+_, _*_, _≤_}
+use Prim.Native.Nat.{ℕ, zero, suc, _+_, _*_, _≤_, _<_}
 use mathlib.Core.Path.{_≡_, refl, sym, ap, subst, _∙_}
-use mathlib.Core.Bool.{Bool, cond}
-use mathlib.Core.List.{List, _++_}
+use mathlib.Core.Bool.{Bool, not, cond}
+use mathlib.Core.List.{List, _++_, map}
 use mathlib.Core.Logic.{_≢_}
 use native.Mathlib.Omega.{arith}
 use native.Mathlib.Decide.{ℕ-discrete}
+use lib.Dec.{T}
 use lib.ListN.{length, take, drop, length-append, length-drop}
 use lib.Seq.{drop-append-add, drop-drop}
 use borrow.Author.Tests.{ne-eqb}
@@ -16,26 +17,29 @@ use Rattle.chain.specs.declared.Method.{Method}
 use Rattle.chain.specs.declared.Method.the-variants.{Table, Bidding, Bisection, Nicol}
 use Rattle.chain.specs.Ranges.{Small, Lendable}
 use Rattle.chain.specs.Lists.{sum}
-use Rattle.chain.specs.Job.{Edition, editionOf, effective, Job, jobOf, Valid, tasks, processors, bottleneck, ideal, totalWeight}
-use Rattle.chain.specs.Probe.{walk}
+use Rattle.chain.specs.Job.{Edition, editionOf, effective, Job, jobOf, Valid, tasks, processors, held, enough, bottleneck, ideal, totalWeight}
+use Rattle.chain.specs.Probe.{walk, fits}
 use Rattle.chain.specs.Bidding.{bidding}
-use Rattle.chain.specs.Plan.{MethodEnds, BiddingEnds, BisectionEnds, NicolEnds, planOf, allowance, countBy, imbalance}
-use Rattle.chain.specs.Refusal.{refusal}
-use Rattle.chain.proofs.Indices.{length-tabulate}
-use Rattle.chain.proofs.Parts.{valid-proper, valid-plannable, weight-all}
+use Rattle.chain.specs.Plan.{MethodEnds, BiddingEnds, BisectionEnds, NicolEnds, takes, leastBottleneck, planOf, allowance, countBy, imbalance}
+use Rattle.chain.specs.Refusal.{enoughTest, freeTest, firstRefusal, refusal}
+use Rattle.chain.proofs.Indices.{first-fails, length-tabulate}
+use Rattle.chain.proofs.Parts.{Plannable, valid-proper, valid-plannable, weight-all}
 use Rattle.chain.proofs.Ideal.{ideal-least}
+use Rattle.chain.proofs.NextBid.{next-finite}
+use Rattle.chain.proofs.Refusals.{pass-head, pass-skip, Each, map-accepted}
 use Rattle.chain.proofs.Best.{least-alike}
 use Rattle.chain.proofs.Demand.{least-bottleneck, method-least, plan-of-best}
 use Rattle.chain.proofs.Ranges.{small-lendable, ideal-lendable, next-bid-small, bottleneck-small}
 use Rattle.refusals.specs.declared.Chosen.{Chosen}
 use Rattle.refusals.specs.declared.Chosen.the-variants.{Known, Unknown}
 use Rattle.refusals.specs.Methods.{chosenOf, numberOf}
-use Rattle.refusals.specs.Inputs.{scratchNeeded, methodInputs, planInputs}
+use Rattle.refusals.specs.Inputs.{scratchNeeded, freeBy, methodInputs, planInputs}
 use Rattle.refusals.specs.Answers.{lentAfter}
 use Rattle.refusals.proofs.Editions.{edition-effective}
 use Rattle.refusals.proofs.Methods.{chosen-table, chosen-bidding, chosen-bisection, chosen-nicol, chosen-none, known-passes, unknown-fails}
 use Rattle.refusals.proofs.Tests.{plan-known, plan-unknown}
 use Rattle.refusals.proofs.Lent.{lent-front, lent-kept}
+use Rattle.probe.proofs.Answer.{walk-count}
 use Rattle.parts.specs.Prefix.{Prefix, prefixes}
 use Rattle.parts.specs.Kept.{KeptFrom}
 use Rattle.parts.proofs.Front.{kept-start}
@@ -43,7 +47,8 @@ use Rattle.dynamic.specs.Rows.{Tabled}
 use Rattle.planner.specs.declared.Figures.{Figures}
 use Rattle.planner.specs.declared.Planned.{Planned}
 use Rattle.planner.specs.declared.Planned.the-variants.{Accepted, Refused}
-use Rattle.planner.specs.Answers.{planRefusal, methodRefusal, planFigures, plannedOf, methodAnswer, methodWrites, chosenAnswer, planAnswer, planWrites, ScratchAfter}
+use Rattle.planner.specs.HostCall.{holdTests}
+use Rattle.planner.specs.Answers.{Tested, planRefusal, methodRefusal, planFigures, plannedOf, methodAnswer, methodWrites, chosenAnswer, planAnswer, planWrites, ScratchAfter}
 
 -- What the methods end with, where the method is this one.
 module _ {job : Job} {m : Method} {B : Bound} {n : ℕ} where
@@ -60,30 +65,36 @@ module _ {job : Job} {m : Method} {B : Bound} {n : ℕ} where
   ends-nicol e t = subst (λ (k : Method). MethodEnds k job n B) (sym e) t
 
 -- Bidding's bounds are within the limits of a lent bound.
-bidding-lendable : {job : Job} → Valid job → (k : ℕ) → Lendable (bidding job k)
+bidding-lendable : {job : Job} → Valid job → T (enough job) → (k : ℕ) → ((j : ℕ) → j < k → T (not (fits job (bidding job j)))) → Lendable (bidding job k)
 unfolding bidding
-bidding-lendable v zero = ideal-lendable v
-bidding-lendable {job} v (suc k) = small-lendable (next-bid-small v (bidding job k))
+bidding-lendable v e zero h = ideal-lendable v
+bidding-lendable {job} v e (suc k) h =
+    small-lendable (next-bid-small v (bidding job k) (next-finite (valid-plannable v e) (bidding job k) (h k (omega arith))))
 
-pub ended-lendable : {job : Job} {B : Bound} {n : ℕ} → Valid job → BiddingEnds job n B → Lendable B
-ended-lendable v b = subst Lendable (sym (b .yields)) (bidding-lendable v (b .failures))
+pub ended-lendable : {job : Job} {B : Bound} {n : ℕ} → Valid job → T (enough job) → BiddingEnds job n B → Lendable B
+ended-lendable {job} v e b =
+    subst Lendable (sym (b .yields)) (bidding-lendable v e (b .failures) (first-fails (λ k. fits job (bidding job k)) (b .failures) (b .first-fit)))
+
+-- A job that is tested can be planned.
+pub tested-plannable : {m : Method} {job : Job} → Tested m job → Plannable job
+tested-plannable t = valid-plannable (t .valid) (t .enough-holds)
 
 pub tabled-kept : {job : Job} {xs ys : List ℕ} {B : Bound} {n : ℕ} → Tabled job xs ys B n → KeptFrom (scratchNeeded job) xs ys
 tabled-kept t = record { same = t .same; rest = t .rest }
 
 -- The closing walk writes the plan's separators.
-pub walk-is-plan : {job : Job} → Valid job → (m : Method) (n : ℕ) (B : Bound) → MethodEnds m job n B → walk job B ≡ planOf job
+pub walk-is-plan : {job : Job} {m : Method} → Tested m job → (n : ℕ) (B : Bound) → MethodEnds m job n B → walk job B ≡ planOf job
 unfolding planOf
-walk-is-plan {job} v m n B e = least-alike (method-least (valid-plannable v) m n B e) (least-bottleneck (valid-plannable v))
+walk-is-plan {job} {m} t n B e = let can = tested-plannable t in least-alike (method-least can m (t .taken) n B e) (least-bottleneck can)
 
-module _ {job : Job} (v : Valid job) {B : Bound} (is : B ≡ bottleneck job (planOf job)) where
+module _ {job : Job} (v : Valid job) (e : T (enough job)) {B : Bound} (is : B ≡ bottleneck job (planOf job)) where
   pub plan-small : Small B
   plan-small = subst Small (sym is) (bottleneck-small v (planOf job))
 
   pub plan-above : ideal job ≼ B
   plan-above =
       subst (λ (C : Bound). ideal job ≼ C) (sym is)
-      (ideal-least (valid-proper v) (planOf job) ((plan-of-best (valid-plannable v)) .partition))
+      (ideal-least (valid-proper v) (planOf job) ((plan-of-best (valid-plannable v e)) .partition))
 
 -- All weight is the last prefix sum.
 pub last-sum : {job : Job} {xs : List ℕ} {t : ℕ} → Prefix job xs → t ≡ lib.ListN.getD xs (tasks job) 0 → t ≡ totalWeight job
@@ -124,7 +135,8 @@ summed-kept job xs {ys} e h =
 
 -- The plan's separators are P + 1.
 pub plan-length : {job : Job} → Valid job → length (planOf job) ≡ suc (processors job)
-plan-length v = (plan-of-best (valid-plannable v)) .partition .count
+unfolding planOf
+plan-length {job} v = walk-count v (leastBottleneck job)
 
 -- An answer that is refused, and one that is not.
 planned-refused : {n number : ℕ} (f : Figures) → n ≡ number → n ≢ 0 → Refused n ≡ plannedOf number f
@@ -159,6 +171,34 @@ known-number n {k} e =
 
     none : Unknown ≡ chosenOf n → ⊥
     none f = let z : _≡_ {A = ℕ} 0 1 = cc in omega arith
+
+-- A method that makes no test 18, or whose job passes it, takes the job.
+pub taken-by : (m : Method) (job : Job) → Each (λ j. T (not (held j))) (freeBy (numberOf m) job) → T (takes m job)
+unfolding takes freeBy numberOf
+taken-by Table job e = tt
+taken-by Bidding job e = tt
+taken-by Bisection job e = tt
+taken-by Nicol job e = e .0
+
+-- So where Nicol's search is the method, the job has no holds.
+pub taken-free : {m : Method} {job : Job} → m ≡ Nicol → Tested m job → T (not (held job))
+unfolding takes
+taken-free {m} {job} e t = subst (λ (k : Method). T (takes k job)) e (t .taken)
+
+-- What the tests of the holds say.
+pub holds-tested : (job : Job) (n : ℕ) → firstRefusal (holdTests n job) ≡ 0 → T (enough job) × Each (λ j. T (not (held j))) (freeBy n job)
+unfolding holdTests enoughTest freeTest
+holds-tested job n e =
+    let t : T (enough job) = pass-head (enoughTest job) (map freeTest (freeBy n job)) (omega arith) e in (
+      t,
+      map-accepted (λ j. T (not (held j))) freeTest (λ j. omega arith) (λ j u. u) (freeBy n job)
+          (sym (pass-skip (enoughTest job) (map freeTest (freeBy n job)) t) ∙ e),
+    )
+
+pub kept-tested : {job : Job} (m : Method) → Valid job → firstRefusal (holdTests (numberOf m) job) ≡ 0 → Tested m job
+kept-tested {job} m v e =
+    let t = holds-tested job (numberOf m) e in
+    record { valid = v; enough-holds = t .0; taken = taken-by m job (t .1) }
 
 -- What planning by a method answers and leaves.
 module _ (edition : Edition) (job : Job) (method : Method) (s t : List ℕ) where

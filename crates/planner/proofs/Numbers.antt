@@ -6,15 +6,15 @@ use mathlib.Core.Bool.{Bool, true, false, cond}
 use mathlib.Core.List.{List, [], _∷_, _++_, map, List·Memᴰ}
 use mathlib.Core.Logic.{_≢_, _↔_}
 use native.Mathlib.Omega.{arith}
-use lib.Dec.{T, eqb}
+use lib.Dec.{T, eqb, leb}
 use lib.ListN.{length, drop}
 use Rattle.chain.specs.Lists.{sumTo}
-use Rattle.chain.specs.Job.{Edition, Job, Valid, processors, totalWeight, busy}
+use Rattle.chain.specs.Job.{Edition, Job, Valid, processors, totalWeight, busy, enough}
 use Rattle.chain.specs.Refusal.{methodTest, startupTest, speedsTest, weightsTest, processorsTest, tasksTest, lengthTest, holdsTest, enoughTest, freeTest, FirstFailing, jobTests, Inputs, callTests, refusal}
 use Rattle.chain.specs.Plan.{planOf}
 use Rattle.chain.proofs.Demand.{plan-of-best}
 use Rattle.chain.proofs.Parts.{valid-plannable}
-use Rattle.chain.proofs.Refusals.{Numbered, numbered-nil, numbered-cons, numbered-append, gives, given-number, numbersIn, numbers-append, numbers-behind, numbers-more, append-accepted}
+use Rattle.chain.proofs.Refusals.{Numbered, numbered-nil, numbered-cons, numbered-append, gives, given-number, numbersIn, numbers-append, numbers-behind, numbers-more, append-accepted, pass-head, pass-skip}
 use Rattle.fields.specs.Field.{fieldAt}
 use Rattle.jobs.specs.Parse.{startupIn, jobIn, fileTests, fileRefusal}
 use Rattle.jobs.proofs.Calls.{file-numbered}
@@ -25,6 +25,7 @@ use Rattle.planfile.proofs.Records.{length-plan}
 use Rattle.planfile.proofs.Promises.{lent-loads-add-up}
 use Rattle.refusals.specs.Inputs.{planNeeded, planLists, freeBy, planInputs}
 use Rattle.refusals.proofs.Lent.{lent-refused, lent-front}
+use Rattle.planner.proofs.Laws.{holds-tested}
 use Rattle.planner.specs.Answers.{plannedSaid, planRefusal, planAnswer}
 use Rattle.planner.proofs.Promises.{plan-number}
 use Rattle.planner.specs.HostCall.{holdTests, hostFileTests, hostTests, hostAnswer, bytesAfter, hostWrites}
@@ -109,6 +110,17 @@ host-file file m lent e =
 pub host-valid : (file : List ℕ) (m lent : ℕ) → hostAnswer file m lent ≡ 0 → Valid (jobIn file)
 host-valid file m lent e = accepted-valid file (host-file file m lent e)
 
+-- and its holds are enough.
+pub host-enough : (file : List ℕ) (m lent : ℕ) → hostAnswer file m lent ≡ 0 → T (enough (jobIn file))
+unfolding hostAnswer hostTests hostFileTests methodTest lengthTest
+host-enough file m lent e =
+    let numbered : Numbered (methodTest m ∷ []) = numbered-cons (omega arith) numbered-nil in
+    let behind =
+    append-accepted (methodTest m ∷ fileTests file) (lengthTest (planNeeded (jobIn file)) lent ∷ holdTests m (jobIn file)) (numbered-append numbered (file-numbered file)) e .1 in
+    let room : T (leb (planNeeded (jobIn file)) lent) =
+    pass-head (lengthTest (planNeeded (jobIn file)) lent) (holdTests m (jobIn file)) (omega arith) behind in
+    holds-tested (jobIn file) m (sym (pass-skip (lengthTest (planNeeded (jobIn file)) lent) (holdTests m (jobIn file)) room) ∙ behind) .0
+
 -- Scope 17.7: "The loads of a plan file add up to Wtot and c for each machine that has tiles." As they are read from the buffer after the C
 -- call.
 pub host-loads-add-up : (file plan : List ℕ) (m : ℕ) → hostAnswer file m (length plan) ≡ 0
@@ -117,4 +129,4 @@ pub host-loads-add-up : (file plan : List ℕ) (m : ℕ) → hostAnswer file m (
 unfolding hostWrites bytesAfter
 host-loads-add-up file plan m e =
     let v = host-valid file m (length plan) e in
-    lent-loads-add-up plan v ((plan-of-best (valid-plannable v)) .partition) e
+    lent-loads-add-up plan v ((plan-of-best (valid-plannable v (host-enough file m (length plan) e))) .partition) e

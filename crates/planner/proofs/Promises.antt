@@ -2,7 +2,7 @@
 -- Assumes nothing.
 use Prim.Native.Nat.{ℕ, suc, _+_, _≤_, _<_}
 use mathlib.Core.Path.{_≡_, refl, sym, ap, subst, _∙_}
-use mathlib.Core.Bool.{Bool, true, false, cond}
+use mathlib.Core.Bool.{Bool, true, false, cond, not}
 use mathlib.Core.List.{List, _++_}
 use mathlib.Core.Logic.{_≢_, _↔_}
 use native.Mathlib.Omega.{arith}
@@ -11,9 +11,11 @@ use lib.ListN.{length, take, drop}
 use lib.Seq.{drop-at}
 use Rattle.chain.specs.declared.Method.{Method}
 use Rattle.bound.specs.Order.{times, _≼_, _≈_}
-use Rattle.chain.specs.Job.{Edition, OfEdition, Job, Valid, processors, totalWeight, boundAt, bottleneck, ideal}
+use Rattle.chain.specs.Job.{Edition, OfEdition, Job, Valid, processors, totalWeight, boundAt, bottleneck, ideal, held}
 use Rattle.chain.specs.Plan.{planOf, Best, MethodEnds, countBy, foundBy, Plan, PlanBy}
-use Rattle.chain.proofs.Parts.{valid-plannable}
+use Rattle.refusals.specs.Inputs.{freeBy}
+use Rattle.chain.proofs.Refusals.{Each}
+use Rattle.chain.proofs.Parts.{valid-plannable, valid-proper}
 use Rattle.chain.proofs.Demand.{method-is, method-allowed, plan-of-best}
 use Rattle.chain.proofs.Imbalance.{imbalance-none, division-least, division-nought, division-even}
 use Rattle.refusals.specs.declared.Chosen.{Chosen}
@@ -29,8 +31,8 @@ use Rattle.parts.proofs.Front.{taken}
 use Rattle.planner.specs.declared.Figures.{Figures}
 use Rattle.planner.specs.declared.Planned.{Planned}
 use Rattle.planner.specs.declared.Planned.the-variants.{Accepted, Refused}
-use Rattle.planner.specs.Answers.{figureValues, plannedSaid, planRefusal, planFigures, plannedOf, chosenAnswer, chosenValues, planAnswer, planWrites}
-use Rattle.planner.proofs.Laws.{walk-is-plan, plan-length}
+use Rattle.planner.specs.Answers.{figureValues, plannedSaid, planRefusal, planFigures, plannedOf, chosenAnswer, chosenValues, planAnswer, planWrites, Tested}
+use Rattle.planner.proofs.Laws.{walk-is-plan, plan-length, tested-plannable, taken-by, known-number}
 
 -- What an answer says, by its number.
 planned-said : (n : ℕ) (f : Figures) → plannedSaid (plannedOf n f) ≡ saidBy n (figureValues f)
@@ -67,6 +69,17 @@ module _ (job : Job) (m : ℕ) (s t : List ℕ) where
   pub plan-valid : planRefusal job m (length s) (length t) ≡ 0 → Valid job
   unfolding planRefusal
   plan-valid z = (accepted z) .valid
+
+  -- and can be planned by the method.
+  pub plan-tested : {k : Method} → chosenOf m ≡ Known k → planRefusal job m (length s) (length t) ≡ 0 → Tested k job
+  unfolding planRefusal
+  plan-tested {k} e z =
+      let a = accepted z in
+      record {
+        valid = a .valid;
+        enough-holds = a .keeping .0;
+        taken = taken-by k job (subst (λ (n : ℕ). Each (λ j. T (not (held j))) (freeBy n job)) (sym (known-number m e)) (a .free));
+      }
 
 -- Of a job of this edition.
 module _ (edition : Edition) (job : Job) (m : ℕ) (s t : List ℕ) where
@@ -125,27 +138,31 @@ module _ (edition : Edition) (job : Job) (m : ℕ) (s t : List ℕ) where
     valid : Valid job
     valid = plan-valid job m s t (given e .none)
 
+    tested : Tested (given e .method) job
+    tested = plan-tested job m s t (given e .chosen) (given e .none)
+
     -- No division has a smaller bottleneck; of an equal one each separator is at or before.
     pub accepted-best : Best job (planOf job)
-    accepted-best = plan-of-best (valid-plannable valid)
+    accepted-best = plan-of-best (tested-plannable tested)
 
     -- The method that was called ends with the count answered.
     pub accepted-ends : MethodEnds (given e .method) job (f .count) (foundBy (given e .method) job)
     unfolding planFigures
     accepted-ends =
         subst (λ (g : Figures). MethodEnds (given e .method) job (g .count) (foundBy (given e .method) job)) (sym (given e .figures))
-        (method-is (valid-plannable valid) (given e .method))
+        (method-is (tested-plannable tested) (given e .method) (tested .taken))
 
     -- The plan is the method's, with every figure.
     pub accepted-plan : PlanBy edition (given e .method) job (planWith job f)
     unfolding planFigures
     accepted-plan =
-        let is = method-is (valid-plannable valid) (given e .method) in
+        let is = method-is (tested-plannable tested) (given e .method) (tested .taken) in
         subst (λ (g : Figures). PlanBy edition (given e .method) job (planWith job g)) (sym (given e .figures))
         (record {
+          taken = tested .taken;
           found = foundBy (given e .method) job;
           ended = is;
-          walked = sym (walk-is-plan valid (given e .method) (countBy (given e .method) job) (foundBy (given e .method) job) is);
+          walked = sym (walk-is-plan tested (countBy (given e .method) job) (foundBy (given e .method) job) is);
           allows = refl;
           measured = refl;
           exceeds = refl;
@@ -156,8 +173,8 @@ module _ (edition : Edition) (job : Job) (m : ℕ) (s t : List ℕ) where
     unfolding planFigures
     accepted-count of =
         subst (λ (g : Figures). g .count ≤ g .allowance) (sym (given e .figures))
-        (method-allowed (valid-plannable valid) of (given e .method) (countBy (given e .method) job) (foundBy (given e .method) job)
-        (method-is (valid-plannable valid) (given e .method)))
+        (method-allowed (tested-plannable tested) of (given e .method) (tested .taken) (countBy (given e .method) job) (foundBy (given e .method) job)
+        (method-is (tested-plannable tested) (given e .method) (tested .taken)))
 
     -- The imbalance is 0 where nothing weighs;
     pub accepted-weightless : totalWeight job ≡ 0 → f .imbalance ≡ 0
@@ -171,21 +188,21 @@ module _ (edition : Edition) (job : Job) (m : ℕ) (s t : List ℕ) where
       unfolding planFigures
       accepted-least n =
           subst (λ (g : Figures). (g .imbalance ≤ n) ↔ (times 1000 (g .bottleneck) ≼ times (1000 + n) (ideal job))) (sym (given e .figures))
-          (division-least (valid-plannable valid .proper) weighs (accepted-best .partition) n)
+          (division-least (valid-proper valid) weighs (accepted-best .partition) n)
 
       -- Scope 6.5: "With Wtot above 0 it is 0 exactly for a plan that meets the ideal: its bottleneck equals the ideal as a bound."
       pub accepted-nought : (f .imbalance ≡ 0) ↔ (f .bottleneck ≈ ideal job)
       unfolding planFigures
       accepted-nought =
           subst (λ (g : Figures). (g .imbalance ≡ 0) ↔ (g .bottleneck ≈ ideal job)) (sym (given e .figures))
-          (division-nought (valid-plannable valid .proper) weighs (accepted-best .partition))
+          (division-nought (valid-proper valid) weighs (accepted-best .partition))
 
       -- So it is 0 exactly for an even row.
       pub accepted-even : (f .imbalance ≡ 0) ↔ ((p : ℕ) → p < processors job → boundAt job (planOf job) p ≈ ideal job)
       unfolding planFigures
       accepted-even =
           subst (λ (g : Figures). (g .imbalance ≡ 0) ↔ ((p : ℕ) → p < processors job → boundAt job (planOf job) p ≈ ideal job))
-          (sym (given e .figures)) (division-even (valid-plannable valid .proper) weighs (accepted-best .partition))
+          (sym (given e .figures)) (division-even (valid-proper valid) weighs (accepted-best .partition))
 
     pub accepted-written : planWrites job m s t ≡ planOf job ++ drop (suc (processors job)) s
     unfolding planWrites

@@ -4,11 +4,11 @@ use mathlib.Core.Path.{_≡_}
 use mathlib.Core.Bool.{cond}
 use mathlib.Core.List.{List, [], _∷_, _++_}
 use mathlib.Core.Logic.{_≢_}
-use lib.Dec.{eqb}
+use lib.Dec.{T, eqb}
 use lib.ListN.{length}
 use Rattle.chain.specs.declared.Method.{Method}
-use Rattle.chain.specs.Job.{Edition, Job, bottleneck}
-use Rattle.chain.specs.Plan.{planOf, allowance, countBy, imbalance}
+use Rattle.chain.specs.Job.{Edition, Job, Valid, enough, bottleneck}
+use Rattle.chain.specs.Plan.{planOf, takes, allowance, countBy, imbalance}
 use Rattle.chain.specs.Refusal.{refusal}
 use Rattle.refusals.specs.declared.Chosen.{Chosen}
 use Rattle.refusals.specs.declared.Chosen.the-variants.{Known, Unknown}
@@ -35,6 +35,12 @@ planRefusal job m separators scratch = refusal job (planInputs job m separators 
 -- The same by a method that is known.
 unfoldable pub methodRefusal : Job → Method → ℕ → ℕ → ℕ
 methodRefusal job method separators scratch = refusal job (methodInputs job (numberOf method) separators scratch)
+
+-- What inner functions ask, once the tests have passed: a job within the limits whose holds are enough, and that the method takes.
+pub record Tested (method : Method) (job : Job) : Type 0 where
+  pub valid : Valid job
+  pub enough-holds : T (enough job)
+  pub taken : T (takes method job)
 
 -- Scope 6.1: "A plan carries its separators, its count, its allowance, the bottleneck of its separators and its imbalance." Of a job of this
 -- edition.

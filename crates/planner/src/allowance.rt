@@ -3,12 +3,13 @@ ghost use Prim.Native.Nat.{_+_, _≤_, _<_, _^_};
 ghost use mathlib.Core.Bool.{cond, _&&_};
 ghost use lib.Dec.{eqb};
 ghost use mathlib.Core.Path.{_≡_};
-ghost use lib.ListN.{length};
 ghost use Rattle.chain.specs.Lists.{greatestOf, digits};
-ghost use Rattle.chain.specs.Job.{editionOf, Job, jobOf, Valid, slowestOf};
-ghost use Rattle.chain.specs.Plan.{difference, allowance};
+ghost use Rattle.chain.specs.Job.{editionOf, Job, jobOf, Valid};
+ghost use Rattle.chain.specs.Plan.{breadth, difference, allowance};
 use chain::Method;
+use parts::slowest_of;
 use parts::wide;
+use refusals::any_hold;
 
 // The greatest of a list, 0 of none.
 fn greatest_of(values: &[u32]) -> u32
@@ -26,34 +27,29 @@ fn greatest_of(values: &[u32]) -> u32
     most
 }
 
-// The least of a list. Inner: it is not empty.
-fn least_of(values: &[u32]) -> u32
-    requires { ⌜ 0 < length (now values) ⌝ }
-    ensures { λ r. ⌜ r ≡ slowestOf (now (values .entry)) ⌝ }
+// The weight and the start-up work in D: the heaviest weight, all weight where a hold is set. Inner.
+fn breadth_of(startup: u32, speeds: &[u32], holds: &[u16], weights: &[u32]) -> u64
+    ghost { Job }
+    requires { λ job. ⌜ jobOf startup (now speeds) (now holds) (now weights) ≡ job ⌝ }
+    requires { λ job. ⌜ Valid job ⌝ }
+    ensures { λ job r. ⌜ r ≡ breadth job ⌝ }
 {
-    let mut least = values[0];
-    let mut i = 1;
-    while i < values.len() {
-        let v = values[i];
-        if v < least {
-            least = v;
-        }
-        i += 1;
+    if any_hold(startup, speeds, holds, weights) {
+        return parts::total(weights) + wide(startup);
     }
-    least
+    wide(greatest_of(weights)) + wide(startup)
 }
 
-// D, the heaviest weight and the start-up work, times the fastest speed squared, over the slowest speed. Inner.
+// D, that weight and the start-up work, times the fastest speed squared, over the slowest speed. Inner.
 fn difference_of(startup: u32, speeds: &[u32], holds: &[u16], weights: &[u32]) -> u64
     ghost { Job }
     requires { λ job. ⌜ jobOf startup (now speeds) (now holds) (now weights) ≡ job ⌝ }
     requires { λ job. ⌜ Valid job ⌝ }
     ensures { λ job r. ⌜ r ≡ difference job ⌝ }
 {
-    let heaviest = wide(greatest_of(weights));
+    let breadth = breadth_of(startup, speeds, holds, weights);
     let fastest = wide(greatest_of(speeds));
-    let slowest = wide(least_of(speeds));
-    let breadth = heaviest + wide(startup);
+    let slowest = wide(slowest_of(speeds));
     breadth * (fastest * fastest) / slowest
 }
 

@@ -9,6 +9,7 @@ ghost use Rattle.refusals.specs.Inputs.{planNeeded};
 ghost use Rattle.refusals.specs.Methods.{numberOf};
 ghost use Rattle.planfile.specs.PlanFile.{planBytes};
 ghost use Rattle.grading.specs.Files.{hostGrade, hostGrades};
+ghost use Rattle.planner.specs.Answers.{Tested};
 ghost use Rattle.planner.specs.HostCall.{holdTests, Host, fileAnswer, fileWrites, hostAnswer, hostWrites};
 ghost use Rattle.chain.specs.Refusal.{firstRefusal};
 use chain::Method;
@@ -37,7 +38,7 @@ fn write_best(
 )
     ghost { Job }
     requires { λ job. ⌜ jobOf startup (now speeds) (now holds) (now weights) ≡ job ⌝ }
-    requires { λ job. ⌜ Valid job ⌝ }
+    requires { λ job. ⌜ Tested method job ⌝ }
     requires { λ job. ⌜ planNeeded job ≤ length (now plan) ⌝ }
     ensures { λ job _. ⌜ now (plan .exit) ≡ planBytes job (planOf job) ++ drop (planNeeded job) (now (plan .entry)) ⌝ }
 {

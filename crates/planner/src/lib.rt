@@ -5,13 +5,13 @@ ghost use mathlib.Core.List.{_++_};
 ghost use lib.ListN.{length, drop};
 ghost use Rattle.chain.specs.Ranges.{Lendable};
 ghost use Rattle.chain.specs.Job as counts;
-ghost use Rattle.chain.specs.Job.{startupOf, editionOf, Job, jobOf, processors, Valid};
+ghost use Rattle.chain.specs.Job.{startupOf, editionOf, Job, jobOf, processors};
 ghost use Rattle.chain.specs.Plan.{MethodEnds, planOf};
 ghost use Rattle.chain.specs.Probe.{walk};
 ghost use Rattle.refusals.specs.Inputs.{scratchNeeded};
 ghost use Rattle.parts.specs.Prefix.{Ready};
 ghost use Rattle.parts.specs.Kept.{KeptFrom};
-ghost use Rattle.planner.specs.Answers.{planRefusal, methodRefusal, planFigures, methodAnswer, methodWrites};
+ghost use Rattle.planner.specs.Answers.{Tested, planRefusal, methodRefusal, planFigures, methodAnswer, methodWrites};
 ghost use Rattle.planner.specs.Answers.{planAnswer, planWrites, ScratchAfter};
 
 mod allowance;
@@ -72,7 +72,7 @@ fn run_method(
 ) -> Found
     ghost { Job }
     requires { λ job. ⌜ jobOf startup (now speeds) (now holds) (now weights) ≡ job ⌝ }
-    requires { λ job. ⌜ Ready job (now scratch) ⌝ }
+    requires { λ job. ⌜ Ready job (now scratch) × Tested method job ⌝ }
     requires { λ job. ⌜ (processors job < length (now separators)) × (scratchNeeded job ≤ length (now scratch)) ⌝ }
     ensures { λ job r. ⌜ MethodEnds method job (r .count) (r .bound) ⌝ }
     ensures { λ job r. ⌜ Lendable (r .bound) ⌝ }
@@ -123,7 +123,7 @@ fn close_plan(
 ) -> Figures
     ghost { Job }
     requires { λ job. ⌜ jobOf startup (now speeds) (now holds) (now weights) ≡ job ⌝ }
-    requires { λ job. ⌜ Ready job (now sums) ⌝ }
+    requires { λ job. ⌜ Ready job (now sums) × Tested method job ⌝ }
     requires { λ job. ⌜ processors job < length (now separators) ⌝ }
     requires { λ job. ⌜ MethodEnds method job (found .count) (found .bound) ⌝ }
     requires { λ job. ⌜ Lendable (found .bound) ⌝ }
@@ -158,7 +158,7 @@ pub fn plan_in(
 ) -> Figures
     ghost { Job }
     requires { λ job. ⌜ jobOf startup (now speeds) (now holds) (now weights) ≡ job ⌝ }
-    requires { λ job. ⌜ Valid job ⌝ }
+    requires { λ job. ⌜ Tested method job ⌝ }
     requires { λ job. ⌜ (processors job < length (now separators)) × (scratchNeeded job ≤ length (now scratch)) ⌝ }
     ensures { λ job r. ⌜ r ≡ planFigures (editionOf second startup) method job ⌝ }
     ensures { λ job _. ⌜ now (separators .exit) ≡ planOf job ++ drop (suc (processors job)) (now (separators .entry)) ⌝ }

@@ -14,7 +14,8 @@ pub struct After {
     pub free: usize,
 }
 
-/// A plan as expected: separators, bottleneck, counts by method, imbalance; the quick plan, and how the search of method 4 went.
+/// A plan as expected, of a job whose holds leave room: separators, bottleneck, counts by method, imbalance; the quick plan of its tiles and
+/// speeds, and how the search of method 4 went. With holds there is no such search, its count is 0, and the quick plan may break them.
 #[derive(Clone, Debug)]
 pub struct Solved {
     pub job: Job,
@@ -23,7 +24,7 @@ pub struct Solved {
     pub counts: [u64; 4],
     pub imbalance: u64,
     pub quick: Vec<usize>,
-    pub search: Search,
+    pub search: Option<Search>,
 }
 
 /// The plan's division and its bottleneck: of tiny jobs by every division, of others by the fast reference.
@@ -41,8 +42,12 @@ impl Solved {
         let tiny = damage::is_tiny(job);
         let (best, bottleneck) = best(job);
         let moves = if tiny { methods::moves_by_table(job) } else { methods::moves_by_walks(job) };
-        let search = if tiny { methods::search_in_turn(job) } else { methods::search_by_sums(job) };
-        let counts = [moves, methods::bids(job), methods::halvings(job), search.trials];
+        let search = match job.has_holds() {
+            true => None,
+            false if tiny => Some(methods::search_in_turn(job)),
+            false => Some(methods::search_by_sums(job)),
+        };
+        let counts = [moves, methods::bids(job), methods::halvings(job), search.as_ref().map_or(0, |s| s.trials)];
         let imbalance = methods::imbalance(job, bottleneck);
         assert!(methods::is_imbalance(job, bottleneck, imbalance), "{} is not the imbalance of {:?}", imbalance, job);
         Solved { job: job.clone(), best, bottleneck, counts, imbalance, quick: methods::quick(job), search }
@@ -51,6 +56,15 @@ impl Solved {
 
 pub fn words(bytes: &[u8]) -> Vec<u32> {
     bytes.chunks_exact(4).map(|b| u32::from_le_bytes(b.try_into().unwrap())).collect()
+}
+
+/// Entries of 16 bits.
+pub fn halves(bytes: &[u8]) -> Vec<u16> {
+    bytes.chunks_exact(2).map(|b| u16::from_le_bytes(b.try_into().unwrap())).collect()
+}
+
+pub fn bytes_of_holds(list: &[u16]) -> Vec<u8> {
+    list.iter().flat_map(|v| v.to_le_bytes()).collect()
 }
 
 pub fn bytes_of(list: &[u32]) -> Vec<u8> {
@@ -80,8 +94,12 @@ pub fn refuse_lists(edition: Edition, speeds: &[u32], weights: &[u32]) -> u32 {
     found.iter().find(|(bad, _)| *bad).map_or(0, |(_, number)| *number)
 }
 
-pub fn is_division(separators: &[u32], tiles: usize) -> bool {
-    separators[0] == 0 && separators.windows(2).all(|s| s[0] <= s[1]) && *separators.last().unwrap() as usize == tiles
+/// Whether the separators never fall, from 0 to N, and each share keeps the hold of its machine.
+pub fn is_division(job: &Job, separators: &[u32]) -> bool {
+    let (last, tiles) = (separators[separators.len() - 1] as usize, job.weights.len());
+    let keeps = |p: usize| job.keeps(p, separators[p] as usize, separators[p + 1] as usize);
+    let rises = separators[0] == 0 && separators.windows(2).all(|s| s[0] <= s[1]) && last == tiles;
+    rises && (0..job.speeds.len()).all(keeps)
 }
 
 /// What a call must give: the lists afterwards in the order of its slots, or the number of the refusal.
@@ -93,28 +111,62 @@ pub fn expected(call: Call, given: &[&[u8]], solved: Option<&Solved>) -> Result<
         Call::HostGrade => host_graded(given, solved),
         Call::Plan(_, method) if !(1..=4).contains(&method) => Err(1),
         _ => {
-            let (edition, speeds, weights) = (call.edition().unwrap(), words(given[0]), words(given[1]));
+            let (edition, speeds, weights) = (call.edition().unwrap(), words(given[0]), words(given[2]));
             match refuse_lists(edition, &speeds, &weights) {
-                0 => accepted(call, Job { startup: edition.counts(), speeds, weights }, given, solved),
+                0 => by_lists(call, edition, speeds, weights, given, solved),
                 number => Err(number),
             }
         }
     }
 }
 
+/// The next tests of a job by lists: a row to be halved, then the list of holds, of which there is one for each machine, or more.
+fn by_lists(
+    call: Call,
+    edition: Edition,
+    speeds: Vec<u32>,
+    weights: Vec<u32>,
+    given: &[&[u8]],
+    solved: Option<&Solved>,
+) -> Result<Vec<After>, u32> {
+    if matches!(call, Call::Halving(_)) && !halving::can_halve(&speeds) {
+        return Err(14);
+    }
+    let mut holds = halves(given[1]);
+    if holds.len() < speeds.len() {
+        return Err(9);
+    }
+    holds.truncate(speeds.len());
+    accepted(call, Job { startup: edition.counts(), speeds, holds, weights }, given, solved)
+}
+
 fn read(given: &[&[u8]]) -> Result<Vec<After>, u32> {
     let job = job::read(given[0], 1, usize::MAX)?;
-    let (speeds, weights) = (bytes_of(&job.speeds), bytes_of(&job.weights));
-    if given[1].len() < speeds.len() || given[2].len() < weights.len() {
+    let (speeds, holds, weights) = (bytes_of(&job.speeds), bytes_of_holds(&job.holds), bytes_of(&job.weights));
+    if given[1].len() < speeds.len() || given[2].len() < holds.len() || given[3].len() < weights.len() {
         return Err(9);
     }
     let edition = if job.is_second() { 2 } else { 1 };
-    let counts = answer(given[3], &[edition, job.c(), job.speeds.len() as u128, job.weights.len() as u128]);
-    Ok(vec![After::default(), After { front: speeds, free: 0 }, After { front: weights, free: 0 }, counts])
+    let counts = answer(given[4], &[edition, job.c(), job.speeds.len() as u128, job.weights.len() as u128]);
+    let list = |front: Vec<u8>| After { front, free: 0 };
+    Ok(vec![After::default(), list(speeds), list(holds), list(weights), counts])
+}
+
+/// The tests of the holds themselves, past that of their list: 17 where they leave no room for all tiles, then 18 for what is not made with
+/// holds.
+pub fn refuse_holds(job: &Job, unlimited_only: bool) -> Result<(), u32> {
+    if !job.has_room() {
+        return Err(17);
+    }
+    if unlimited_only && job.has_holds() {
+        return Err(18);
+    }
+    Ok(())
 }
 
 fn host(method: u32, given: &[&[u8]], solved: Option<&Solved>) -> Result<Vec<After>, u32> {
     let job = job::read(given[0], method, given[1].len())?;
+    refuse_holds(&job, method == 4)?;
     let own;
     let best = match solved {
         Some(s) if s.job == job => &s.best,
@@ -153,23 +205,22 @@ fn accepted(call: Call, job: Job, given: &[&[u8]], solved: Option<&Solved>) -> R
     let (machines, tiles) = (job.speeds.len(), job.weights.len());
     let file_bytes = limits::job_bytes(job.is_second(), machines, tiles);
     match call {
-        Call::Test(_) => return Ok(vec![stays(), stays()]),
-        Call::Write(_) if given[2].len() < file_bytes => return Err(9),
+        Call::Test(_) => return Ok(vec![stays(), stays(), stays()]),
+        Call::Write(_) if given[3].len() < file_bytes => return Err(9),
         Call::Write(_) => {
             let file = After { front: job.file(), free: 0 };
-            return Ok(vec![stays(), stays(), file, answer(given[3], &[file_bytes as u128])]);
+            return Ok(vec![stays(), stays(), stays(), file, answer(given[4], &[file_bytes as u128])]);
         }
         Call::Grade(_) => {
-            let grade = grading::grade(&job, given[2], solved)?;
-            return Ok(vec![stays(), stays(), stays(), answer(given[3], &[grade.number() as u128])]);
+            let grade = grading::grade(&job, given[3], solved)?;
+            return Ok(vec![stays(), stays(), stays(), stays(), answer(given[4], &[grade.number() as u128])]);
         }
-        Call::Halving(_) if !halving::can_halve(&job.speeds) => return Err(14),
         _ => {}
     }
-    let separators = words(given[2]);
+    let separators = words(given[3]);
     let short = match call {
-        Call::Plan(..) => given[3].len() < 4 * limits::work_numbers(tiles),
-        Call::PlanFile(_) => given[3].len() < limits::plan_bytes(machines),
+        Call::Plan(..) => given[4].len() < 4 * limits::work_numbers(tiles),
+        Call::PlanFile(_) => given[4].len() < limits::plan_bytes(machines),
         _ => false,
     };
     if separators.len() < machines + 1 || short {
@@ -178,46 +229,54 @@ fn accepted(call: Call, job: Job, given: &[&[u8]], solved: Option<&Solved>) -> R
     match call {
         Call::Trial(_, load, speed) => tried(&job, load, speed, given),
         Call::Measure(_) | Call::PlanFile(_) => divided(call, &job, &separators[..machines + 1], given),
+        // The quick plans make no test of the room.
+        Call::Quick(_) | Call::Halving(_) if job.has_holds() => Err(18),
         Call::Halving(_) => Ok(written(&job, &halving::in_turn(&job).separators, given)),
         _ => solved_answer(call, job, given, solved),
     }
 }
 
 fn tried(job: &Job, load: u64, speed: u64, given: &[&[u8]]) -> Result<Vec<After>, u32> {
+    refuse_holds(job, false)?;
     if load > BOUND_LOAD || speed == 0 || speed > BOUND_SPEED {
         return Err(10);
     }
     let found = methods::trial(job, (load as u128, speed as u128));
-    let said = match found.next {
-        None => vec![1, found.machines.unwrap() as u128],
-        Some(next) => vec![0, next.0, next.1],
+    let said = match found.machines {
+        Some(machines) => vec![1, machines as u128],
+        None => {
+            let next = found.next.unwrap_or_else(|| panic!("no bid at {}/{} for {:?}", load, speed, job));
+            vec![0, next.0, next.1]
+        }
     };
-    Ok(vec![After::default(), After::default(), front(&found.separators), answer(given[3], &said)])
+    let stays = After::default;
+    Ok(vec![stays(), stays(), stays(), front(&found.separators), answer(given[4], &said)])
 }
 
 fn divided(call: Call, job: &Job, separators: &[u32], given: &[&[u8]]) -> Result<Vec<After>, u32> {
-    if !is_division(separators, job.weights.len()) {
+    if !is_division(job, separators) {
         return Err(11);
     }
     let stays = After::default;
     let division: Vec<usize> = separators.iter().map(|&s| s as usize).collect();
     if matches!(call, Call::Measure(_)) {
         let found = slow::bottleneck(job, &division);
-        return Ok(vec![stays(), stays(), stays(), answer(given[3], &[found.0, found.1])]);
+        return Ok(vec![stays(), stays(), stays(), stays(), answer(given[4], &[found.0, found.1])]);
     }
     let plan = job::encode(&job::plan_of(job, &division));
     let bytes = plan.len() as u128;
-    Ok(vec![stays(), stays(), stays(), After { front: plan, free: 0 }, answer(given[4], &[bytes])])
+    Ok(vec![stays(), stays(), stays(), stays(), After { front: plan, free: 0 }, answer(given[5], &[bytes])])
 }
 
 /// The quick plan and halving the row: the separators, and their bottleneck for an answer.
 fn written(job: &Job, separators: &[usize], given: &[&[u8]]) -> Vec<After> {
-    let found = slow::bottleneck(job, separators);
-    vec![After::default(), After::default(), front(separators), answer(given[3], &[found.0, found.1])]
+    let (found, stays) = (slow::bottleneck(job, separators), After::default);
+    vec![stays(), stays(), stays(), front(separators), answer(given[4], &[found.0, found.1])]
 }
 
 /// The quick plan and the plan by a method.
 fn solved_answer(call: Call, job: Job, given: &[&[u8]], solved: Option<&Solved>) -> Result<Vec<After>, u32> {
+    refuse_holds(&job, matches!(call, Call::Plan(_, 4)))?;
     let own;
     let s = match solved {
         Some(s) if s.job == job => s,
@@ -238,5 +297,5 @@ fn solved_answer(call: Call, job: Job, given: &[&[u8]], solved: Option<&Solved>)
         s.bottleneck.1,
         s.imbalance as u128,
     ];
-    Ok(vec![stays(), stays(), front(&s.best), work, answer(given[4], &figures)])
+    Ok(vec![stays(), stays(), stays(), front(&s.best), work, answer(given[5], &figures)])
 }

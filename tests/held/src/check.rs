@@ -5,7 +5,7 @@ use crate::guard;
 use crate::job::{self, Job, Plan};
 use crate::lent::Lent;
 use crate::limits::STARTUP;
-use crate::planner::{self, At, Call, Edition, Slot};
+use crate::planner::{self, At, Call, Edition, Slot, LISTS};
 use crate::rng::Rng;
 
 /// Room of one lent list.
@@ -41,6 +41,21 @@ pub struct Check {
     /// How many accepted jobs were of the first edition, of the second without start-up work, with some, and with the most; of those with
     /// some, how many whose plan is another than without it, whose plan uses fewer machines, and whose one machine makes bidding try twice.
     pub editions: [u64; 7],
+    /// Of accepted jobs with holds: how many had start-up work; no tiles; just as many places as tiles, and one more; one machine without a
+    /// limit; the last of several limited alone; a hold of 1, of the most that 16 bits have, of N; and the most tiles on the most machines.
+    pub kinds_of_holds: [u64; 10],
+    /// Of tiny ones: how many had a greater bottleneck than without holds; an equal one with another plan; another count of moves, of
+    /// bidding's trials, of bisection's; a j of the table that starts above 0; a crossing that would come earlier from 0 on; a smaller value
+    /// at the index before the start; an entry without a division past the first row, and in it.
+    pub changed_by_holds: [u64; 10],
+    /// How many jobs had holds that leave no room for all tiles, and for all but one.
+    pub short_holds: [u64; 2],
+    /// Of trials with holds: how often one failed in which a machine at its hold did not bid; its bid would have been the least; the last had
+    /// no bid; the last reached no further for its hold, and no further for the bound alone; and how often one fitted in which a machine was at its
+    /// hold, and the last had just as many tiles as it holds.
+    pub held_trials: [u64; 7],
+    /// How many listings had the lines of three plans, and said 17; and how many plans were refused with 11 for a hold alone.
+    pub held_files: [u64; 3],
     /// How often each of the two gradings said best, and valid.
     grades: [[u64; 2]; 2],
     /// How many best plans had other separators than the planner's, and of these how many had their bottleneck as another pair.
@@ -54,23 +69,23 @@ pub struct Check {
 
 /// The calls, the name of each, and the numbers that it can give.
 pub const KINDS: [(&str, &[u32]); 13] = [
-    ("testing", &[0, 16, 5, 6, 7, 8]),
+    ("testing", &[0, 16, 5, 6, 7, 8, 9]),
     ("reading", &[0, 2, 3, 4, 15, 5, 6, 16, 7, 8, 9]),
     ("writing", &[0, 16, 5, 6, 7, 8, 9]),
     ("measuring", &[0, 16, 5, 6, 7, 8, 9, 11]),
-    ("trial", &[0, 16, 5, 6, 7, 8, 9, 10]),
-    ("quick plan", &[0, 16, 5, 6, 7, 8, 9]),
-    ("halving", &[0, 16, 5, 6, 7, 8, 14, 9]),
-    ("plan", &[0, 1, 16, 5, 6, 7, 8, 9]),
+    ("trial", &[0, 16, 5, 6, 7, 8, 9, 17, 10]),
+    ("quick plan", &[0, 16, 5, 6, 7, 8, 9, 18]),
+    ("halving", &[0, 16, 5, 6, 7, 8, 14, 9, 18]),
+    ("plan", &[0, 1, 16, 5, 6, 7, 8, 9, 17, 18]),
     ("plan file", &[0, 16, 5, 6, 7, 8, 9, 11]),
-    ("C call", &[0, 1, 2, 3, 4, 15, 5, 6, 16, 7, 8, 9]),
+    ("C call", &[0, 1, 2, 3, 4, 15, 5, 6, 16, 7, 8, 9, 17, 18]),
     ("listing", &[0, 9]),
-    ("grading", &[0, 16, 5, 6, 7, 8, 11, 12, 13]),
-    ("C grading", &[0, 2, 3, 4, 15, 5, 6, 16, 7, 8, 9, 11, 12, 13]),
+    ("grading", &[0, 16, 5, 6, 7, 8, 9, 12, 11, 13]),
+    ("C grading", &[0, 2, 3, 4, 15, 5, 6, 16, 7, 8, 9, 12, 11, 13]),
 ];
 
 /// One more than the greatest number: what no call can give counts as this.
-const OTHER: usize = 17;
+const OTHER: usize = 19;
 
 /// Where the two gradings stand among the calls.
 const GRADING: usize = 11;
@@ -97,7 +112,8 @@ fn kind(call: Call) -> usize {
 fn describe_file(file: &[u8]) -> String {
     if let Ok(j) = job::read(file, 1, usize::MAX) {
         let edition = j.startup.map_or("first edition".to_string(), |c| format!("second edition, start-up work {}", c));
-        return format!("{}\n  {} machines, speeds {:?}\n  {} tiles, weights {:?}", edition, j.speeds.len(), j.speeds, j.weights.len(), j.weights);
+        let machines = format!("{} machines, speeds {:?}, holds {:?}", j.speeds.len(), j.speeds, j.holds);
+        return format!("{}\n  {}\n  {} tiles, weights {:?}", edition, machines, j.weights.len(), j.weights);
     }
     let records: Vec<String> = file.chunks(8).take(4096).map(|r| r.iter().map(|b| format!("{:02x}", b)).collect()).collect();
     format!("{} bytes, records {}", file.len(), records.join(" "))
@@ -109,8 +125,9 @@ pub fn describe(call: Call, lists: &[&[u8]]) -> String {
     for (slot, list) in call.slots().iter().zip(lists) {
         text += &match slot {
             Slot::File if !matches!(call, Call::Write(_)) => format!("\n  file: {}", describe_file(list)),
-            Slot::Speeds | Slot::Weights if call == Call::Read => format!("\n  {:?}: {} entries", slot, list.len() / 4),
+            Slot::Speeds | Slot::Holds | Slot::Weights if call == Call::Read => format!("\n  {:?}: {} entries", slot, list.len() / slot.width()),
             Slot::Speeds | Slot::Weights | Slot::Separators => format!("\n  {:?}: {} entries {:?}", slot, list.len() / 4, answers::words(list)),
+            Slot::Holds => format!("\n  {:?}: {} entries {:?}", slot, list.len() / 2, answers::halves(list)),
             Slot::Plan if kind(call) >= GRADING => format!("\n  plan: {} bytes {:?}", list.len(), job::decode(&list[..list.len().min(16 * 300)])),
             _ => format!("\n  {:?}: {} entries", slot, list.len() / slot.width()),
         };
@@ -140,7 +157,7 @@ fn some_startup(r: &mut Rng) -> u32 {
 impl Check {
     pub fn new(seed: u64) -> Check {
         Check {
-            desk: (0..5).map(|_| Lent::new(ROOM)).collect(),
+            desk: (0..LISTS).map(|_| Lent::new(ROOM)).collect(),
             rng: Rng::new(seed),
             calls: 0,
             jobs_seen: 0,
@@ -153,6 +170,11 @@ impl Check {
             searches: [0; 4],
             noughts: [0; 5],
             editions: [0; 7],
+            kinds_of_holds: [0; 10],
+            changed_by_holds: [0; 10],
+            short_holds: [0; 2],
+            held_trials: [0; 7],
+            held_files: [0; 3],
             grades: [[0; 2]; 2],
             others: [0; 2],
             splits: [0; 2],
@@ -163,6 +185,26 @@ impl Check {
     /// How the edition of a job comes beside its lists. In the first one any start-up work does, since it is neither tested nor counted.
     pub fn edition(&mut self, job: &Job) -> Edition {
         Edition { second: job.is_second(), startup: job.startup.unwrap_or_else(|| some_startup(&mut self.rng)) }
+    }
+
+    /// The holds of a job as a list: just so many, or more, and what stands behind those of the machines is anything.
+    pub fn holds(&mut self, job: &Job) -> Vec<u8> {
+        let more = self.rng.below(4).saturating_sub(1);
+        self.holds_of(job, job.holds.len() + more)
+    }
+
+    /// The same with so many entries, fewer than machines too.
+    pub fn holds_of(&mut self, job: &Job, entries: usize) -> Vec<u8> {
+        let mut bytes = answers::bytes_of_holds(&job.holds);
+        bytes.truncate(2 * entries);
+        let more = (entries).saturating_sub(job.holds.len());
+        // Often such as would count: all limited, none limited, the least, the most.
+        let style = self.rng.below(5);
+        for _ in 0..more {
+            let any = self.rng.next() as u16;
+            bytes.extend([0, 1, u16::MAX, any, any][style].to_le_bytes());
+        }
+        bytes
     }
 
     pub fn fail(&mut self, what: &str, job: String) {
@@ -180,7 +222,7 @@ impl Check {
         self.calls += 1;
         let slots = call.slots();
         assert_eq!(slots.len(), given.len());
-        let mut at: [At; 5] = [(std::ptr::null_mut(), 0); 5];
+        let mut at: [At; LISTS] = [(std::ptr::null_mut(), 0); LISTS];
         for (k, slot) in slots.iter().enumerate() {
             self.desk[k].lend(&mut self.rng, given[k], slot.width());
             at[k] = (self.desk[k].place(), given[k].len() / slot.width());
@@ -227,10 +269,10 @@ impl Check {
     /// Nought means nought, asked of the planner's own figures: with Wtot above 0 its imbalance is 0 exactly where its bottleneck meets
     /// the ideal as a bound, and with Wtot 0 it is 0.
     fn nought(&mut self, given: &[&[u8]]) -> bool {
-        let figures: Vec<u128> = self.desk[4].now().chunks_exact(8).map(|b| u64::from_le_bytes(b.try_into().unwrap()) as u128).collect();
+        let figures: Vec<u128> = self.desk[5].now().chunks_exact(8).map(|b| u64::from_le_bytes(b.try_into().unwrap()) as u128).collect();
         let &[_, _, load, speed, imbalance, ..] = &figures[..] else { return true };
         let sum = |list: &[u8]| list.chunks_exact(4).map(|b| u32::from_le_bytes(b.try_into().unwrap()) as u128).sum::<u128>();
-        let (all_speed, whole) = (sum(given[0]), sum(given[1]));
+        let (all_speed, whole) = (sum(given[0]), sum(given[2]));
         let meets = load * all_speed == whole * speed;
         let which = match whole {
             0 if load == 0 => 0,
@@ -288,9 +330,10 @@ impl Check {
         let file = job.file();
         let exact = 16 * job.speeds.len();
         for method in 1..=4 {
-            self.call(&file, method, exact, Ok(&plan));
+            let wanted = if method == 4 && job.has_holds() { Err(18) } else { Ok(&plan) };
+            self.call(&file, method, exact, wanted);
             let longer = exact + 1 + self.rng.below(80);
-            self.call(&file, method, longer, Ok(&plan));
+            self.call(&file, method, longer, wanted);
             let shorter = if self.rng.once_in(2) { exact - 1 } else { self.rng.below(exact) };
             self.call(&file, method, shorter, Err(9));
         }

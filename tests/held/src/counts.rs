@@ -9,11 +9,14 @@ use crate::limits::{MACHINES, SPEED, STARTUP, TILES, TOO_MANY, WEIGHT};
 use crate::planner::Call;
 use crate::{every, listing, small};
 
-/// Lists of so many machines and tiles, with good speeds and weights, of either edition.
+/// Lists of so many machines and tiles, with good speeds and weights, of either edition, with holds or without.
 fn sized(c: &mut Check, machines: usize, tiles: usize) -> Job {
     let speeds = small::speeds(&mut c.rng, machines);
-    let weights = (0..tiles).map(|_| c.rng.range(0, 9)).collect();
-    small::job_of(&mut c.rng, speeds, weights)
+    let weights: Vec<u32> = (0..tiles).map(|_| c.rng.range(0, 9)).collect();
+    match machines {
+        0 => Job::of(small::startup(&mut c.rng, &weights), &speeds, &weights),
+        _ => small::job_of(&mut c.rng, speeds, weights),
+    }
 }
 
 /// All tiles on the last machine: a division but for rows without a machine.
@@ -31,26 +34,26 @@ fn by_lists(c: &mut Check, job: &Job, number: u32) {
     let separators = bytes_of(&separators);
     let plan = job::encode(&job::plan_of(job, &division(job)));
     let answer = c.rng.pattern(8 * 5);
-    let n = c.edition(job);
-    c.refuse(Call::Test(n), &[&e, &w], number);
     for enough in [true, false] {
         let n = c.edition(job);
         let len = |needed: usize| if enough { needed } else { 0 };
+        let h = c.holds_of(job, len(machines));
+        c.refuse(Call::Test(n), &[&e, &h, &w], number);
         let s = &separators[..len(separators.len())];
         let (file, room) = (c.rng.pattern(len(job_bytes(n.second, machines, tiles))), c.rng.pattern(len(plan_bytes(machines))));
         let work = c.rng.pattern(len(4 * work_numbers(tiles)));
         let (load, speed) = if enough { (BOUND_LOAD, 1) } else { (0, 0) };
-        c.refuse(Call::Write(n), &[&e, &w, &file, &answer], number);
-        c.refuse(Call::Measure(n), &[&e, &w, s, &answer], number);
-        c.refuse(Call::Trial(n, load, speed), &[&e, &w, s, &answer], number);
-        c.refuse(Call::Quick(n), &[&e, &w, s, &answer], number);
-        c.refuse(Call::Halving(n), &[&e, &w, s, &answer], number);
+        c.refuse(Call::Write(n), &[&e, &h, &w, &file, &answer], number);
+        c.refuse(Call::Measure(n), &[&e, &h, &w, s, &answer], number);
+        c.refuse(Call::Trial(n, load, speed), &[&e, &h, &w, s, &answer], number);
+        c.refuse(Call::Quick(n), &[&e, &h, &w, s, &answer], number);
+        c.refuse(Call::Halving(n), &[&e, &h, &w, s, &answer], number);
         for method in 1..=4 {
-            c.refuse(Call::Plan(n, method), &[&e, &w, s, &work, &answer], number);
+            c.refuse(Call::Plan(n, method), &[&e, &h, &w, s, &work, &answer], number);
         }
-        c.refuse(Call::Plan(n, 5), &[&e, &w, s, &work, &answer], 1);
-        c.refuse(Call::PlanFile(n), &[&e, &w, s, &room, &answer], number);
-        c.refuse(Call::Grade(n), &[&e, &w, &plan[..len(plan.len())], &answer], number);
+        c.refuse(Call::Plan(n, 5), &[&e, &h, &w, s, &work, &answer], 1);
+        c.refuse(Call::PlanFile(n), &[&e, &h, &w, s, &room, &answer], number);
+        c.refuse(Call::Grade(n), &[&e, &h, &w, &plan[..len(plan.len())], &answer], number);
     }
 }
 
@@ -67,8 +70,9 @@ fn by_file(c: &mut Check, job: &Job, number: u32) {
         c.refuse(Call::Host { method: 0 }, &[&file, &room], 1);
     }
     let (speeds, weights, answer) = (c.rng.pattern(4 * machines), c.rng.pattern(4 * tiles), c.rng.pattern(8 * 4));
-    c.refuse(Call::Read, &[&file, &speeds, &weights, &answer], number);
-    c.refuse(Call::Read, &[&file, &[], &[], &[]], number);
+    let holds = c.rng.pattern(2 * machines);
+    c.refuse(Call::Read, &[&file, &speeds, &holds, &weights, &answer], number);
+    c.refuse(Call::Read, &[&file, &[], &[], &[], &[]], number);
     let grade = c.rng.pattern(1);
     c.refuse(Call::HostGrade, &[&file, &plan, &grade], number);
     c.refuse(Call::HostGrade, &[&file, &[], &[]], number);
@@ -114,13 +118,14 @@ fn too_much(c: &mut Check, machines: usize, tiles: usize, number: u32) {
 
 /// The call that halves a row, with so many entries for separators.
 fn halve(c: &mut Check, job: &Job, room: usize, number: u32) {
-    let (e, w) = (bytes_of(&job.speeds), bytes_of(&job.weights));
+    let (e, h, w) = (bytes_of(&job.speeds), c.holds(job), bytes_of(&job.weights));
     let (separators, answer, n) = (c.rng.pattern(4 * room), c.rng.pattern(8 * 3), c.edition(job));
-    c.refuse(Call::Halving(n), &[&e, &w, &separators, &answer], number);
+    c.refuse(Call::Halving(n), &[&e, &h, &w, &separators, &answer], number);
 }
 
 /// Rows of one speed, of every length: those of 1, 2, 4 and so on machines up to the limit are halved, all others up to it give 14, with
-/// no room for separators too; past it they give 7, also where they are a power of two. With too many tiles it is 8 before 14.
+/// no room for separators too; past it they give 7, also where they are a power of two. With too many tiles it is 8 before 14, and with holds
+/// 18 at last.
 fn lengths_to_halve(c: &mut Check) {
     let doubled: Vec<usize> = (0..8).map(|k| 1 << k).filter(|&p| p <= MACHINES).collect();
     assert_eq!(doubled.last(), Some(&LONGEST_HALVED));
@@ -128,14 +133,19 @@ fn lengths_to_halve(c: &mut Check) {
         c.jobs_seen += 1;
         let speed = c.rng.pick(&[1, 2, 3, SPEED]);
         for tiles in [0, 1, 5, TILES + 1] {
-            let weights = (0..tiles).map(|_| c.rng.range(0, 9)).collect();
-            let job = small::job_of(&mut c.rng, vec![speed; machines], weights);
+            let weights: Vec<u32> = (0..tiles).map(|_| c.rng.range(0, 9)).collect();
+            let startup = small::startup(&mut c.rng, &weights);
+            let mut job = Job::of(startup, &vec![speed; machines], &weights);
+            if machines > 0 && c.rng.once_in(3) {
+                job = small::held(&mut c.rng, &job);
+            }
             for room in [0, machines / 2, machines, machines + 1, machines + 4] {
                 let number = match machines {
                     _ if machines == 0 || machines > MACHINES => 7,
                     _ if tiles > TILES => 8,
                     _ if !doubled.contains(&machines) => 14,
                     _ if room <= machines => 9,
+                    _ if job.has_holds() => 18,
                     _ => 0,
                 };
                 halve(c, &job, room, number);
@@ -173,7 +183,8 @@ fn speeds_to_halve(c: &mut Check) {
             for room in [0, machines, machines + 1] {
                 halve(c, &job, room, 14);
             }
-            halve(c, &Job { speeds: vec![job.speeds[0]; machines], ..job }, machines + 1, 0);
+            let number = if job.has_holds() { 18 } else { 0 };
+            halve(c, &Job { speeds: vec![job.speeds[0]; machines], ..job }, machines + 1, number);
         }
         machines *= 2;
     }

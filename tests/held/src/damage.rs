@@ -1,7 +1,7 @@
 //! Random bytes and damaged files; the expected answer comes from the solver's own reader.
 
 use crate::check::Check;
-use crate::job::{head, machine, tile, Job, Record};
+use crate::job::{head, holding, machine, tile, Job, Record};
 use crate::limits::{plan_bytes, MACHINES, SPEED, STARTUP, TILES, WEIGHT};
 use crate::planner::Call;
 use crate::{every, grades, small};
@@ -17,9 +17,10 @@ fn judge(c: &mut Check, file: &[u8], method: u32, plan_len: usize) {
     let plan = c.rng.pattern(plan_len);
     c.judge(Call::Host { method }, &[file, &plan], None);
     let records = file.len() / 8;
-    let (e, w) = (c.rng.below(records + 3), c.rng.below(records + 3));
-    let (e, w) = if c.rng.once_in(3) { (records, records) } else { (e, w) };
-    every::read_into(c, file, e, w);
+    let (e, h, w) = (c.rng.below(records + 3), c.rng.below(records + 3), c.rng.below(records + 3));
+    let h = if c.rng.once_in(2) { records } else { h };
+    let (e, h, w) = if c.rng.once_in(3) { (records, records, records) } else { (e, h, w) };
+    every::read_into(c, file, e, h, w);
     if c.rng.once_in(3) {
         grades::beside(c, file);
     }
@@ -44,7 +45,7 @@ fn some_room(c: &mut Check, machines: usize) -> usize {
 fn random_bytes(c: &mut Check) {
     let len = if c.rng.once_in(3) { c.rng.below(200) } else { 8 * c.rng.below(25) };
     // All bytes, or few, so that some records are good.
-    let (few, second) = (c.rng.below(4), c.rng.once_in(2));
+    let (few, second, held) = (c.rng.below(4), c.rng.once_in(2), c.rng.once_in(3));
     let file: Vec<u8> = (0..len)
         .map(|k| match few {
             0 => c.rng.next() as u8,
@@ -52,6 +53,7 @@ fn random_bytes(c: &mut Check) {
             _ if k == 0 && second || k > 0 && k % 8 == 0 && c.rng.once_in(60) => 3,
             _ if k % 8 == 0 => c.rng.range(1, 2) as u8,
             _ if k % 8 == 4 => c.rng.range(0, 255) as u8,
+            _ if held && (k % 8 == 2 || k % 8 == 3) && k < len / 2 => c.rng.pick(&[0, 0, 1, 2]),
             _ => c.rng.once_in(300) as u8,
         })
         .collect();
@@ -60,7 +62,8 @@ fn random_bytes(c: &mut Check) {
     judge(c, &file, method, room);
 }
 
-/// Records of good kinds with values at the edges, in either edition; now and then a first record's kind at another place.
+/// Records of good kinds with values at the edges, in either edition, with holds or without; now and then a first record's kind at another
+/// place.
 fn random_records(c: &mut Check) {
     let (machines, tiles) = (c.rng.below(5), c.rng.below(9));
     let rare = 2 + c.rng.below(40);
@@ -70,10 +73,12 @@ fn random_records(c: &mut Check) {
         let v = if bad { c.rng.pick(&[STARTUP + 1, 1_048_576, u32::MAX]) } else { c.rng.pick(&[0, 1, STARTUP - 1, STARTUP]) };
         records.push(head(v));
     }
+    let held = c.rng.once_in(3);
     for _ in 0..machines {
         let bad = c.rng.once_in(rare);
         let v = if bad { c.rng.pick(&[0, SPEED + 1, WEIGHT, u32::MAX]) } else { c.rng.pick(&[1, 2, SPEED - 1, SPEED]) };
-        records.push(machine(v));
+        let h = if held { c.rng.pick(&[0, 1, 2, 3, tiles as u16, 256, u16::MAX]) } else { 0 };
+        records.push(holding(v, h));
     }
     for _ in 0..tiles {
         let bad = c.rng.once_in(rare);
@@ -123,7 +128,7 @@ pub fn spoil(c: &mut Check, file: &mut Vec<u8>) {
 fn damaged(c: &mut Check, machines_max: usize, tiles_max: usize) {
     let machines = 1 + c.rng.below(machines_max);
     let tiles = c.rng.below(tiles_max + 1);
-    let mut file = small::sized(&mut c.rng, machines, tiles).file();
+    let mut file = small::any_sized(&mut c.rng, machines, tiles).file();
     for _ in 0..1 + c.rng.below(2) {
         spoil(c, &mut file);
     }

@@ -3,40 +3,52 @@
 //! Two unequal bounds lie at least 1 over the square of the greatest speed apart. On a grid of steps of half of that, the least
 //! step t at which a walk fits has exactly one share's bound between t − 1 (excluded) and t, and it is the least bottleneck. So
 //! the search is a halving of whole numbers t. The result is then checked exactly: no division keeps every share strictly below
-//! the bottleneck found, and the walk at the bottleneck itself gives the furthest division.
+//! the bottleneck found, and the walk at the bottleneck itself gives the furthest division. Every walk keeps the holds.
 
 use crate::job::Job;
 use crate::limits::SPEED;
 
 const STEPS: i128 = 2 * SPEED as i128 * SPEED as i128;
 
-/// Gives each machine but the last as many tiles as `within(load, speed)` allows; None if the last one's rest is too much.
+/// Gives each machine but the last as many tiles as `within(load, speed)` and its hold allow; None if the last one's rest is too much.
 fn walk(job: &Job, within: impl Fn(i128, i128) -> bool) -> Option<Vec<usize>> {
     let tiles = job.weights.len();
     let mut separators = vec![0];
     let mut at = 0;
     let (last, others) = job.speeds.split_last().unwrap();
-    for &speed in others {
+    for (&speed, &hold) in others.iter().zip(&job.holds) {
         let mut load = job.c() as i128;
-        while at < tiles && within(load + job.weights[at] as i128, speed as i128) {
+        let end = last_place(tiles, at, hold);
+        while at < end && within(load + job.weights[at] as i128, speed as i128) {
             load += job.weights[at] as i128;
             at += 1;
         }
         separators.push(at);
     }
     let rest = load_of(job, &job.weights[at..]);
+    let holds_rest = last_place(tiles, at, job.holds[others.len()]) == tiles;
     separators.push(tiles);
-    within(rest, *last as i128).then_some(separators)
+    (holds_rest && within(rest, *last as i128)).then_some(separators)
+}
+
+/// How far a machine with this hold can get from an index on.
+fn last_place(tiles: usize, from: usize, hold: u16) -> usize {
+    match hold {
+        0 => tiles,
+        _ => tiles.min(from + hold as usize),
+    }
 }
 
 /// Whether the first machines, so many of them, can take all tiles in order within a bound: from the last tile back each takes all that it
-/// can carry beside the start-up work.
+/// can hold and can carry beside the start-up work.
 pub fn take_all(job: &Job, machines: usize, (load, speed): (u128, u128)) -> bool {
     let mut left = &job.weights[..];
-    for &e in job.speeds[..machines].iter().rev() {
+    for (&e, &hold) in job.speeds[..machines].iter().zip(&job.holds).rev() {
         let Some(mut carries) = (load as u64 * e as u64 / speed as u64).checked_sub(job.c() as u64) else { continue };
-        while let Some((&last, others)) = left.split_last().filter(|(&last, _)| last as u64 <= carries) {
+        let mut places = if hold == 0 { usize::MAX } else { hold as usize };
+        while let Some((&last, others)) = left.split_last().filter(|(&last, _)| last as u64 <= carries && places > 0) {
             carries -= last as u64;
+            places -= 1;
             left = others;
         }
     }
@@ -49,11 +61,11 @@ fn load_of(job: &Job, tiles: &[u32]) -> i128 {
     weight + if tiles.is_empty() { 0 } else { job.c() as i128 }
 }
 
-/// The furthest best division and its bottleneck.
+/// The furthest best division and its bottleneck. The holds leave room for all tiles.
 pub fn solve(job: &Job) -> (Vec<usize>, (u128, u128)) {
     let total = load_of(job, &job.weights);
     let fits = |t: i128| walk(job, |load, speed| load * STEPS <= t * speed);
-    // At `high` the whole row fits on the last machine.
+    // At `high` every division fits.
     let (mut low, mut high) = (-1i128, total * STEPS);
     while high - low > 1 {
         let middle = low + (high - low) / 2;

@@ -39,7 +39,7 @@ fn chosen() -> Run {
 }
 
 fn all() -> impl Iterator<Item = &'static (&'static str, &'static str, Run)> {
-    FAULTS.iter().chain(ROWS).chain(STARTUPS).chain(TESTS)
+    FAULTS.iter().chain(ROWS).chain(STARTUPS).chain(TESTS).chain(HOLDS).chain(HELD).chain(HELD_BEHIND).chain(HELD_LISTS)
 }
 
 /// Prints the name of every fault, and what it is.
@@ -53,6 +53,27 @@ impl Lists<'_> {
     fn place(&self, slot: Slot) -> Option<At> {
         let k = self.call.slots().iter().position(|&s| s == slot)?;
         (!self.at[k].0.is_null()).then_some(self.at[k])
+    }
+
+    /// How many entries a list has; 0 where the call has no such list.
+    fn many(&self, slot: Slot) -> usize {
+        self.call.slots().iter().position(|&s| s == slot).map_or(0, |k| self.at[k].1)
+    }
+
+    /// Of a call on lists.
+    fn machines(&self) -> usize {
+        self.many(Slot::Speeds)
+    }
+
+    fn tiles(&self) -> usize {
+        self.many(Slot::Weights)
+    }
+
+    fn holds(&self) -> &'static mut [u16] {
+        match self.place(Slot::Holds) {
+            Some((at, n)) => unsafe { std::slice::from_raw_parts_mut(at as *mut u16, n) },
+            None => &mut [],
+        }
     }
 
     fn words(&self, slot: Slot) -> &'static mut [u32] {
@@ -96,9 +117,11 @@ impl Lists<'_> {
         }
     }
 
-    /// The job of a call on lists, whatever is wrong with it.
+    /// The job of a call on lists, whatever is wrong with it; holds that are not there are none.
     fn listed_job(&self) -> Job {
-        Job::of(self.edition().counts(), self.words(Slot::Speeds), self.words(Slot::Weights))
+        let mut holds = self.holds().to_vec();
+        holds.resize(self.machines(), 0);
+        Job::held(self.edition().counts(), self.words(Slot::Speeds), &holds, self.words(Slot::Weights))
     }
 
     /// The edition that comes beside the lists of a call on lists.
@@ -296,12 +319,15 @@ impl Lists<'_> {
         let s = self.words(Slot::Separators);
         let has = |slot| self.call.slots().contains(&slot);
         let lends = has(Slot::Separators);
-        let mut short = lends && s.len() < e.len() + 1;
+        let (job, few_holds) = (self.listed_job(), has(Slot::Holds) && self.many(Slot::Holds) < e.len());
+        let mut short = few_holds || lends && s.len() < e.len() + 1;
         short |= has(Slot::Work) && self.words(Slot::Work).len() < work_numbers(w.len());
         short |= has(Slot::Plan) && self.bytes(Slot::Plan).len() < plan_bytes(e.len());
         let Edition { second, startup } = self.edition();
         short |= self.is_write() && self.bytes(Slot::File).len() < job_bytes(second, e.len(), w.len());
         let divides = matches!(self.call, Call::Measure(_) | Call::PlanFile(_));
+        let plans = matches!(self.call, Call::Trial(..) | Call::Plan(..));
+        let unlimited_only = matches!(self.call, Call::Quick(_) | Call::Halving(_) | Call::Plan(_, 4));
         let out = |load, speed| load > BOUND_LOAD || !(1..=BOUND_SPEED).contains(&speed);
         let tests = [
             (matches!(self.call, Call::Plan(_, method) if !(1..=4).contains(&method)), 1),
@@ -312,8 +338,10 @@ impl Lists<'_> {
             (w.len() > TILES, 8),
             (self.is_halving() && !halving::can_halve(e), 14),
             (short, 9),
+            (plans && !few_holds && !e.is_empty() && !job.has_room(), 17),
+            (unlimited_only && !few_holds && job.has_holds(), 18),
             (matches!(self.call, Call::Trial(_, load, speed) if out(load, speed)), 10),
-            (divides && s.len() > e.len() && !answers::is_division(&s[..e.len() + 1], w.len()), 11),
+            (divides && s.len() > e.len() && !answers::is_division(&job, &s[..e.len() + 1]), 11),
         ];
         tests.iter().filter(|t| t.0).map(|t| t.1).collect()
     }
@@ -487,6 +515,69 @@ impl Lists<'_> {
         self.with(Slot::File, &mut file)
     }
 
+    /// The call with other holds, by those of its machines: in its list, or in the records of its file where that is one of a job. Where the
+    /// list is too short it stays.
+    fn with_holds(&self, wanted: bool, change: impl Fn(&mut [u16], usize)) -> u32 {
+        if !wanted {
+            return self.real();
+        }
+        if self.call.edition().is_some() {
+            let mut list = self.holds().to_vec();
+            if list.len() >= self.machines() {
+                change(&mut list[..self.machines()], self.tiles());
+            }
+            return self.with_hold_list(list);
+        }
+        let Ok(job) = job::parse(self.bytes(Slot::File)) else { return self.real() };
+        let mut holds = job.holds.clone();
+        change(&mut holds, job.weights.len());
+        self.with(Slot::File, &mut job.holding(holds).file())
+    }
+
+    /// A call on lists with another list of holds.
+    fn with_hold_list(&self, mut list: Vec<u16>) -> u32 {
+        let k = self.call.slots().iter().position(|&s| s == Slot::Holds).unwrap();
+        let mut at = self.at.to_vec();
+        at[k] = (list.as_mut_ptr() as *mut u8, list.len());
+        unsafe { planner::real(self.call, &at) }
+    }
+
+    /// The same with the list made another way, by how many machines there are.
+    fn listing_holds(&self, wanted: bool, change: impl Fn(&mut Vec<u16>, usize)) -> u32 {
+        if !wanted {
+            return self.real();
+        }
+        let mut list = self.holds().to_vec();
+        change(&mut list, self.machines());
+        self.with_hold_list(list)
+    }
+
+    /// Another number, by the job and the number that is right, where that is the one of a job with any hold past all tests of its lists or its
+    /// file.
+    fn hold_number(&self, wanted: bool, rule: impl Fn(&Job, u32) -> u32) -> u32 {
+        let code = self.real();
+        if !wanted || matches!(code, 1..=8 | 14..=16) {
+            return code;
+        }
+        let job = match self.call.edition() {
+            None => job::read(self.bytes(Slot::File), 1, usize::MAX).ok(),
+            Some(_) => Some(self.listed_job()).filter(|_| self.many(Slot::Holds) >= self.machines()),
+        };
+        job.filter(Job::has_holds).map_or(code, |job| rule(&job, code))
+    }
+
+    /// A listing of a job with holds in another text.
+    fn relist(&self, change: impl Fn(&Job, String) -> String) -> u32 {
+        self.listed(|l, n| {
+            let Some(job) = job::read(l.bytes(Slot::File), 1, usize::MAX).ok().filter(Job::has_holds) else { return };
+            let text = change(&job, String::from_utf8(l.bytes(Slot::Text)[..n].to_vec()).unwrap());
+            l.bytes(Slot::Text)[..text.len()].copy_from_slice(text.as_bytes());
+            if let Some(v) = l.answer().first_mut() {
+                *v = text.len() as u64;
+            }
+        })
+    }
+
     /// The lists of the job of a call, where no test before 7 fails.
     fn counted(&self) -> Option<Job> {
         match self.call {
@@ -504,11 +595,11 @@ impl Lists<'_> {
         let is_true = || grading::read(job, self.bytes(Slot::Plan)).is_ok();
         tiles <= TILES
             && match self.call {
-                Call::Read => self.at[1].1 >= machines && self.at[2].1 >= tiles,
-                Call::Host { .. } => self.at[1].1 >= plan_bytes(machines),
-                Call::Grade(_) => is_true(),
-                Call::HostGrade => self.at[2].1 > 0 && is_true(),
-                Call::List => self.at[1].1 >= LISTING,
+                Call::Read => self.many(Slot::Speeds) >= machines && self.many(Slot::Holds) >= machines && self.many(Slot::Weights) >= tiles,
+                Call::Host { method } => self.many(Slot::Plan) >= plan_bytes(machines) && answers::refuse_holds(job, method == 4).is_ok(),
+                Call::Grade(_) => self.many(Slot::Holds) >= machines && is_true(),
+                Call::HostGrade => self.many(Slot::Grade) > 0 && is_true(),
+                Call::List => self.many(Slot::Text) >= LISTING && job.has_room(),
                 _ => self.numbers().iter().all(|&n| n == 7),
             }
     }
@@ -666,20 +757,17 @@ fn thousandths(job: &Job) -> Option<(u64, bool)> {
     (one > 0).then(|| ((above / one) as u64, above % one > 0))
 }
 
-/// All bids of a trial that fails.
+/// All bids of a trial that fails, those too that holds keep from being made: of each machine whether it makes it.
+fn every_bid(job: &Job, bound: Bound) -> Vec<(Bound, bool)> {
+    let (tiles, last) = (job.weights.len(), job.speeds.len() - 1);
+    let s = methods::trial(job, bound).separators;
+    let end = |p: usize| if p == last { tiles } else { s[p + 1] + 1 };
+    (0..=last).map(|p| ((job.load(s[p], end(p)), job.speeds[p] as u128), job.keeps(p, s[p], end(p)))).collect()
+}
+
+/// Those that are made.
 fn all_bids(job: &Job, bound: Bound) -> Vec<Bound> {
-    let (mut at, mut bids) = (0, Vec::new());
-    for (p, &e) in job.speeds.iter().enumerate() {
-        let share = |to: usize| (job.load(at, to), e as u128);
-        if p + 1 == job.speeds.len() {
-            bids.push(share(job.weights.len()));
-            break;
-        }
-        let to = (at..=job.weights.len()).rev().find(|&to| !less(bound, share(to))).unwrap();
-        bids.push(share(to + 1));
-        at = to;
-    }
-    bids
+    every_bid(job, bound).into_iter().filter(|b| b.1).map(|b| b.0).collect()
 }
 
 /// Puts another bid of the failed trial into the answer.
@@ -688,12 +776,25 @@ fn rebid(l: Lists, choose: fn(&[Bound], Bound) -> Bound) -> u32 {
     l.pair(true, 1, |job, found| if methods::trial(job, bound).fits() { found } else { choose(&all_bids(job, bound), found) })
 }
 
+/// The least of all bids, where those too are made that a rule takes, by the job, the machine and whether it may make it; none of these is
+/// the bid that was made.
+fn rebid_by(l: Lists, made: fn(&Job, usize, bool) -> bool) -> u32 {
+    let Some(bound) = l.bound() else { return l.real() };
+    l.pair(true, 1, |job, found| {
+        if methods::trial(job, bound).fits() {
+            return found;
+        }
+        let bids: Vec<Bound> = every_bid(job, bound).into_iter().enumerate().filter(|(p, b)| made(job, *p, b.1)).map(|(_, b)| b.0).collect();
+        least_of(&bids).unwrap_or(found)
+    })
+}
+
 /// The same where the last machine bids its share with the next tile added, as the others do.
 fn rebid_next_tile(l: Lists) -> u32 {
     let Some(bound) = l.bound() else { return l.real() };
     l.pair(true, 1, |job, found| {
         let (start, end) = methods::trial(job, bound).last();
-        if end == job.weights.len() {
+        if end == job.weights.len() || !job.keeps(job.speeds.len() - 1, start, job.weights.len()) {
             return found;
         }
         let mut bids = all_bids(job, bound);
@@ -705,7 +806,8 @@ fn rebid_next_tile(l: Lists) -> u32 {
 
 /// The greatest index, from a start on, up to which the tiles from another place on are within a bound at a speed.
 fn reached(job: &Job, start: usize, from: usize, speed: u32, bound: Bound) -> usize {
-    (start..=job.weights.len()).rev().find(|&to| from >= to || !less(bound, (job.load(from, to), speed as u128))).unwrap_or(start)
+    let keeps = |to: usize| job.keeps(job.speeds.len() - 1, start, to);
+    (start..=job.weights.len()).rev().find(|&to| keeps(to) && (from >= to || !less(bound, (job.load(from, to), speed as u128)))).unwrap_or(start)
 }
 
 /// The separators of the trial as little below the bottleneck as makes it fail; None where nothing weighs.
@@ -723,7 +825,8 @@ fn left_failing(job: &Job, s: &mut [u32]) {
 
 /// The same in a listing of so many bytes, in the line of the table.
 fn relist_failing(l: &Lists, bytes: usize) {
-    let Some(walk) = job::read(l.bytes(Slot::File), 1, usize::MAX).ok().and_then(|job| failing(&job)) else { return };
+    let job = job::read(l.bytes(Slot::File), 1, usize::MAX).ok().filter(|job| job.has_room());
+    let Some(walk) = job.and_then(|job| failing(&job)) else { return };
     let text = &mut l.bytes(Slot::Text)[..bytes];
     let ends: Vec<usize> = text.iter().enumerate().filter(|(_, b)| **b == b'\n').map(|(k, _)| k).collect();
     let words: Vec<String> = walk.iter().map(|s| format!(" {}", s)).collect();
@@ -885,16 +988,88 @@ fn ideal_with_startup(job: &Job) -> Bound {
     (whole + job.c() * job.speeds.len() as u128, all)
 }
 
-/// The table's value where each entry looks only at its crossing.
-fn crossing_only(job: &Job) -> Bound {
+/// The table's value where each entry is made of its crossing, and of the row before, another way: by the machine, where j starts, the
+/// crossing from there on, and i.
+fn table_by(job: &Job, made: impl Fn(&[Bound], usize, usize, usize, usize) -> Bound) -> Bound {
     let tiles = job.weights.len();
-    let mut row: Vec<Bound> = (0..=tiles).map(|i| (job.load(0, i), job.speeds[0] as u128)).collect();
-    for &e in &job.speeds[1..] {
-        let share = |j: usize, i: usize| (job.load(j, i), e as u128);
-        let at = |i: usize| (0..=i).find(|&j| !less(row[j], share(j, i))).unwrap();
-        row = (0..=tiles).map(|i| row[at(i)]).collect();
+    let first = |i: usize| if job.keeps(0, 0, i) { (job.load(0, i), job.speeds[0] as u128) } else { (1, 0) };
+    let mut row: Vec<Bound> = (0..=tiles).map(first).collect();
+    for p in 1..job.speeds.len() {
+        let share = |j: usize, i: usize| (job.load(j, i), job.speeds[p] as u128);
+        let entry = |i: usize| {
+            let from = methods::start(job, p, i);
+            let at = (from..=i).find(|&j| !less(row[j], share(j, i))).unwrap();
+            made(&row, p, from, at, i)
+        };
+        row = (0..=tiles).map(entry).collect();
     }
     row[tiles]
+}
+
+/// Where each entry looks only at its crossing.
+fn crossing_only(job: &Job) -> Bound {
+    table_by(job, |row, _, _, at, _| row[at])
+}
+
+/// Where each entry looks at the index before its crossing also where that is before the start of j.
+fn before_start(job: &Job) -> Bound {
+    table_by(job, |row, p, _, at, i| {
+        let value = |j: usize| {
+            let share = (job.load(j, i), job.speeds[p] as u128);
+            if less(row[j], share) { share } else { row[j] }
+        };
+        let (here, before) = (value(at), value(at.saturating_sub(1)));
+        if less(before, here) { before } else { here }
+    })
+}
+
+/// The table's moves where those to the start of j are not counted.
+fn moves_without_starts(job: &Job) -> u64 {
+    let mut moves = 0;
+    for (k, crossings) in methods::table(job).crossings.iter().enumerate() {
+        let mut pointer = 0;
+        for (i, &goal) in crossings.iter().enumerate() {
+            pointer = methods::start(job, k + 1, i).max(pointer);
+            moves += (goal - pointer) as u64;
+            pointer = goal;
+        }
+    }
+    moves
+}
+
+/// The table's moves where the crossing is looked for from 0 on.
+fn moves_from_nought(job: &Job) -> u64 {
+    let (t, tiles) = (methods::table(job), job.weights.len());
+    let crossing = |p: usize| (0..=tiles).find(|&j| !less(t.rows[p - 1][j], (job.load(j, tiles), job.speeds[p] as u128))).unwrap() as u64;
+    (1..job.speeds.len()).map(crossing).sum()
+}
+
+/// Bisection's trials from another high end on, where that is no lower than the best.
+fn halvings_from(job: &Job, high: Bound) -> Option<u64> {
+    let (mut low, mut high, mut trials) = (methods::trial(job, methods::ideal(job)).next?, high, 1);
+    if less(high, best_bound(job)) {
+        return None;
+    }
+    while less(low, high) {
+        trials += 1;
+        let tried = methods::trial(job, (low.0 * high.1 + high.0 * low.1, 2 * low.1 * high.1));
+        match tried.next {
+            None => high = slow::bottleneck(job, &tried.separators),
+            Some(next) => low = next,
+        }
+    }
+    Some(trials)
+}
+
+/// All weight and this start-up work over this speed.
+fn whole_over(job: &Job, startup: u128, speed: u32) -> Bound {
+    (methods::ideal(job).0 + startup, speed as u128)
+}
+
+/// The separators of the walk at a bound that may not fit; the last one is N.
+fn force(job: &Job, s: &mut [u32], bound: Bound) {
+    put(s, &methods::trial(job, bound).separators);
+    s[job.speeds.len()] = job.weights.len() as u32;
 }
 
 /// The separators of the walk at a bound.
@@ -947,7 +1122,7 @@ fn rule_by_rule(file: &[u8]) -> Option<u32> {
 fn speed_before_place(file: &[u8]) -> Option<u32> {
     let mut tiles = false;
     for r in file.chunks(8) {
-        if r[1] != 0 || r[2] != 0 || r[3] != 0 || !(1..=3).contains(&r[0]) {
+        if r[1] != 0 || r[0] != 1 && (r[2] != 0 || r[3] != 0) || !(1..=3).contains(&r[0]) {
             return None;
         }
         let bad = r[0] == 1 && (value(r) == 0 || value(r) > SPEED);
@@ -979,10 +1154,10 @@ const FAULTS: &[(&str, &str, Run)] = &[
     ("plan-seldom", "one separator wrong once in 50,000 plans", |l| l.inner(l.is_plans(), |_, s| if s.len() > 2 && s[1] > 0 && seldom(50_000) { s[1] -= 1 })),
     ("plan-quick", "the quick plan for bidding", |l| l.inner(l.is_plan(2), |j, s| put(s, &methods::quick(j)))),
     ("plan-whole", "a bound rounded up to a whole number", |l| l.inner(l.is_plans(), |j, s| { let b = slow::bottleneck(j, &s.iter().map(|&x| x as usize).collect::<Vec<_>>()); rewalk(j, s, Some((b.0.div_ceil(b.1), 1))) })),
-    ("plan-crossing", "the table looking only at the crossing", |l| l.inner(l.is_plan(1) && l.at[1].1 < 200, |j, s| rewalk(j, s, Some(crossing_only(j))))),
+    ("plan-crossing", "the table looking only at the crossing", |l| l.inner(l.is_plan(1) && l.tiles() < 200, |j, s| rewalk(j, s, Some(crossing_only(j))))),
     ("plan-nicol-first", "Nicol's search: the walk at the first candidate", |l| l.inner(l.is_plan(4), |j, s| rewalk(j, s, methods::search_by_sums(j).candidates.first().copied()))),
     ("plan-nicol-last", "Nicol's search: the last candidate left out", |l| l.inner(l.is_plan(4), |j, s| rewalk(j, s, methods::search_by_sums(j).candidates.split_last().and_then(|(_, list)| least_of(list))))),
-    ("plan-nicol-keeps", "Nicol's search: each machine keeps tile j too", |l| l.inner(l.is_plan(4) && l.at[1].1 < 200, |j, s| rewalk(j, s, keeping_j(j)))),
+    ("plan-nicol-keeps", "Nicol's search: each machine keeps tile j too", |l| l.inner(l.is_plan(4) && l.tiles() < 200, |j, s| rewalk(j, s, keeping_j(j)))),
     ("plan-endless", "bisection without end for three machines of speed 3", |l| { while l.is_plan(3) && l.words(Slot::Speeds) == [3, 3, 3] {} l.real() }),
     ("plan-nothing", "no separators written", |l| { let before = l.words(Slot::Separators).to_vec(); l.then(l.is_plans(), |_| l.words(Slot::Separators).copy_from_slice(&before)) }),
     ("plan-failed-table", "table: the separators of a trial that fails left", |l| l.inner(l.is_plan(1), left_failing)),
@@ -990,7 +1165,7 @@ const FAULTS: &[(&str, &str, Run)] = &[
     ("plan-failed-bisection", "bisection: the separators of a trial that fails left", |l| l.inner(l.is_plan(3), left_failing)),
     ("plan-failed-nicol", "Nicol's search: the separators of a trial that fails left", |l| l.inner(l.is_plan(4), left_failing)),
     ("plan-failed-later", "plan: a trial written behind the plan's separators", |l| l.then(l.is_plans(), |j| if let Some(walk) = failing(j) { put(&mut l.words(Slot::Separators)[walk.len()..], &walk) })),
-    ("plan-failed-refused", "plan: a trial written where the work numbers are too few", |l| { let code = l.real(); if l.is_plans() && code == 9 && l.at[2].1 > l.at[0].1 { left_failing(&l.job(), l.words(Slot::Separators)) } code }),
+    ("plan-failed-refused", "plan: a trial written where the work numbers are too few", |l| { let code = l.real(); if l.is_plans() && code == 9 && l.many(Slot::Separators) > l.machines() && l.many(Slot::Holds) >= l.machines() && l.job().has_room() { left_failing(&l.job(), l.words(Slot::Separators)) } code }),
     ("plan-trusts", "bidding: one trial counted where the list held the plan", |l| { let before = l.words(Slot::Separators).to_vec(); l.figure(l.is_plan(2), 0, |j, v| if before[..j.speeds.len() + 1] == l.words(Slot::Separators)[..j.speeds.len() + 1] { 1 } else { v }) }),
     ("host-failed", "C call: the separators of a trial that fails left", |l| l.inner(l.is_host(), left_failing)),
     ("host-separator", "C call: a separator one too small", |l| l.inner(l.is_host(), |_, s| if s.len() > 2 && s[1] > 0 { s[1] -= 1 })),
@@ -1004,11 +1179,11 @@ const FAULTS: &[(&str, &str, Run)] = &[
     ("host-later", "C call: the bytes after the plan cleared", |l| l.then(l.is_host(), |j| l.bytes(Slot::Plan)[16 * j.speeds.len()..].fill(0))),
     ("host-refused", "C call: the plan buffer changed on refusal", |l| l.mark(l.is_host(), Slot::Plan)),
     ("host-input", "C call: the job file changed", |l| l.then(l.is_host(), |_| l.bytes(Slot::File)[4] ^= 1)),
-    ("host-length", "C call: a file of 8 n + 4 bytes judged by 8 n", |l| if l.is_host() && l.at[0].1 % 8 == 4 { let mut f = l.bytes(Slot::File).to_vec(); f.truncate(l.at[0].1 - 4); l.with(Slot::File, &mut f) } else { l.real() }),
+    ("host-length", "C call: a file of 8 n + 4 bytes judged by 8 n", |l| if l.is_host() && l.many(Slot::File) % 8 == 4 { let mut f = l.bytes(Slot::File).to_vec(); f.truncate(l.many(Slot::File) - 4); l.with(Slot::File, &mut f) } else { l.real() }),
     ("host-method", "C call: method 5 taken for 4", |l| if l.call == (Call::Host { method: 5 }) { l.other(Call::Host { method: 4 }) } else { l.real() }),
     ("host-method-4", "C call: method 4 refused", |l| if l.call == (Call::Host { method: 4 }) { 1 } else { l.real() }),
     ("host-nicol", "C call: Nicol's search with the walk at its first candidate", |l| l.inner(l.call == (Call::Host { method: 4 }), |j, s| rewalk(j, s, methods::search_by_sums(j).candidates.first().copied()))),
-    ("host-9-early", "C call: no plan buffer tested before the file", |l| if l.is_host() && l.at[1].1 == 0 && l.real() > 1 { 9 } else { l.real() }),
+    ("host-9-early", "C call: no plan buffer tested before the file", |l| if l.is_host() && l.many(Slot::Plan) == 0 && l.real() > 1 { 9 } else { l.real() }),
     // Figures.
     ("count-table", "table: a move too many", |l| l.figure(l.is_plan(1), 0, |_, v| v + 1)),
     ("count-bidding", "bidding: the trial that fits not counted", |l| l.figure(l.is_plan(2), 0, |_, v| v - 1)),
@@ -1016,14 +1191,14 @@ const FAULTS: &[(&str, &str, Run)] = &[
     ("count-nicol", "Nicol's search: the closing walk counted", |l| l.figure(l.is_plan(4), 0, |_, v| v + 1)),
     ("count-nicol-early", "Nicol's search: goes on where the empty share fits", |l| l.figure(l.is_plan(4), 0, |j, v| if j.load(0, j.weights.len()) == 0 { times_digits(j, j.speeds.len() - 1, 0) } else { v })),
     ("count-nicol-high", "Nicol's search: N, known to fit, tried too", |l| l.figure(l.is_plan(4), 0, |j, v| v + j.speeds.len() as u64 - 1)),
-    ("count-nicol-many", "Nicol's search: a trial not counted, with more than three quarters of the most machines and 2,000 tiles", |l| l.figure(l.is_plan(4) && l.at[0].1 > MANY && l.at[1].1 > 2_000, 0, |_, v| v.saturating_sub(1))),
+    ("count-nicol-many", "Nicol's search: a trial not counted, with more than three quarters of the most machines and 2,000 tiles", |l| l.figure(l.is_plan(4) && l.machines() > MANY && l.tiles() > 2_000, 0, |_, v| v.saturating_sub(1))),
     ("count-nicol-bisection", "Nicol's search: bisection's count", |l| l.figure(l.is_plan(4), 0, |j, _| methods::halvings(j))),
     ("count-zero", "table: moves over tiles of weight 0 not counted", |l| l.figure(l.is_plan(1), 0, |j, v| v.saturating_sub(j.weights.iter().filter(|&&w| w == 0).count() as u64))),
     ("allowance-table", "table: one too many", |l| l.figure(l.is_plan(1), 1, |_, v| v + 1)),
     ("allowance-bidding", "bidding: without its 1", |l| l.figure(l.is_plan(2), 1, |_, v| v - 1)),
     ("allowance-bisection", "bisection: without its 1", |l| l.figure(l.is_plan(3), 1, |_, v| v - 1)),
     ("allowance-nought", "bisection: 0 has a digit", |l| l.figure(l.is_plan(3), 1, |_, v| v.max(2))),
-    ("allowance-slowest", "bisection: D not divided by the slowest speed", |l| l.figure(l.is_plan(3), 1, |j, _| methods::allowance(&Job::of(j.startup, &[&j.speeds[..], &[1]].concat(), &j.weights), 3))),
+    ("allowance-slowest", "bisection: D not divided by the slowest speed", |l| l.figure(l.is_plan(3), 1, |j, _| methods::allowance(&Job::held(j.startup, &[&j.speeds[..], &[1]].concat(), &[&j.holds[..], &[0]].concat(), &j.weights), 3))),
     ("allowance-nicol", "Nicol's search: the digits of N - 1", |l| l.figure(l.is_plan(4), 1, |j, _| times_digits(j, j.speeds.len() - 1, 1))),
     ("allowance-nicol-all", "Nicol's search: once more, for the last machine", |l| l.figure(l.is_plan(4), 1, |j, _| times_digits(j, j.speeds.len(), 0))),
     ("imbalance-down", "rounded down", |l| l.figure(l.is_plans(), 4, |j, v| thousandths(j).map_or(v, |(t, _)| t))),
@@ -1034,26 +1209,26 @@ const FAULTS: &[(&str, &str, Run)] = &[
     ("bottleneck-last", "plan: the pair of the highest-numbered machine", |l| { let s = l.words(Slot::Separators); l.pair(l.is_plans(), 2, |j, b| of_last_machine(j, s, b)) }),
     ("bottleneck-nought", "plan: 0/1 where nothing weighs", |l| l.pair(l.is_plans(), 2, |_, b| if b.0 == 0 { (0, 1) } else { b })),
     // Refusals.
-    ("order-6-5", "weights before speeds", |l| l.ordered(&[1, 16, 6, 5, 7, 8, 14, 9, 10, 11])),
-    ("order-7-5", "counts before values", |l| l.ordered(&[1, 16, 7, 8, 5, 6, 14, 9, 10, 11])),
-    ("order-8-7", "tiles counted before machines", |l| l.ordered(&[1, 16, 5, 6, 8, 7, 14, 9, 10, 11])),
-    ("order-9-8", "lengths before the count of tiles", |l| l.ordered(&[1, 16, 5, 6, 7, 9, 8, 14, 10, 11])),
-    ("order-10-9", "the bound before the lengths", |l| l.ordered(&[1, 16, 5, 6, 7, 8, 14, 10, 9, 11])),
-    ("order-11-9", "the division before the lengths", |l| l.ordered(&[1, 16, 5, 6, 7, 8, 14, 11, 9, 10])),
-    ("order-16-6", "start-up work tested after the weights", |l| l.ordered(&[1, 5, 6, 16, 7, 8, 14, 9, 10, 11])),
-    ("order-16-8", "start-up work tested after the counts", |l| l.ordered(&[1, 5, 6, 7, 8, 16, 14, 9, 10, 11])),
-    ("order-16-1", "start-up work tested before the method", |l| l.ordered(&[16, 1, 5, 6, 7, 8, 14, 9, 10, 11])),
-    ("order-1-last", "the method tested last", |l| l.ordered(&[16, 5, 6, 7, 8, 14, 9, 10, 11, 1])),
+    ("order-6-5", "weights before speeds", |l| l.ordered(&[1, 16, 6, 5, 7, 8, 14, 9, 17, 18, 10, 11])),
+    ("order-7-5", "counts before values", |l| l.ordered(&[1, 16, 7, 8, 5, 6, 14, 9, 17, 18, 10, 11])),
+    ("order-8-7", "tiles counted before machines", |l| l.ordered(&[1, 16, 5, 6, 8, 7, 14, 9, 17, 18, 10, 11])),
+    ("order-9-8", "lengths before the count of tiles", |l| l.ordered(&[1, 16, 5, 6, 7, 9, 8, 14, 17, 18, 10, 11])),
+    ("order-10-9", "the bound before the lengths", |l| l.ordered(&[1, 16, 5, 6, 7, 8, 14, 10, 9, 17, 18, 11])),
+    ("order-11-9", "the division before the lengths", |l| l.ordered(&[1, 16, 5, 6, 7, 8, 14, 11, 9, 17, 18, 10])),
+    ("order-16-6", "start-up work tested after the weights", |l| l.ordered(&[1, 5, 6, 16, 7, 8, 14, 9, 17, 18, 10, 11])),
+    ("order-16-8", "start-up work tested after the counts", |l| l.ordered(&[1, 5, 6, 7, 8, 16, 14, 9, 17, 18, 10, 11])),
+    ("order-16-1", "start-up work tested before the method", |l| l.ordered(&[16, 1, 5, 6, 7, 8, 14, 9, 17, 18, 10, 11])),
+    ("order-1-last", "the method tested last", |l| l.ordered(&[16, 5, 6, 7, 8, 14, 9, 17, 18, 10, 11, 1])),
     ("order-rules", "reading: 3 to 6 rule by rule, not record by record", |l| l.by_records(rule_by_rule)),
     ("order-5-4", "reading: 5 before 4 in one record", |l| l.by_records(speed_before_place)),
-    ("order-2-late", "reading: the length tested after the records", |l| if l.call == Call::Read && l.at[0].1 % 8 != 0 { let mut f = l.bytes(Slot::File).to_vec(); f.truncate(l.at[0].1 / 8 * 8); match l.with(Slot::File, &mut f) { n @ 3..=6 => n, _ => 2 } } else { l.real() }),
+    ("order-2-late", "reading: the length tested after the records", |l| if l.call == Call::Read && l.many(Slot::File) % 8 != 0 { let mut f = l.bytes(Slot::File).to_vec(); f.truncate(l.many(Slot::File) / 8 * 8); match l.with(Slot::File, &mut f) { n @ 3..=6 => n, _ => 2 } } else { l.real() }),
     ("limit-speed", "the greatest speed refused", |l| if l.is_test() && l.words(Slot::Speeds).contains(&SPEED) { 5 } else { l.real() }),
     ("limit-weight", "one more than the greatest weight passes", |l| if l.is_test() && l.numbers() == [6] && l.words(Slot::Weights).iter().all(|&w| w <= WEIGHT + 1) { 0 } else { l.real() }),
-    ("limit-tiles", "the most tiles refused", |l| if l.is_test() && l.numbers().is_empty() && l.at[1].1 == TILES { 8 } else { l.real() }),
+    ("limit-tiles", "the most tiles refused", |l| if l.is_test() && l.numbers().is_empty() && l.tiles() == TILES { 8 } else { l.real() }),
     ("limit-load", "the greatest load of a bound refused", |l| if matches!(l.call, Call::Trial(_, BOUND_LOAD, _)) && l.numbers().is_empty() { 10 } else { l.real() }),
     ("limit-bound", "one more than the greatest speed of a bound passes", |l| match l.call { Call::Trial(n, load, speed) if speed == BOUND_SPEED + 1 => l.other(Call::Trial(n, load, BOUND_SPEED)), _ => l.real() }),
-    ("short-separators", "P separators taken for enough", |l| if l.is_quick() && l.numbers() == [9] && l.at[2].1 == l.at[0].1 { 0 } else { l.real() }),
-    ("short-work", "5 N work numbers taken for enough", |l| if l.is_plans() && l.numbers() == [9] && l.at[3].1 >= 5 * l.at[1].1 { 0 } else { l.real() }),
+    ("short-separators", "P separators taken for enough", |l| if l.is_quick() && l.numbers() == [9] && l.many(Slot::Separators) == l.machines() { 0 } else { l.real() }),
+    ("short-work", "5 N work numbers taken for enough", |l| if l.is_plans() && l.numbers() == [9] && l.many(Slot::Work) >= 5 * l.tiles() && l.many(Slot::Holds) >= l.machines() { 0 } else { l.real() }),
     // Stores.
     ("refused-separators", "separators changed on refusal", |l| l.mark(true, Slot::Separators)),
     ("refused-work", "a work number changed on refusal", |l| l.mark(l.is_plans(), Slot::Work)),
@@ -1091,9 +1266,9 @@ const FAULTS: &[(&str, &str, Run)] = &[
     ("grading-record", "grading: 11 and 13 record by record", |l| l.renumber(record_by_record)),
     ("grading-12-11", "grading: 12 after 11", |l| l.renumber(|j, r, n| if n == 12 && r.len() >= j.speeds.len() && grading::read(j, &job::encode(&r[..j.speeds.len()].to_vec())) == Err(11) { 11 } else { n })),
     ("grading-12-9", "grading: 9 for a shorter plan", |l| l.renumber(|j, r, n| if n == 12 && r.len() < j.speeds.len() { 9 } else { n })),
-    ("grading-12-job", "grading: 12 before the job's tests", |l| if l.is_grade() && l.at[2].1 != 16 * l.at[0].1 { 12 } else { l.real() }),
-    ("grading-9-early", "C grading: the grade buffer tested before the job", |l| if l.call == Call::HostGrade && l.at[2].1 == 0 { 9 } else { l.real() }),
-    ("grading-9-late", "C grading: the grade buffer tested after the plan's length", |l| if l.call == Call::HostGrade && l.real() == 9 && l.graded_job().is_some_and(|j| l.at[1].1 != 16 * j.speeds.len()) { 12 } else { l.real() }),
+    ("grading-12-job", "grading: 12 before the job's tests", |l| if l.is_grade() && l.many(Slot::Plan) != 16 * l.machines() { 12 } else { l.real() }),
+    ("grading-9-early", "C grading: the grade buffer tested before the job", |l| if l.call == Call::HostGrade && l.many(Slot::Grade) == 0 { 9 } else { l.real() }),
+    ("grading-9-late", "C grading: the grade buffer tested after the plan's length", |l| if l.call == Call::HostGrade && l.real() == 9 && l.graded_job().is_some_and(|j| l.many(Slot::Plan) != 16 * j.speeds.len()) { 12 } else { l.real() }),
     ("grading-longer", "grading: a longer plan taken", |l| l.seeing_plan(|j, f| f.truncate(16 * j.speeds.len()))),
     ("grading-byte", "grading: a byte more taken", |l| l.seeing_plan(|_, f| if f.len() % 16 == 1 { f.pop(); })),
     ("grading-speed", "grading: speeds not compared", |l| l.seeing_records(|j, r| for (r, &e) in r.iter_mut().zip(&j.speeds) { r[3] = e })),
@@ -1111,13 +1286,13 @@ const FAULTS: &[(&str, &str, Run)] = &[
     ("grading-input", "grading: the plan changed", |l| l.then(l.is_grading(), |_| l.bytes(Slot::Plan)[8] ^= 1)),
     // Files.
     ("read-kind-3", "reading: kind 3 past the first record taken for a tile", |l| l.seeing(l.call == Call::Read, |f| f.chunks_exact_mut(8).skip(1).for_each(|r| if r[0] == 3 { r[0] = 2 }))),
-    ("read-byte-3", "reading: byte 3 not tested", |l| l.seeing(l.call == Call::Read, |f| f.chunks_exact_mut(8).for_each(|r| r[3] = 0))),
+    ("read-byte-3", "reading: byte 3 of tiles not tested", |l| l.seeing(l.call == Call::Read, |f| f.chunks_exact_mut(8).for_each(|r| if r[0] == 2 { r[3] = 0 }))),
     ("read-big-endian", "reading: the value's bytes in the other order", |l| l.seeing(l.call == Call::Read, |f| f.chunks_exact_mut(8).for_each(|r| r[4..8].reverse()))),
     ("read-high-byte", "reading: the value's highest byte left out", |l| l.seeing(l.call == Call::Read, |f| f.chunks_exact_mut(8).for_each(|r| r[7] = 0))),
     ("read-counts", "reading: P and N exchanged", |l| l.then(l.call == Call::Read, |_| if let Some(a) = l.answer().get_mut(2..4) { a.swap(0, 1) })),
-    ("read-short", "reading: a list of N - 1 weights taken for enough", |l| match l.real() { 9 if l.call == Call::Read => { let j = l.job(); if l.at[1].1 >= j.speeds.len() && l.at[2].1 + 1 == j.weights.len() { 0 } else { 9 } } n => n }),
+    ("read-short", "reading: a list of N - 1 weights taken for enough", |l| match l.real() { 9 if l.call == Call::Read => { let j = l.job(); if l.many(Slot::Speeds) >= j.speeds.len() && l.many(Slot::Holds) >= j.speeds.len() && l.many(Slot::Weights) + 1 == j.weights.len() { 0 } else { 9 } } n => n }),
     ("write-kind", "writing: tiles as machines", |l| l.then(l.is_write(), |j| l.bytes(Slot::File)[..j.file().len()].chunks_exact_mut(8).for_each(|r| if r[0] == 2 { r[0] = 1 }))),
-    ("write-blank", "writing: bytes 1 to 3 not cleared", |l| { let before = l.bytes(Slot::File).to_vec(); l.then(l.is_write(), |_| l.bytes(Slot::File)[1..4].copy_from_slice(&before[1..4])) }),
+    ("write-blank", "writing: byte 1 not cleared", |l| { let before = l.bytes(Slot::File).to_vec(); l.then(l.is_write(), |_| l.bytes(Slot::File)[1] = before[1]) }),
     ("write-big-endian", "writing: the value's bytes in the other order", |l| l.then(l.is_write(), |_| l.bytes(Slot::File)[4..8].reverse())),
     ("write-count", "writing: records counted, not bytes", |l| l.figure(l.is_write(), 0, |_, v| v / 8)),
     ("planfile-big-endian", "plan file: the load's bytes in the other order", |l| l.records(l.is_plan_file(), |r| r[8..12].reverse())),
@@ -1125,18 +1300,18 @@ const FAULTS: &[(&str, &str, Run)] = &[
     ("planfile-24-bits", "plan file: a load of 24 bits", |l| l.records(l.is_plan_file(), |r| r[11] = 0)),
     ("planfile-30-bits", "plan file: a load of 30 bits", |l| l.records(l.is_plan_file(), |r| r[11] &= 0x3F)),
     ("planfile-count", "plan file: records counted, not bytes", |l| l.figure(l.is_plan_file(), 0, |_, v| v / 16)),
-    ("planfile-no-division", "plan file: a division that ends early taken", |l| match l.real() { 11 if l.is_plan_file() => { let (s, n) = (l.words(Slot::Separators), l.at[0].1); if answers::is_division(&s[..n + 1], s[n] as usize) && (s[n] as usize) < l.at[1].1 { 0 } else { 11 } } n => n }),
+    ("planfile-no-division", "plan file: a division that ends early taken", |l| match l.real() { 11 if l.is_plan_file() => { let (s, n, mut j) = (l.words(Slot::Separators), l.machines(), l.job()); let end = s[n] as usize; if end < l.tiles() { j.weights.truncate(end); if answers::is_division(&j, &s[..n + 1]) { return 0 } } 11 } n => n }),
     ("list-space", "listing: two spaces in the place of the first digit and its space", |l| l.listed(|l, _| if let Some(k) = l.bytes(Slot::Text).iter().position(|&b| b == b' ') { l.bytes(Slot::Text)[k + 1] = b' ' })),
     ("list-count", "listing: a byte too many counted", |l| l.listed(|l, _| if let Some(v) = l.answer().first_mut() { *v += 1 })),
     ("list-fourth", "listing: the fourth line numbered 3", |l| l.listed(|l, n| { let text = l.bytes(Slot::Text); if let Some(k) = text[..n - 1].iter().rposition(|&b| b == b'\n') { text[k + 1] = b'3' } })),
     ("list-failed", "listing: the separators of a trial that fails in the first line of a plan, where they are as long", |l| l.listed(relist_failing)),
-    ("list-intake-less", "listing: a record too little taken in", |l| if l.call == Call::List && l.at[0].1 > LONGEST_JOB { let mut f = l.bytes(Slot::File).to_vec(); f.truncate(LONGEST_JOB); l.with(Slot::File, &mut f) } else { l.real() }),
+    ("list-intake-less", "listing: a record too little taken in", |l| if l.call == Call::List && l.many(Slot::File) > LONGEST_JOB { let mut f = l.bytes(Slot::File).to_vec(); f.truncate(LONGEST_JOB); l.with(Slot::File, &mut f) } else { l.real() }),
     ("list-intake-more", "listing: a record too many taken in", |l| l.judged_by(JOB_INTAKE + 8)),
     ("list-intake-byte", "listing: a byte too many taken in", |l| l.judged_by(JOB_INTAKE + 1)),
     ("list-intake-whole", "listing: a longer file judged whole", |l| l.judged_by(usize::MAX)),
-    ("list-short", "listing: a buffer one byte too short taken for enough", |l| match l.real() { 9 if l.call == Call::List && l.at[1].1 + 1 == LISTING => 0, code => code }),
+    ("list-short", "listing: a buffer one byte too short taken for enough", |l| match l.real() { 9 if l.call == Call::List && l.many(Slot::Text) + 1 == LISTING => 0, code => code }),
     // Measuring, trial, quick plan.
-    ("measure-no-division", "measuring: a division that does not begin at 0 taken", |l| match l.real() { 11 if l.is_measure() => { let (s, n) = (l.words(Slot::Separators), l.at[0].1); let first = std::mem::replace(&mut s[0], 0); let code = l.real(); s[0] = first; if n > 0 { code } else { 11 } } n => n }),
+    ("measure-no-division", "measuring: a division that does not begin at 0 taken", |l| match l.real() { 11 if l.is_measure() => { let (s, n) = (l.words(Slot::Separators), l.machines()); let first = std::mem::replace(&mut s[0], 0); let code = l.real(); s[0] = first; if n > 0 { code } else { 11 } } n => n }),
     ("measure-load", "measuring: the greatest load, not the greatest bound", |l| { let s = l.words(Slot::Separators).to_vec(); l.pair(l.is_measure(), 0, |j, _| (0..j.speeds.len()).map(|p| (j.load(s[p] as usize, s[p + 1] as usize), j.speeds[p] as u128)).reduce(|a, b| if b.0 > a.0 { b } else { a }).unwrap()) }),
     ("measure-last", "measuring: the pair of the highest-numbered machine", |l| { let s = l.words(Slot::Separators).to_vec(); l.pair(l.is_measure(), 0, |j, b| of_last_machine(j, &s, b)) }),
     ("measure-reduced", "measuring: the pair reduced", |l| l.pair(l.is_measure(), 0, |_, b| reduced(b))),
@@ -1148,7 +1323,7 @@ const FAULTS: &[(&str, &str, Run)] = &[
     ("trial-fails", "trial: fails always", |l| l.figure(l.is_trial(), 0, |_, _| 0)),
     ("trial-next-last", "trial: a tie of next bids to the highest machine", |l| rebid(l, |bids, b| bids.iter().copied().filter(|&x| !less(b, x)).last().unwrap_or(b))),
     ("trial-next-greatest", "trial: the greatest next bid", |l| rebid(l, |bids, b| bids.iter().copied().fold(b, |a, x| if less(a, x) { x } else { a }))),
-    ("trial-next-rest", "trial: the last machine does not bid", |l| rebid(l, |bids, b| bids[..bids.len() - 1].iter().copied().reduce(|a, x| if less(x, a) { x } else { a }).unwrap_or(b))),
+    ("trial-next-rest", "trial: the last machine does not bid", |l| rebid_by(l, |job, p, may| may && p + 1 < job.speeds.len())),
     ("trial-next-reduced", "trial: the next bid reduced", |l| rebid(l, |_, b| reduced(b))),
     ("trial-next-tile", "trial: the last machine bids its share with the next tile added", rebid_next_tile),
     // The number of machines that a trial which fits came to.
@@ -1239,7 +1414,7 @@ const FAULTS: &[(&str, &str, Run)] = &[
     ("trial-reach-speed-before", "trial: the last machine reaches by the speed of the one before", |l| l.reach(|j, b, start, _| reached(j, start, start, j.speeds[j.speeds.len().saturating_sub(2)], b))),
     ("trial-reach-speed-first", "trial: the last machine reaches by the speed of the first", |l| l.reach(|j, b, start, _| reached(j, start, start, j.speeds[0], b))),
     ("trial-reach-zeros", "trial: the last share stopped before tiles of weight 0", |l| l.reach(|j, _, start, end| (start..end).rev().find(|&i| j.weights[i] > 0).map_or(start, |i| i + 1))),
-    ("trial-reach-strict", "trial: a last share equal to the bound is too much", |l| l.reach(|j, b, start, _| (start..=j.weights.len()).rev().find(|&to| less((j.load(start, to), *j.speeds.last().unwrap() as u128), b)).unwrap_or(start))),
+    ("trial-reach-strict", "trial: a last share equal to the bound is too much", |l| l.reach(|j, b, start, _| (start..=j.weights.len()).rev().find(|&to| j.keeps(j.speeds.len() - 1, start, to) && less((j.load(start, to), *j.speeds.last().unwrap() as u128), b)).unwrap_or(start))),
     ("trial-reach-whole-numbers", "trial: the last machine reaches by the bound rounded down", |l| l.reach(|j, b, start, _| reached(j, start, start, *j.speeds.last().unwrap(), (b.0 / b.1, 1)))),
     ("trial-reach-30-bits", "trial: what the last machine can carry in 30 bits", |l| l.reach(|j, b, start, _| reached(j, start, start, 1, (b.0 * *j.speeds.last().unwrap() as u128 / b.1 % (1 << 30), 1)))),
     ("trial-reach-64", "trial: the last machine reaches one tile less, where it reaches just 64", |l| l.reach(|_, _, start, end| if end - start == 64 { end - 1 } else { end })),
@@ -1253,7 +1428,7 @@ const FAULTS: &[(&str, &str, Run)] = &[
     ("trial-trusts-upper", "trial: no share ends behind where the list had its end", |l| l.trusting(|s, old| s.min(old))),
     ("trial-trusts-last", "trial: a last entry kept that is no lesser than sP and below N", |l| l.failed(|j, _, before, s| { let k = s.len() - 1; if (s[k]..j.weights.len() as u32).contains(&before[k]) { s[k] = before[k] } })),
     ("trial-trusts-same", "trial: the last entry kept where the others are as they were", |l| l.failed(|_, _, before, s| { let k = s.len() - 1; if s[..k] == before[..k] { s[k] = before[k] } })),
-    ("trial-trusts-answer", "trial: a fit said where the list ended with N", |l| { let last = l.words(Slot::Separators).get(l.at[0].1).copied(); l.figure(l.is_trial(), 0, |j, v| if last == Some(j.weights.len() as u32) { 1 } else { v }) }),
+    ("trial-trusts-answer", "trial: a fit said where the list ended with N", |l| { let last = l.words(Slot::Separators).get(l.machines()).copied(); l.figure(l.is_trial(), 0, |j, v| if last == Some(j.weights.len() as u32) { 1 } else { v }) }),
     // A trial that is refused.
     ("trial-refused-5", "trial: the walk written with 5", |l| l.refused_walk(5)),
     ("trial-refused-6", "trial: the walk written with 6", |l| l.refused_walk(6)),
@@ -1282,29 +1457,29 @@ const FAULTS: &[(&str, &str, Run)] = &[
     ("halving-start", "halving: the first separator not written", |l| { let first = l.words(Slot::Separators).first().copied(); l.inner(l.is_halving(), |_, s| s[0] = first.unwrap()) }),
     ("halving-quick", "halving: the quick plan in its place", |l| rehalve(l, methods::quick)),
     ("halving-best", "halving: a best division in its place, where its bottleneck is smaller", |l| rehalve(l, |j| { let s = halving::by_sums(j); if j.weights.len() < 200 && less(best_bound(j), slow::bottleneck(j, &s)) { answers::Solved::of(j).best } else { s } })),
-    ("halving-many", "halving: a separator wrong with the longest row and 2,000 tiles only", |l| l.inner(l.is_halving() && l.at[0].1 == LONGEST_HALVED && l.at[1].1 > 2_000, |_, s| { let k = s.len() - 2; if s[k] > s[k - 1] { s[k] -= 1 } })),
+    ("halving-many", "halving: a separator wrong with the longest row and 2,000 tiles only", |l| l.inner(l.is_halving() && l.machines() == LONGEST_HALVED && l.tiles() > 2_000, |_, s| { let k = s.len() - 2; if s[k] > s[k - 1] { s[k] -= 1 } })),
     ("halving-seldom", "halving: a separator wrong once in 5,000 rows", |l| l.inner(l.is_halving(), |_, s| if s.len() > 2 && s[1] > 0 && seldom(5_000) { s[1] -= 1 })),
     ("halving-nothing", "halving: no separators written", |l| { let before = l.words(Slot::Separators).to_vec(); l.then(l.is_halving(), |_| l.words(Slot::Separators).copy_from_slice(&before)) }),
     // Its answer.
     ("halving-answer-quick", "halving: the bottleneck of the quick plan", |l| l.pair(l.is_halving(), 0, |j, _| slow::bottleneck(j, &methods::quick(j)))),
-    ("halving-answer-best", "halving: the bottleneck of the best plan", |l| l.pair(l.is_halving() && l.at[1].1 < 200, 0, |j, _| best_bound(j))),
+    ("halving-answer-best", "halving: the bottleneck of the best plan", |l| l.pair(l.is_halving() && l.tiles() < 200, 0, |j, _| best_bound(j))),
     ("halving-answer-most", "halving: the greatest load that its bound allows", |l| l.figure(l.is_halving(), 0, |j, _| (halving::most(j) / j.speeds.len() as u128) as u64)),
     ("halving-answer-speed", "halving: the greatest load over the speed of the whole row", |l| l.pair(l.is_halving(), 0, |j, b| (b.0, methods::ideal(j).1))),
     ("halving-answer-reduced", "halving: the pair reduced", |l| l.pair(l.is_halving(), 0, |_, b| reduced(b))),
     ("halving-answer-nought", "halving: 0/1 where nothing weighs", |l| l.pair(l.is_halving(), 0, |_, b| if b.0 == 0 { (0, 1) } else { b })),
     // Its refusals.
-    ("halving-9-14", "halving: 9 before 14", |l| l.halving_ordered(&[16, 5, 6, 7, 8, 9, 14])),
-    ("halving-14-8", "halving: 14 before 8", |l| l.halving_ordered(&[16, 5, 6, 7, 14, 8, 9])),
-    ("halving-14-7", "halving: 14 before 7", |l| l.halving_ordered(&[16, 5, 6, 14, 7, 8, 9])),
-    ("halving-14-6", "halving: 14 before 6", |l| l.halving_ordered(&[16, 5, 14, 6, 7, 8, 9])),
-    ("halving-14-5", "halving: 14 before 5", |l| l.halving_ordered(&[16, 14, 5, 6, 7, 8, 9])),
+    ("halving-9-14", "halving: 9 before 14", |l| l.halving_ordered(&[16, 5, 6, 7, 8, 9, 14, 18])),
+    ("halving-14-8", "halving: 14 before 8", |l| l.halving_ordered(&[16, 5, 6, 7, 14, 8, 9, 18])),
+    ("halving-14-7", "halving: 14 before 7", |l| l.halving_ordered(&[16, 5, 6, 14, 7, 8, 9, 18])),
+    ("halving-14-6", "halving: 14 before 6", |l| l.halving_ordered(&[16, 5, 14, 6, 7, 8, 9, 18])),
+    ("halving-14-5", "halving: 14 before 5", |l| l.halving_ordered(&[16, 14, 5, 6, 7, 8, 9, 18])),
     ("halving-7-for-14", "halving: 7 for a number of machines that is no power of two", |l| l.halving_gives(7, 14, |e| !e.len().is_power_of_two())),
     ("halving-5-for-14", "halving: 5 for speeds that are not equal", |l| l.halving_gives(5, 14, |e| e.iter().any(|v| *v != e[0]))),
     ("halving-3-taken", "halving: three machines taken", |l| l.halving_gives(0, 14, |e| e.len() == 3 && e.windows(2).all(|v| v[0] == v[1]))),
     ("halving-6-taken", "halving: six machines taken", |l| l.halving_gives(0, 14, |e| e.len() == 6 && e.windows(2).all(|v| v[0] == v[1]))),
     ("halving-96-taken", "halving: the most machines taken", |l| l.halving_gives(0, 14, |e| e.len() == MACHINES && e.windows(2).all(|v| v[0] == v[1]))),
     ("halving-128-taken", "halving: a power of two above the most machines taken", |l| l.halving_gives(0, 7, |e| e.len() == 2 * LONGEST_HALVED)),
-    ("halving-no-machine", "halving: 14 for no machine", |l| match l.real() { 7 if l.is_halving() && l.at[0].1 == 0 => 14, code => code }),
+    ("halving-no-machine", "halving: 14 for no machine", |l| match l.real() { 7 if l.is_halving() && l.machines() == 0 => 14, code => code }),
     ("halving-one-refused", "halving: one machine refused", |l| l.halving_gives(14, 0, |e| e.len() == 1)),
     ("halving-64-refused", "halving: the longest row refused", |l| l.halving_gives(14, 0, |e| e.len() == LONGEST_HALVED)),
     ("halving-speeds-last", "halving: the last speed not compared", |l| l.halving_gives(0, 14, |e| e.len().is_power_of_two() && e[..e.len() - 1].windows(2).all(|v| v[0] == v[1]))),
@@ -1313,8 +1488,8 @@ const FAULTS: &[(&str, &str, Run)] = &[
     ("halving-speeds-pairs", "halving: speeds compared in pairs only", |l| l.halving_gives(0, 14, |e| e.len().is_power_of_two() && e.chunks(2).all(|v| v[0] == v[1]))),
     ("halving-speeds-sum", "halving: speeds whose sum is P times the first taken", |l| l.halving_gives(0, 14, |e| e.len().is_power_of_two() && e.iter().sum::<u32>() == e.len() as u32 * e[0])),
     ("halving-speeds-byte", "halving: the lowest bytes of the speeds compared", |l| l.halving_gives(0, 14, |e| e.len().is_power_of_two() && e.iter().all(|v| v % 256 == e[0] % 256))),
-    ("halving-speeds-empty", "halving: unequal speeds taken where there are no tiles", |l| if l.is_halving() && l.at[1].1 == 0 { l.halving_gives(0, 14, |e| e.len().is_power_of_two()) } else { l.real() }),
-    ("halving-short", "halving: P separators taken for enough", |l| if l.is_halving() && l.numbers() == [9] && l.at[2].1 == l.at[0].1 { 0 } else { l.real() }),
+    ("halving-speeds-empty", "halving: unequal speeds taken where there are no tiles", |l| if l.is_halving() && l.tiles() == 0 { l.halving_gives(0, 14, |e| e.len().is_power_of_two()) } else { l.real() }),
+    ("halving-short", "halving: P separators taken for enough", |l| if l.is_halving() && l.numbers() == [9] && l.many(Slot::Separators) == l.machines() { 0 } else { l.real() }),
     // What it leaves.
     ("halving-refused", "halving: separators changed by a refusal with 14", |l| { let code = l.real(); if l.is_halving() && code == 14 { if let Some(v) = l.words(Slot::Separators).last_mut() { *v = 0 } } code }),
     ("halving-refused-answer", "halving: an answer given with 14", |l| { let code = l.real(); if l.is_halving() && code == 14 { if let Some(v) = l.answer().first_mut() { *v ^= 1 } } code }),
@@ -1342,7 +1517,7 @@ const FAULTS: &[(&str, &str, Run)] = &[
     ("startup-trial-walk", "trial: a walk without start-up work, bids with it", |l| l.failed(|j, b, _, s| put(s, &methods::trial(&without(j), b).separators))),
     ("startup-trial-reach", "trial: the last machine reaches as without start-up work", |l| l.reach(|j, b, start, _| reached(&without(j), start, start, *j.speeds.last().unwrap(), b))),
     ("startup-trial-bid", "trial: the next bid without start-up work", |l| { let Some(b) = l.bound() else { return l.real() }; l.pair(true, 1, |j, found| if methods::trial(j, b).fits() { found } else { (found.0 - j.c(), found.1) }) }),
-    ("startup-trial-last", "trial: the last machine bids without start-up work", |l| { let Some(b) = l.bound() else { return l.real() }; l.pair(true, 1, |j, found| { if methods::trial(j, b).fits() { return found } let mut bids = all_bids(j, b); bids.last_mut().unwrap().0 -= j.c(); least_of(&bids).unwrap() }) }),
+    ("startup-trial-last", "trial: the last machine bids without start-up work", |l| { let Some(b) = l.bound() else { return l.real() }; l.pair(true, 1, |j, found| { if methods::trial(j, b).fits() { return found } let mut bids = every_bid(j, b); bids.last_mut().unwrap().0.0 -= j.c(); least_of(&bids.iter().filter(|b| b.1).map(|b| b.0).collect::<Vec<_>>()).unwrap() }) }),
     ("startup-plan-table", "table: the plan without start-up work", |l| l.inner(l.is_plan(1), |j, s| put(s, &crate::fast::solve(&without(j)).0))),
     ("startup-plan-bidding", "bidding: the plan without start-up work", |l| l.inner(l.is_plan(2), |j, s| put(s, &crate::fast::solve(&without(j)).0))),
     ("startup-plan-bisection", "bisection: the plan without start-up work", |l| l.inner(l.is_plan(3), |j, s| put(s, &crate::fast::solve(&without(j)).0))),
@@ -1377,8 +1552,8 @@ const FAULTS: &[(&str, &str, Run)] = &[
     ("write-nought", "writing: the second edition without start-up work written as the first", |l| if l.is_write() && l.edition() == (Edition { second: true, startup: 0 }) { l.with_edition(|_| Edition::FIRST) } else { l.real() }),
     ("write-head-last", "writing: the record of kind 3 behind all others", |l| l.then(l.is_write(), |j| if j.is_second() { l.bytes(Slot::File)[..j.file().len()].rotate_left(8) })),
     ("write-head-kind", "writing: start-up work as a tile", |l| l.then(l.is_write(), |j| if j.is_second() { l.bytes(Slot::File)[0] = 2 })),
-    ("write-short", "writing: 8 (N + P) bytes taken for enough in the second edition", |l| if l.is_write() && l.numbers() == [9] && l.edition().second && l.at[2].1 >= 8 * (l.at[0].1 + l.at[1].1) { 0 } else { l.real() }),
-    ("write-more", "writing: a record more asked for in the first edition", |l| if l.is_write() && l.numbers().is_empty() && !l.edition().second && l.at[2].1 < 8 * (l.at[0].1 + l.at[1].1 + 1) { 9 } else { l.real() }),
+    ("write-short", "writing: 8 (N + P) bytes taken for enough in the second edition", |l| if l.is_write() && l.numbers() == [9] && l.edition().second && l.many(Slot::File) >= 8 * (l.machines() + l.tiles()) && l.many(Slot::Holds) >= l.machines() { 0 } else { l.real() }),
+    ("write-more", "writing: a record more asked for in the first edition", |l| if l.is_write() && l.numbers().is_empty() && !l.edition().second && l.many(Slot::File) < 8 * (l.machines() + l.tiles() + 1) { 9 } else { l.real() }),
     ("file-second-record", "files: kind 3 as the second record taken for the first", |l| if l.call.edition().is_none() && l.bytes(Slot::File).len() >= 16 && l.bytes(Slot::File)[0] == 1 && l.bytes(Slot::File)[8] == 3 { let mut f = l.bytes(Slot::File).to_vec(); f[..16].rotate_left(8); l.with(Slot::File, &mut f) } else { l.real() }),
     ("file-second-twice", "files: a second record of kind 3 left out of account", |l| if l.call.edition().is_none() && l.bytes(Slot::File).len() >= 16 && l.bytes(Slot::File)[0] == 3 && l.bytes(Slot::File)[8] == 3 { let mut f = l.bytes(Slot::File).to_vec(); f.drain(8..16); l.with(Slot::File, &mut f) } else { l.real() }),
     ("file-head-refused", "files: kind 3 refused with 3 as the first record too", |l| l.recode(|f, n| if n != 1 && n != 2 && f.first() == Some(&3) { 3 } else { n })),
@@ -1456,6 +1631,229 @@ macro_rules! tests_of_startup {
 }
 
 const TESTS: &[(&str, &str, Run)] = tests_of_startup![
+    ("test", "testing", Call::Test(_)),
+    ("write", "writing", Call::Write(_)),
+    ("measure", "measuring", Call::Measure(_)),
+    ("trial", "trial", Call::Trial(..)),
+    ("quick", "quick plan", Call::Quick(_)),
+    ("halving", "halving", Call::Halving(_)),
+    ("plan", "plan", Call::Plan(..)),
+    ("planfile", "plan file", Call::PlanFile(_)),
+    ("grade", "grading", Call::Grade(_)),
+];
+
+/// Whether a call makes a plan, or tries one.
+fn is_planning(l: &Lists) -> bool {
+    l.is_trial() || l.is_plans() || l.is_host()
+}
+
+fn is_quick_one(l: &Lists) -> bool {
+    l.is_quick() || l.is_halving()
+}
+
+/// The places that holds leave, one that is 0 for none.
+fn places(holds: &[u16]) -> usize {
+    holds.iter().map(|&h| h as usize).sum()
+}
+
+/// Each byte of a hold in the place of the other.
+fn swapped(holds: &mut [u16]) {
+    holds.iter_mut().for_each(|h| *h = h.swap_bytes());
+}
+
+/// Holds: refusals, the table, bidding, bisection, trials, files.
+#[rustfmt::skip]
+const HELD: &[(&str, &str, Run)] = &[
+    // Holds: what is refused.
+    ("hold-17-never", "17 never given: 11", |l| l.hold_number(is_planning(&l), |_, n| if n == 17 { 11 } else { n })),
+    ("hold-17-taken", "one place too few taken", |l| l.hold_number(is_planning(&l), |j, n| if n == 17 && places(&j.holds) + 1 == j.weights.len() { 0 } else { n })),
+    ("hold-17-just", "17 for just as many places as tiles", |l| l.hold_number(is_planning(&l), |j, n| if n == 0 && !j.holds.contains(&0) && places(&j.holds) == j.weights.len() { 17 } else { n })),
+    ("hold-17-just-empty", "17 for holds and no tiles", |l| l.hold_number(is_planning(&l), |j, n| if n == 0 && j.weights.is_empty() { 17 } else { n })),
+    ("hold-17-unlimited", "17 where the holds that are set are too few and a machine has none", |l| l.hold_number(is_planning(&l), |j, n| if n == 0 && places(&j.holds) < j.weights.len() { 17 } else { n })),
+    ("hold-17-last", "17 where the last machine alone is limited", |l| l.hold_number(is_planning(&l), |j, n| if n == 0 && j.holds.len() > 1 && (*j.holds.last().unwrap() as usize) < j.weights.len() && places(&j.holds) == *j.holds.last().unwrap() as usize { 17 } else { n })),
+    ("hold-17-sum-16-bits", "the places added up in 16 bits", |l| l.hold_number(is_planning(&l), |j, n| if n == 0 && !j.holds.contains(&0) && places(&j.holds) % 65_536 < j.weights.len() { 17 } else { n })),
+    ("hold-17-each", "17 only where each machine holds less than its part of the tiles", |l| l.hold_number(is_planning(&l), |j, n| if n == 17 && j.holds.iter().any(|&h| h as usize * j.holds.len() >= j.weights.len()) { 0 } else { n })),
+    ("hold-17-quick", "quick plans: 17 in the place of 18", |l| l.hold_number(is_quick_one(&l), |j, n| if n == 18 && !j.has_room() { 17 } else { n })),
+    ("hold-17-measure", "measuring: 17 for too few places", |l| l.hold_number(l.is_measure() || l.is_plan_file(), |j, n| if n == 11 && !j.has_room() { 17 } else { n })),
+    ("hold-17-grade", "grading: 17 for too few places", |l| l.hold_number(l.is_grading(), |j, n| if (n == 11 || n == 12) && !j.has_room() { 17 } else { n })),
+    ("hold-17-test", "testing: 17 for too few places", |l| l.hold_number(l.is_test(), |j, n| if n == 0 && !j.has_room() { 17 } else { n })),
+    ("hold-17-read", "reading: 17 for too few places", |l| l.hold_number(l.call == Call::Read, |j, n| if n == 0 && !j.has_room() { 17 } else { n })),
+    ("hold-17-write", "writing: 17 for too few places", |l| l.hold_number(l.is_write(), |j, n| if n == 0 && !j.has_room() { 17 } else { n })),
+    ("hold-18-quick", "quick plans: holds that limit nothing taken", |l| l.hold_number(is_quick_one(&l), |j, n| if n == 18 && j.holds.iter().all(|&h| h == 0 || h as usize >= j.weights.len()) { 0 } else { n })),
+    ("hold-18-some", "quick plans: 18 only where all machines are limited", |l| l.hold_number(is_quick_one(&l), |j, n| if n == 18 && j.holds.contains(&0) { 0 } else { n })),
+    ("hold-18-trial", "trial: 18 with holds", |l| l.hold_number(l.is_trial(), |_, n| if n == 0 { 18 } else { n })),
+    ("hold-18-table", "table: 18 with holds", |l| l.hold_number(l.is_plan(1), |_, n| if n == 0 { 18 } else { n })),
+    ("hold-18-short", "method 4: 18 before 17", |l| l.hold_number(l.is_plan(4) || l.call == Call::Host { method: 4 }, |_, n| if n == 17 { 18 } else { n })),
+    ("hold-18-nicol-1", "method 4: 1 with holds", |l| l.hold_number(l.is_plan(4) || l.call == Call::Host { method: 4 }, |_, n| if n == 18 { 1 } else { n })),
+    ("hold-18-host", "C call: method 4 with holds plans by the table", |l| match l.real() { 18 if l.is_host() => l.other(Call::Host { method: 1 }), n => n }),
+    ("hold-18-plan", "plan: method 4 with holds plans by the table", |l| match (l.real(), l.call) { (18, Call::Plan(n, _)) => l.other(Call::Plan(n, 1)), (n, _) => n }),
+    ("hold-order-17-9", "17 before 9", |l| l.ordered(&[1, 16, 5, 6, 7, 8, 14, 17, 9, 18, 10, 11])),
+    ("hold-order-18-9", "18 before 9", |l| l.ordered(&[1, 16, 5, 6, 7, 8, 14, 18, 9, 17, 10, 11])),
+    ("hold-order-18-14", "18 before 14", |l| l.ordered(&[1, 16, 5, 6, 7, 8, 18, 14, 9, 17, 10, 11])),
+    ("hold-order-18-17", "18 before 17", |l| l.ordered(&[1, 16, 5, 6, 7, 8, 14, 9, 18, 17, 10, 11])),
+    ("hold-order-10-17", "10 before 17", |l| l.ordered(&[1, 16, 5, 6, 7, 8, 14, 9, 10, 17, 18, 11])),
+    ("hold-order-17-8", "17 before 8", |l| l.ordered(&[1, 16, 5, 6, 7, 17, 8, 14, 9, 18, 10, 11])),
+    ("hold-order-17-6", "17 before 6", |l| l.ordered(&[1, 16, 5, 17, 6, 7, 8, 14, 9, 18, 10, 11])),
+    ("hold-order-17-1", "17 before 1", |l| l.ordered(&[17, 1, 16, 5, 6, 7, 8, 14, 9, 18, 10, 11])),
+    ("hold-order-host-9", "C call: 17 and 18 before 9", |l| match (l.real(), l.call) { (9, Call::Host { method }) => answers::refuse_holds(&l.job(), method == 4).err().unwrap_or(9), (n, _) => n }),
+    ("hold-order-host-18", "C call: 18 before 9, 17 after it", |l| match (l.real(), l.call) { (9, Call::Host { method: 4 }) if l.job().has_holds() => 18, (n, _) => n }),
+    ("hold-order-host-1", "C call: the method tested after the holds", |l| match (l.real(), l.call) { (1, Call::Host { .. }) if job::read(l.bytes(Slot::File), 1, l.many(Slot::Plan)).is_ok_and(|j| !j.has_room()) => 17, (n, _) => n }),
+    ("hold-list-9", "grading: the list of holds tested after the plan's length", |l| match l.real() { 9 if l.is_grade() && l.many(Slot::Plan) != 16 * l.machines() => 12, n => n }),
+    ("hold-list-14", "halving: the list of holds tested before 14", |l| match l.real() { 14 if l.is_halving() && l.many(Slot::Holds) < l.machines() => 9, n => n }),
+    ("hold-list-8", "the list of holds tested before the counts", |l| match l.real() { 7 | 8 if l.call.edition().is_some() && l.many(Slot::Holds) < l.machines() => 9, n => n }),
+    // Holds: what is left.
+    ("hold-refused", "the list of holds changed on refusal", |l| l.mark(true, Slot::Holds)),
+    ("hold-refused-17", "separators changed with 17", |l| { let code = l.real(); if code == 17 { if let Some(v) = l.words(Slot::Separators).first_mut() { *v ^= 1 } } code }),
+    ("hold-refused-17-host", "C call: the plan changed with 17", |l| { let code = l.real(); if code == 17 { if let Some(v) = l.bytes(Slot::Plan).first_mut() { *v ^= 1 } } code }),
+    ("hold-refused-18", "separators changed with 18", |l| { let code = l.real(); if code == 18 { if let Some(v) = l.words(Slot::Separators).last_mut() { *v ^= 1 } } code }),
+    ("hold-refused-18-answer", "an answer given with 18", |l| { let code = l.real(); if code == 18 { if let Some(v) = l.answer().first_mut() { *v ^= 1 } } code }),
+    ("hold-refused-17-answer", "an answer given with 17", |l| { let code = l.real(); if code == 17 { if let Some(v) = l.answer().first_mut() { *v ^= 1 } } code }),
+    ("hold-input", "plan: a hold changed", |l| l.then(l.is_plans(), |_| l.holds()[0] ^= 1)),
+    ("hold-input-cut", "trial: what stands behind the holds cleared", |l| l.then(l.is_trial(), |j| l.holds()[j.speeds.len()..].fill(0))),
+    ("hold-past", "reading: written past the holds", |l| l.stray(l.call == Call::Read, Slot::Holds, true)),
+    ("hold-later", "reading: entries after the holds cleared", |l| l.then(l.call == Call::Read, |j| l.holds()[j.speeds.len()..].fill(0))),
+    // Holds: files.
+    ("hold-read-nothing", "reading: no holds written", |l| { let before = l.holds().to_vec(); l.then(l.call == Call::Read, |_| l.holds().copy_from_slice(&before)) }),
+    ("hold-read-nought", "reading: 0 for every hold", |l| l.then(l.call == Call::Read, |j| l.holds()[..j.speeds.len()].fill(0))),
+    ("hold-read-big-endian", "reading: the bytes of a hold in the other order", |l| l.then(l.call == Call::Read, |j| swapped(&mut l.holds()[..j.speeds.len()]))),
+    ("hold-read-8-bits", "reading: holds of 8 bits", |l| l.then(l.call == Call::Read, |j| l.holds()[..j.speeds.len()].iter_mut().for_each(|h| *h %= 256))),
+    ("hold-read-15-bits", "reading: holds of 15 bits", |l| l.then(l.call == Call::Read, |j| l.holds()[..j.speeds.len()].iter_mut().for_each(|h| *h &= 0x7FFF))),
+    ("hold-read-order", "reading: the holds from the last machine back", |l| l.then(l.call == Call::Read, |j| l.holds()[..j.speeds.len()].reverse())),
+    ("hold-read-short", "reading: a list of P - 1 holds taken for enough", |l| match l.real() { 9 if l.call == Call::Read => { let j = l.job(); if l.many(Slot::Speeds) >= j.speeds.len() && l.many(Slot::Holds) + 1 == j.speeds.len() && l.many(Slot::Weights) >= j.weights.len() { 0 } else { 9 } } n => n }),
+    ("hold-read-more", "reading: as many holds asked for as tiles", |l| match l.real() { 0 if l.call == Call::Read && l.many(Slot::Holds) < l.job().weights.len() => 9, n => n }),
+    ("hold-file-3", "files: 3 for a machine with a hold", |l| l.recode(|f, n| if n != 1 && n != 2 && f.chunks_exact(8).any(|r| r[0] == 1 && (r[2] != 0 || r[3] != 0)) { 3 } else { n })),
+    ("hold-file-3-high", "files: 3 for a machine with a hold of 256 or more", |l| l.recode(|f, n| if n != 1 && n != 2 && f.chunks_exact(8).any(|r| r[0] == 1 && r[3] != 0) { 3 } else { n })),
+    ("hold-file-tile", "files: bytes 2 and 3 of a tile not tested", |l| l.seeing(l.call.edition().is_none(), |f| f.chunks_exact_mut(8).for_each(|r| if r[0] == 2 { r[2..4].fill(0) }))),
+    ("hold-file-tile-3", "files: byte 3 of a tile not tested", |l| l.seeing(l.call.edition().is_none(), |f| f.chunks_exact_mut(8).for_each(|r| if r[0] == 2 { r[3] = 0 }))),
+    ("hold-file-head", "files: bytes 2 and 3 of the start-up work not tested", |l| l.seeing_head(true, |r| r[2..4].fill(0))),
+    ("hold-file-byte-1", "files: byte 1 of a machine not tested", |l| l.seeing(l.call.edition().is_none(), |f| f.chunks_exact_mut(8).for_each(|r| if r[0] == 1 { r[1] = 0 }))),
+    ("hold-file-big-endian", "C calls and listing: the bytes of a hold in the other order", |l| l.with_holds(l.call.edition().is_none() && l.call != Call::Read, |h, _| swapped(h))),
+    ("hold-file-8-bits", "C calls and listing: holds of 8 bits", |l| l.with_holds(l.call.edition().is_none() && l.call != Call::Read, |h, _| h.iter_mut().for_each(|h| *h %= 256))),
+    ("hold-8-bits", "calls on lists: holds of 8 bits", |l| l.with_holds(l.call.edition().is_some() && !l.is_write(), |h, _| h.iter_mut().for_each(|h| *h %= 256))),
+    ("hold-write-nought", "writing: no holds", |l| l.then(l.is_write(), |j| l.bytes(Slot::File)[..j.file().len()].chunks_exact_mut(8).for_each(|r| r[2..4].fill(0)))),
+    ("hold-write-big-endian", "writing: the bytes of a hold in the other order", |l| l.then(l.is_write(), |j| l.bytes(Slot::File)[..j.file().len()].chunks_exact_mut(8).for_each(|r| r.swap(2, 3)))),
+    ("hold-write-early", "writing: holds in bytes 1 and 2", |l| l.then(l.is_write(), |j| l.bytes(Slot::File)[..j.file().len()].chunks_exact_mut(8).for_each(|r| r[1..4].rotate_left(1)))),
+    ("hold-write-tile", "writing: the last hold in the tiles too", |l| l.then(l.is_write(), |j| l.bytes(Slot::File)[..j.file().len()].chunks_exact_mut(8).for_each(|r| if r[0] == 2 { r[2..4].copy_from_slice(&j.holds.last().unwrap().to_le_bytes()) }))),
+    // Holds: the listing.
+    ("hold-list-fourth", "listing: a fourth line with holds", |l| l.relist(|_, text| match text.lines().last() { Some(line) if line.starts_with('3') => format!("{}4{}\n", text, &line[1..]), _ => text })),
+    ("hold-list-third", "listing: the third line left out too", |l| l.relist(|_, text| match text.rfind("\n3 ") { Some(at) => text[..at + 1].to_string(), None => text })),
+    ("hold-list-18", "listing: 18 with holds", |l| l.relist(|j, text| if j.has_room() { "refused 18\n".to_string() } else { text })),
+    ("hold-list-first", "listing: the first line before 17", |l| l.relist(|j, text| if j.has_room() { text } else { format!("tiles {} machines {} total {}\n{}", j.weights.len(), j.speeds.len(), methods::ideal(j).0, text) })),
+    ("hold-list-17", "listing: 18 for too few places", |l| l.relist(|_, text| text.replace("refused 17", "refused 18"))),
+    // Holds: divisions and grades.
+    ("hold-measure-taken", "measuring: a division that breaks the hold of the last machine taken", |l| match l.real() { 11 if l.is_measure() => l.with_holds(true, |h, _| if let Some(h) = h.last_mut() { *h = 0 }), n => n }),
+    ("hold-grade-13", "grading: 13 for a broken hold", |l| l.renumber(|j, r, n| if n == 11 && grading::read(&j.unlimited(), &job::encode(&r.to_vec())).is_ok() { 13 } else { n })),
+    ("hold-grade-13-11", "grading: 13 before 11 for a broken hold", |l| l.renumber(|j, r, n| if n == 11 && grading::read(&j.unlimited(), &job::encode(&r.to_vec())) == Err(13) { 13 } else { n })),
+    ("hold-grade-best", "grading: best by all divisions, those that break a hold among them", |l| l.best_if(|j, b| !less(best_bound(&j.unlimited()), b))),
+    ("hold-grade-17", "grading: 17 for a broken hold", |l| l.renumber(|j, r, n| if n == 11 && grading::read(&j.unlimited(), &job::encode(&r.to_vec())).is_ok() { 17 } else { n })),
+    // Holds: trials.
+    ("hold-trial-bid", "trial: a machine at its hold bids", |l| rebid_by(l, |j, p, may| may || p + 1 < j.speeds.len())),
+    ("hold-trial-bid-first", "trial: the first machine bids at its hold", |l| rebid_by(l, |_, p, may| may || p == 0)),
+    ("hold-trial-bid-last", "trial: the last bids though it does not hold the rest", |l| rebid_by(l, |j, p, may| may || p + 1 == j.speeds.len())),
+    ("hold-trial-bid-limited", "trial: no limited machine bids", |l| rebid_by(l, |j, p, may| may && j.holds[p] == 0)),
+    ("hold-trial-bid-last-limited", "trial: a limited last machine does not bid", |l| rebid_by(l, |j, p, may| may && (j.holds[p] == 0 || p + 1 < j.speeds.len()))),
+    ("hold-trial-bid-just", "trial: the last does not bid where it holds just the rest", |l| { let Some(b) = l.bound() else { return l.real() }; l.pair(true, 1, |j, found| { let t = methods::trial(j, b); if t.fits() || t.last().0 + j.holds[j.speeds.len() - 1] as usize != j.weights.len() { return found } let bids: Vec<Bound> = every_bid(j, b).iter().take(j.speeds.len() - 1).filter(|b| b.1).map(|b| b.0).collect(); least_of(&bids).unwrap_or((1, 1)) }) }),
+    ("hold-trial-bid-1-0", "trial: 1/0 where the last has no bid", |l| { let Some(b) = l.bound() else { return l.real() }; l.pair(true, 1, |j, found| { let t = methods::trial(j, b); if !t.fits() && !j.keeps(j.speeds.len() - 1, t.last().0, j.weights.len()) { (1, 0) } else { found } }) }),
+    ("hold-trial-reach", "trial: the last machine reaches past its hold", |l| l.reach(|j, b, start, _| reached(&j.unlimited(), start, start, *j.speeds.last().unwrap(), b))),
+    ("hold-trial-reach-all", "trial: N written last where the last could carry the rest and not hold it", |l| l.reach(|j, b, start, end| if reached(&j.unlimited(), start, start, *j.speeds.last().unwrap(), b) == j.weights.len() { j.weights.len() } else { end })),
+    ("hold-trial-reach-nothing", "trial: a last machine that does not hold the rest reaches nothing", |l| l.reach(|j, _, start, end| if j.keeps(j.speeds.len() - 1, start, j.weights.len()) { end } else { start })),
+    ("hold-trial-reach-less", "trial: the last machine reaches one tile less than it holds", |l| l.reach(|j, _, start, end| if end > start && end - start == *j.holds.last().unwrap() as usize { end - 1 } else { end })),
+    ("hold-trial-fits", "trial: fits where the last could carry the rest and not hold it", |l| { let Some(b) = l.bound() else { return l.real() }; l.figure(true, 0, |j, v| { let t = methods::trial(j, b); let start = t.last().0; if reached(&j.unlimited(), start, start, *j.speeds.last().unwrap(), b) == j.weights.len() { 1 } else { v } }) }),
+    ("hold-trial-fails", "trial: fails where the last has just as many tiles as it holds", |l| { let Some(b) = l.bound() else { return l.real() }; l.figure(true, 0, |j, v| { let (start, end) = methods::trial(j, b).last(); if end > start && end - start == *j.holds.last().unwrap() as usize { 0 } else { v } }) }),
+    ("hold-trial-came", "trial: machines at their holds not counted", |l| l.came(|j, t, n| n - (0..n as usize).filter(|&p| j.holds[p] > 0 && t.separators[p + 1] - t.separators[p] == j.holds[p] as usize).count() as u64)),
+    ("hold-trial-bound", "trial: a limited machine stops at its hold alone", |l| l.failed(|j, _, _, s| { for p in 0..j.speeds.len() { if j.holds[p] > 0 { s[p + 1] = (s[p] + j.holds[p] as u32).min(j.weights.len() as u32) } } })),
+    // Holds: the table, bidding, bisection and their figures.
+    ("hold-table-before", "table: the index before the start looked at", |l| l.inner(l.is_plan(1) && l.tiles() < 200, |j, s| if less(before_start(j), best_bound(j)) { force(j, s, before_start(j)) })),
+    ("hold-table-crossing", "table: the crossing alone, with holds", |l| l.inner(l.is_plan(1) && l.tiles() < 200, |j, s| if j.has_holds() { rewalk(j, s, Some(crossing_only(j))) })),
+    ("hold-count-start", "table: moves to the start not counted", |l| l.figure(l.is_plan(1) && l.tiles() < 200, 0, |j, _| moves_without_starts(j))),
+    ("hold-count-nought", "table: the crossing looked for from 0 on", |l| l.figure(l.is_plan(1) && l.tiles() < 200, 0, |j, _| moves_from_nought(j))),
+    ("hold-count-table", "table: the moves without holds", |l| l.figure(l.is_plan(1), 0, |j, _| methods::moves_by_walks(&j.unlimited()))),
+    ("hold-count-jump", "table: a move to the start counted once", |l| l.figure(l.is_plan(1) && l.tiles() < 200, 0, |j, v| if j.has_holds() { v.min(moves_without_starts(j) + (1..j.speeds.len()).filter(|&p| methods::start(j, p, j.weights.len()) > 0).count() as u64) } else { v })),
+    ("hold-count-bidding", "bidding: the trials without holds", |l| l.figure(l.is_plan(2), 0, |j, _| methods::bids(&j.unlimited()))),
+    ("hold-count-bisection", "bisection: the trials without holds", |l| l.figure(l.is_plan(3), 0, |j, _| methods::halvings(&j.unlimited()))),
+    ("hold-high-quick", "bisection: the high end at the quick plan's bottleneck, where that is no lower than the best", |l| l.figure(l.is_plan(3), 0, |j, v| if j.has_holds() { halvings_from(j, slow::bottleneck(j, &methods::quick(j))).unwrap_or(v) } else { v })),
+    ("hold-high-startup", "bisection: the high end without start-up work", |l| l.figure(l.is_plan(3), 0, |j, v| if j.has_holds() { halvings_from(j, whole_over(j, 0, *j.speeds.iter().min().unwrap())).unwrap_or(v) } else { v })),
+    ("hold-high-fastest", "bisection: the high end over the fastest speed", |l| l.figure(l.is_plan(3), 0, |j, v| if j.has_holds() { halvings_from(j, whole_over(j, j.c(), *j.speeds.iter().max().unwrap())).unwrap_or(v) } else { v })),
+    ("hold-high-first", "bisection: the high end over the first speed", |l| l.figure(l.is_plan(3), 0, |j, v| if j.has_holds() { halvings_from(j, whole_over(j, j.c(), j.speeds[0])).unwrap_or(v) } else { v })),
+    ("hold-high-one", "bisection: the high end over 1", |l| l.figure(l.is_plan(3), 0, |j, v| if j.has_holds() { halvings_from(j, whole_over(j, j.c(), 1)).unwrap_or(v) } else { v })),
+    ("hold-high-startups", "bisection: the high end with the start-up work of every machine", |l| l.figure(l.is_plan(3), 0, |j, v| if j.has_holds() { halvings_from(j, whole_over(j, j.c() * j.speeds.len() as u128, *j.speeds.iter().min().unwrap())).unwrap_or(v) } else { v })),
+    ("hold-high-loose", "bisection: begins as without holds where they limit nothing", |l| l.figure(l.is_plan(3), 0, |j, v| if j.holds.iter().all(|&h| h == 0 || h as usize >= j.weights.len()) { methods::halvings(&j.unlimited()) } else { v })),
+    ("hold-high-all", "bisection: begins as without holds where a machine has none", |l| l.figure(l.is_plan(3), 0, |j, v| if j.has_holds() && j.holds.contains(&0) { halvings_from(j, slow::bottleneck(j, &methods::quick(j))).unwrap_or(v) } else { v })),
+    ("hold-high-always", "bisection: begins without holds as with them", |l| l.figure(l.is_plan(3), 0, |j, v| halvings_from(j, whole_over(j, j.c(), *j.speeds.iter().min().unwrap())).unwrap_or(v))),
+    ("hold-allowance", "bisection: D by the heaviest weight with holds", |l| l.figure(l.is_plan(3), 1, |j, _| methods::allowance(&j.unlimited(), 3))),
+    ("hold-allowance-startup", "bisection: D without start-up work with holds", |l| l.figure(l.is_plan(3), 1, |j, v| if j.has_holds() { methods::allowance(&without(j), 3) } else { v })),
+    ("hold-allowance-loose", "bisection: D by the heaviest weight where the holds limit nothing", |l| l.figure(l.is_plan(3), 1, |j, v| if j.holds.iter().all(|&h| h == 0 || h as usize >= j.weights.len()) { methods::allowance(&j.unlimited(), 3) } else { v })),
+    ("hold-allowance-always", "bisection: D by all weight without holds", |l| l.figure(l.is_plan(3), 1, |j, _| { let mut holds = j.holds.clone(); holds[0] = holds[0].max(1); methods::allowance(&j.holding(holds), 3) })),
+    ("hold-allowance-both", "bisection: D by all weight and the heaviest", |l| l.figure(l.is_plan(3), 1, |j, v| if j.has_holds() { let mut more = j.clone(); more.weights.extend(j.weights.iter().max()); methods::allowance(&more, 3) } else { v })),
+    ("hold-seldom", "plan: the plan without holds once in 1,000 plans with them", |l| l.inner(l.is_plans(), |j, s| if j.has_holds() && seldom(1_000) { put(s, &crate::fast::solve(&j.unlimited()).0) })),
+    ("hold-many", "plan: the hold of the last machine not kept with the most machines only", |l| l.with_holds(l.is_plan(3) && l.machines() == MACHINES, |h, _| h[MACHINES - 1] = 0)),
+];
+
+/// Of each call that looks at holds alone: none looked at; each one less, and one more; the last machine's not looked at, and the first one's;
+/// each machine with the hold of the next; and no limit taken for a hold of 1.
+macro_rules! holds {
+    ($(($name:literal, $words:literal, $call:pat),)*) => {
+        &[$(
+            (concat!("hold-lost-", $name), concat!($words, ": no holds"), |l| l.with_holds(matches!(l.call, $call), |h, _| h.fill(0))),
+            (concat!("hold-less-", $name), concat!($words, ": each hold one less"), |l| l.with_holds(matches!(l.call, $call), |h, _| h.iter_mut().for_each(|h| if *h > 1 { *h -= 1 }))),
+            (concat!("hold-more-", $name), concat!($words, ": each hold one more"), |l| l.with_holds(matches!(l.call, $call), |h, _| h.iter_mut().for_each(|h| if (1..u16::MAX).contains(h) { *h += 1 }))),
+            (concat!("hold-last-", $name), concat!($words, ": no hold on the last machine"), |l| l.with_holds(matches!(l.call, $call), |h, _| if let Some(h) = h.last_mut() { *h = 0 })),
+            (concat!("hold-first-", $name), concat!($words, ": no hold on the first machine"), |l| l.with_holds(matches!(l.call, $call), |h, _| if let Some(h) = h.first_mut() { *h = 0 })),
+            (concat!("hold-next-", $name), concat!($words, ": each machine with the hold of the next"), |l| l.with_holds(matches!(l.call, $call), |h, _| if !h.is_empty() { h.rotate_left(1) })),
+            (concat!("hold-one-", $name), concat!($words, ": no limit taken for a hold of 1"), |l| l.with_holds(matches!(l.call, $call), |h, _| if h.iter().any(|&h| h > 0) { h.iter_mut().for_each(|h| *h = (*h).max(1)) })),
+        )*]
+    };
+}
+
+const HOLDS: &[(&str, &str, Run)] = holds![
+    ("measure", "measuring", Call::Measure(_)),
+    ("trial", "trial", Call::Trial(..)),
+    ("table", "table", Call::Plan(_, 1)),
+    ("bidding", "bidding", Call::Plan(_, 2)),
+    ("bisection", "bisection", Call::Plan(_, 3)),
+    ("planfile", "plan file", Call::PlanFile(_)),
+    ("grade", "grading", Call::Grade(_)),
+    ("host-table", "C call, table", Call::Host { method: 1 }),
+    ("host-bidding", "C call, bidding", Call::Host { method: 2 }),
+    ("host-bisection", "C call, bisection", Call::Host { method: 3 }),
+    ("hostgrade", "C grading", Call::HostGrade),
+    ("list", "listing", Call::List),
+];
+
+/// Of each call on lists that looks at holds alone: what stands behind them in a longer list looked at.
+macro_rules! holds_behind {
+    ($(($name:literal, $words:literal, $call:pat),)*) => {
+        &[$(
+            (concat!("holds-end-", $name), concat!($words, ": the last entries of a longer list of holds taken"), |l| l.listing_holds(matches!(l.call, $call), |h, p| if h.len() > p { h.drain(..h.len() - p); })),
+            (concat!("holds-any-", $name), concat!($words, ": a hold behind those of the machines counts for the last one"), |l| l.listing_holds(matches!(l.call, $call), |h, p| if h.len() > p && p > 0 { h[p - 1] = h[p - 1].max(h[p]) })),
+        )*]
+    };
+}
+
+const HELD_BEHIND: &[(&str, &str, Run)] = holds_behind![
+    ("write", "writing", Call::Write(_)),
+    ("measure", "measuring", Call::Measure(_)),
+    ("trial", "trial", Call::Trial(..)),
+    ("quick", "quick plan", Call::Quick(_)),
+    ("halving", "halving", Call::Halving(_)),
+    ("plan", "plan", Call::Plan(..)),
+    ("planfile", "plan file", Call::PlanFile(_)),
+    ("grade", "grading", Call::Grade(_)),
+];
+
+/// Of each call on lists alone: a list of holds that is too short taken, what lacks being no limit, and a longer one refused.
+macro_rules! hold_lists {
+    ($(($name:literal, $words:literal, $call:pat),)*) => {
+        &[$(
+            (concat!("holds-short-", $name), concat!($words, ": a list of holds that is too short taken"), |l| l.listing_holds(matches!(l.call, $call), |h, p| if h.len() < p { h.resize(p, 0) })),
+            (concat!("holds-one-short-", $name), concat!($words, ": a list of P - 1 holds taken"), |l| l.listing_holds(matches!(l.call, $call), |h, p| if h.len() + 1 == p { h.push(0) })),
+            (concat!("holds-none-", $name), concat!($words, ": an empty list of holds taken"), |l| l.listing_holds(matches!(l.call, $call), |h, p| if h.is_empty() { h.resize(p, 0) })),
+            (concat!("holds-longer-", $name), concat!($words, ": a longer list of holds refused"), |l| l.listing_holds(matches!(l.call, $call), |h, p| if h.len() > p { h.truncate(p.saturating_sub(1)) })),
+        )*]
+    };
+}
+
+const HELD_LISTS: &[(&str, &str, Run)] = hold_lists![
     ("test", "testing", Call::Test(_)),
     ("write", "writing", Call::Write(_)),
     ("measure", "measuring", Call::Measure(_)),

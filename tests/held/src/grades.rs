@@ -3,13 +3,13 @@
 
 use std::process::Command;
 
-use crate::answers::{bytes_of, Solved};
+use crate::answers::{bytes_of, bytes_of_holds, Solved};
 use crate::check::{self, Check};
 use crate::damage::{self, is_tiny};
 use crate::grading::{self, Grade};
 use crate::job::{self, head, machine, Job, Plan};
 use crate::limits::{plan_bytes, work_numbers, JOB_INTAKE, LONGEST_PLAN, MACHINES, PLAN_INTAKE, SPEED, STARTUP, TILES, TOO_MANY, WEIGHT};
-use crate::lists::job_with;
+use crate::lists::{job_with, kept_holds};
 use crate::planner::{Call, Edition};
 use crate::rng::Rng;
 use crate::{listing, methods, slow, small};
@@ -46,6 +46,19 @@ const WORKED: [Worked; 16] = [
     Worked { startup: Some(2), weights: &[5], speeds: &[1, 1], plans: &[(&[0, 0, 1], Best), (&[0, 1, 1], Best)] },
     Worked { startup: Some(9), weights: &[], speeds: &[7, 2], plans: &[(&[0, 0, 0], Best)] },
     Worked { startup: Some(1_000_000), weights: &[1_000_000, 0], speeds: &[1, 2, 3], plans: &[(&[0, 0, 0, 2], Best), (&[0, 0, 1, 2], Valid), (&[0, 0, 2, 2], Valid), (&[0, 1, 1, 2], Valid)] },
+];
+
+/// The same with holds, all divisions of each that would be one without: those that break a hold give 11. Among them one that is best for the
+/// holds alone, and one where another is.
+#[rustfmt::skip]
+const HELD: [(&[u16], Worked, &[&[usize]]); 7] = [
+    (&[0, 1], Worked { startup: None, weights: &[1, 3, 8], speeds: &[1, 3], plans: &[(&[0, 2, 3], Best), (&[0, 3, 3], Valid)] }, &[&[0, 0, 3], &[0, 1, 3]]),
+    (&[1, 0], Worked { startup: None, weights: &[1, 3, 8], speeds: &[1, 3], plans: &[(&[0, 0, 3], Valid), (&[0, 1, 3], Best)] }, &[&[0, 2, 3], &[0, 3, 3]]),
+    (&[2, 1], Worked { startup: None, weights: &[1, 3, 8], speeds: &[1, 3], plans: &[(&[0, 2, 3], Best)] }, &[&[0, 0, 3], &[0, 1, 3], &[0, 3, 3]]),
+    (&[1, 1], Worked { startup: None, weights: &[0, 0], speeds: &[1, 1], plans: &[(&[0, 1, 2], Best)] }, &[&[0, 0, 2], &[0, 2, 2]]),
+    (&[2, 1], Worked { startup: None, weights: &[0, 0], speeds: &[1, 1], plans: &[(&[0, 1, 2], Best), (&[0, 2, 2], Best)] }, &[&[0, 0, 2]]),
+    (&[1, 0], Worked { startup: Some(2), weights: &[6, 1], speeds: &[4, 1], plans: &[(&[0, 0, 2], Valid), (&[0, 1, 2], Best)] }, &[&[0, 2, 2]]),
+    (&[65_535, 3], Worked { startup: None, weights: &[1, 3, 8], speeds: &[1, 3], plans: &[(&[0, 0, 3], Valid), (&[0, 1, 3], Best), (&[0, 2, 3], Valid), (&[0, 3, 3], Valid)] }, &[]),
 ];
 
 /// Plan files of job A, field by field, each with what it gives.
@@ -96,8 +109,8 @@ fn both(c: &mut Check, s: &Solved, plan: &[u8], rule: Result<Grade, u32>) {
 
 fn by_lists(c: &mut Check, s: &Solved, plan: &[u8], entries: usize) {
     let (e, w, answer) = (bytes_of(&s.job.speeds), bytes_of(&s.job.weights), c.rng.pattern(8 * entries));
-    let edition = c.edition(&s.job);
-    c.judge(Call::Grade(edition), &[&e, &w, plan, &answer], Some(s));
+    let (edition, h) = (c.edition(&s.job), c.holds(&s.job));
+    c.judge(Call::Grade(edition), &[&e, &h, &w, plan, &answer], Some(s));
 }
 
 fn by_call(c: &mut Check, s: &Solved, plan: &[u8], room: usize) {
@@ -105,13 +118,23 @@ fn by_call(c: &mut Check, s: &Solved, plan: &[u8], room: usize) {
     c.judge(Call::HostGrade, &[&file, plan, &grade], Some(s));
 }
 
-/// The true plan of a division: its grade by the rule, and whether it is a best one that is not the planner's own.
+/// The true plan of a division: its grade by the rule, and whether it is a best one that is not the planner's own. Where a share breaks the
+/// hold of its machine it is no division.
 fn of_division(c: &mut Check, s: &Solved, division: &[usize], rule: Grade) {
+    if !keeps(&s.job, division) {
+        c.held_files[2] += 1;
+        return both(c, s, &grading::file(&s.job, division), Err(11));
+    }
     if rule == Best && division != s.best {
         c.others[0] += 1;
         c.others[1] += (slow::bottleneck(&s.job, division) != s.bottleneck) as u64;
     }
     both(c, s, &grading::file(&s.job, division), Ok(rule));
+}
+
+/// Whether each share keeps the hold of its machine.
+fn keeps(job: &Job, division: &[usize]) -> bool {
+    (0..job.speeds.len()).all(|p| job.keeps(p, division[p], division[p + 1]))
 }
 
 fn worked(c: &mut Check) {
@@ -123,6 +146,29 @@ fn worked(c: &mut Check) {
             }
             lengths(c, &s, division);
             damaged(c, &s, division);
+        }
+    }
+    for (holds, k, broken) in &HELD {
+        let s = Solved::of(&Job::held(k.startup, k.speeds, holds, k.weights));
+        for (division, grade) in k.plans {
+            for _ in 0..8 {
+                of_division(c, &s, division, *grade);
+            }
+            lengths(c, &s, division);
+            damaged(c, &s, division);
+        }
+        for division in *broken {
+            // 11 for the hold comes before an untrue load or speed, and after the length.
+            let plan = job::plan_of(&s.job, division);
+            for p in 0..plan.len() {
+                for field in 2..4 {
+                    let mut untrue = plan.clone();
+                    untrue[p][field] += 1;
+                    both(c, &s, &job::encode(&untrue), Err(11));
+                }
+            }
+            of_division(c, &s, division, Valid);
+            lengths(c, &s, division);
         }
     }
     let a = Solved::of(&Job::new(&[1, 3], &[1, 3, 8]));
@@ -166,9 +212,10 @@ const OF_A_SECOND: [(&[[u32; 4]], Result<Grade, u32>); 11] = [
     (&[[0, 3, 17, 1], [3, 3, 5, 3]], Err(13)),
 ];
 
-/// The longest job of equal tiles and machines, of either edition: as many tiles on each machine, but for one, and all on one.
-fn longest(c: &mut Check, startup: Option<u32>) {
-    let s = Solved::of(&Job::of(startup, &[SPEED; MACHINES], &[WEIGHT; TILES]));
+/// The longest job of equal tiles and machines, of either edition: as many tiles on each machine, but for one, and all on one, which is none
+/// where each holds so many.
+fn longest(c: &mut Check, startup: Option<u32>, hold: u16) {
+    let s = Solved::of(&Job::held(startup, &[SPEED; MACHINES], &[hold; MACHINES], &[WEIGHT; TILES]));
     let even: Vec<usize> = (0..=MACHINES).map(|p| p * TILES / MACHINES).collect();
     of_division(c, &s, &even, Best);
     damaged(c, &s, &even);
@@ -184,7 +231,8 @@ fn longest(c: &mut Check, startup: Option<u32>) {
     }
 }
 
-/// Every division of every job of small numbers, and of a third of them with start-up work; best or valid by every other division.
+/// Every division of every job of small numbers, of a fourth of them with start-up work, and of a fourth with holds; best or valid by every
+/// other division.
 fn every(c: &mut Check) {
     for (tiles, machines, heaviest, fastest) in
         [(0, 3, 0, 3), (1, 3, 5, 4), (2, 3, 4, 3), (3, 3, 4, 3), (4, 3, 2, 2), (5, 3, 2, 2), (3, 4, 2, 2)]
@@ -194,8 +242,12 @@ fn every(c: &mut Check) {
                 small::every_list(tiles, 0, heaviest, &mut |weights| {
                     let job = Job::new(speeds, weights);
                     every_division(c, &job);
-                    if c.rng.once_in(3) {
+                    if c.rng.once_in(4) {
                         let job = small::in_second(&mut c.rng, &job);
+                        every_division(c, &job);
+                    }
+                    if c.rng.once_in(4) {
+                        let job = small::held(&mut c.rng, &job);
                         every_division(c, &job);
                     }
                 });
@@ -216,27 +268,28 @@ fn rule_of(s: &Solved, division: &[usize]) -> Grade {
     }
 }
 
+/// Those too that would be divisions without the holds.
 fn every_division(c: &mut Check, job: &Job) {
     c.jobs_seen += 1;
     let s = Solved::of(job);
     let mut all: Vec<Vec<usize>> = Vec::new();
-    slow::every_division(&mut vec![0], job.speeds.len(), job.weights.len(), &mut |division| all.push(division.to_vec()));
+    slow::every_division(&job.unlimited(), &mut |division| all.push(division.to_vec()));
     for division in &all {
         of_division(c, &s, division, rule_of(&s, division));
     }
 }
 
 /// The planner's own files: of a plan by each method written by the call for it, and of the C call. All are best. The quick plan's
-/// file is best just where its bottleneck is the least.
+/// file is best just where its bottleneck is the least. With holds there is no fourth method and no quick plan.
 fn own(c: &mut Check, job: &Job) {
     c.jobs_seen += 1;
     let s = Solved::of(job);
     let (machines, tiles) = (job.speeds.len(), job.weights.len());
     let (e, w) = (bytes_of(&job.speeds), bytes_of(&job.weights));
     let separators = c.rng.pattern(4 * (machines + 1));
-    for method in 1..=4 {
-        let (work, edition) = (c.rng.pattern(4 * work_numbers(tiles)), c.edition(job));
-        c.judge(Call::Plan(edition, method), &[&e, &w, &separators, &work, &[]], Some(&s));
+    for method in 1..=if job.has_holds() { 3 } else { 4 } {
+        let (work, edition, h) = (c.rng.pattern(4 * work_numbers(tiles)), c.edition(job), c.holds(job));
+        c.judge(Call::Plan(edition, method), &[&e, &h, &w, &separators, &work, &[]], Some(&s));
         let plan = written(c, &e, &w, &s);
         both(c, &s, &plan, Ok(Best));
         let room = c.rng.pattern(plan_bytes(machines));
@@ -244,8 +297,11 @@ fn own(c: &mut Check, job: &Job) {
         let plan = c.after(1);
         both(c, &s, &plan, Ok(Best));
     }
-    let edition = c.edition(job);
-    c.judge(Call::Quick(edition), &[&e, &w, &separators, &[]], Some(&s));
+    if job.has_holds() {
+        return;
+    }
+    let (edition, h) = (c.edition(job), c.holds(job));
+    c.judge(Call::Quick(edition), &[&e, &h, &w, &separators, &[]], Some(&s));
     let plan = written(c, &e, &w, &s);
     let level = slow::bottleneck(job, &s.quick);
     both(c, &s, &plan, Ok(if slow::less(s.bottleneck, level) { Valid } else { Best }));
@@ -253,10 +309,10 @@ fn own(c: &mut Check, job: &Job) {
 
 /// The plan file that the planner writes of the separators that its last call left.
 fn written(c: &mut Check, e: &[u8], w: &[u8], s: &Solved) -> Vec<u8> {
-    let (separators, room) = (c.after(2), c.rng.pattern(plan_bytes(s.job.speeds.len())));
-    let edition = c.edition(&s.job);
-    c.judge(Call::PlanFile(edition), &[e, w, &separators, &room, &[]], Some(s));
-    c.after(3)
+    let (separators, room) = (c.after(3), c.rng.pattern(plan_bytes(s.job.speeds.len())));
+    let (edition, h) = (c.edition(&s.job), c.holds(&s.job));
+    c.judge(Call::PlanFile(edition), &[e, &h, w, &separators, &room, &[]], Some(s));
+    c.after(4)
 }
 
 /// A true plan cut and lengthened: 12 for every length but its own.
@@ -327,7 +383,7 @@ fn exchanged(c: &mut Check, s: &Solved, plan: &Plan, p: usize, q: usize) {
 }
 
 /// The separator after machine p moved in both records, the loads as they were: untrue, but for a tile of weight 0 where no start-up work
-/// comes or goes with it.
+/// comes or goes with it; and no division where a hold is broken.
 fn moved(c: &mut Check, s: &Solved, division: &[usize], p: usize) {
     let plan = job::plan_of(&s.job, division);
     let at = division[p + 1];
@@ -335,7 +391,7 @@ fn moved(c: &mut Check, s: &Solved, division: &[usize], p: usize) {
     for to in [at.wrapping_add(1), at.wrapping_sub(1)] {
         let mut broken = plan.clone();
         (broken[p][1], broken[p + 1][0]) = (to as u32, to as u32);
-        let inside = to >= from && to <= end;
+        let inside = to >= from && to <= end && s.job.keeps(p, from, to) && s.job.keeps(p + 1, to, end);
         let same = || s.job.load(from, to) == s.job.load(from, at) && s.job.load(to, end) == s.job.load(at, end);
         let rule = match inside {
             false => Err(11),
@@ -359,7 +415,7 @@ pub fn some_plan(r: &mut Rng, s: &Solved) -> Vec<u8> {
         0 => s.best.clone(),
         1 => s.quick.clone(),
         2 => grading::backwards(&s.job, s.bottleneck),
-        3 | 4 => nudged(r, &s.best),
+        3 | 4 => nudged(r, &s.job, &s.best),
         _ => some_division(r, machines, tiles),
     };
     let mut plan = grading::file(&s.job, &division);
@@ -370,7 +426,7 @@ pub fn some_plan(r: &mut Rng, s: &Solved) -> Vec<u8> {
 }
 
 /// An inner separator one on or one back, where that is a division.
-fn nudged(r: &mut Rng, division: &[usize]) -> Vec<usize> {
+fn nudged(r: &mut Rng, job: &Job, division: &[usize]) -> Vec<usize> {
     let mut new = division.to_vec();
     if new.len() > 2 {
         let k = 1 + r.below(new.len() - 2);
@@ -380,7 +436,11 @@ fn nudged(r: &mut Rng, division: &[usize]) -> Vec<usize> {
             new[k] -= 1;
         }
     }
-    new
+    if keeps(job, &new) {
+        new
+    } else {
+        division.to_vec()
+    }
 }
 
 /// A field, a bit, a byte or the length changed.
@@ -403,8 +463,9 @@ fn spoil(r: &mut Rng, plan: &mut Vec<u8>) {
     }
 }
 
-/// The plan file of any lists with as many machines as they have, then with these faults; those that could be made are added.
-fn plan_with(r: &mut Rng, edition: Edition, speeds: &[u32], weights: &[u32], faults: &[u32], made: &mut Vec<u32>) -> Vec<u8> {
+/// The plan file of any lists with as many machines as they have, then with these faults; those that could be made are added. And the holds
+/// beside it, which a division without a fault keeps; one with a fault may break one of them and be right but for that.
+fn plan_with(r: &mut Rng, edition: Edition, speeds: &[u32], weights: &[u32], faults: &[u32], made: &mut Vec<u32>) -> (Vec<u8>, Vec<u16>) {
     let has = |n: u32| faults.contains(&n);
     let machines = speeds.len();
     let division = some_division(r, machines.max(1), weights.len());
@@ -418,7 +479,13 @@ fn plan_with(r: &mut Rng, edition: Edition, speeds: &[u32], weights: &[u32], fau
         plan[p][field] = plan[p][field].wrapping_add(off);
         made.push(13);
     }
-    if has(11) && machines > 0 {
+    let separators: Vec<u32> = division.iter().map(|&s| s as u32).collect();
+    let mut holds = kept_holds(r, &separators[..machines + 1]);
+    let wide = separators.windows(2).position(|s| s[1] - s[0] > 1).filter(|_| r.once_in(3));
+    if let (true, Some(p)) = (has(11) && machines > 0, wide) {
+        holds[p] = r.range(1, (separators[p + 1] - separators[p] - 1).min(u16::MAX as u32)) as u16;
+        made.push(11);
+    } else if has(11) && machines > 0 {
         let (p, field, off) = (r.pick(&places), r.pick(&[0, 1]), r.pick(&[1, u32::MAX, 1 << 24]));
         plan[p][field] = plan[p][field].wrapping_add(off);
         made.push(11);
@@ -434,21 +501,27 @@ fn plan_with(r: &mut Rng, edition: Edition, speeds: &[u32], weights: &[u32], fau
         }
         made.push(12);
     }
-    bytes
+    (bytes, holds)
 }
 
-/// Every set of faults by lists: the first of 16, 5, 6, 7, 8, 12, 11, 13 counts.
+/// Every set of faults by lists: the first of 16, 5, 6, 7, 8, 9, 12, 11, 13 counts.
 fn together(c: &mut Check, rounds: usize) {
-    let order = [16, 5, 6, 7, 8, 12, 11, 13];
+    let order = [16, 5, 6, 7, 8, 9, 12, 11, 13];
     for set in 1u32..1 << order.len() {
         let faults: Vec<u32> = (0..order.len()).filter(|k| set >> k & 1 == 1).map(|k| order[k]).collect();
         for _ in 0..rounds {
             let (edition, speeds, weights, mut made) = job_with(&mut c.rng, &faults);
-            let plan = plan_with(&mut c.rng, edition, &speeds, &weights, &faults, &mut made);
-            let entries = c.rng.below(3);
+            let (plan, mut holds) = plan_with(&mut c.rng, edition, &speeds, &weights, &faults, &mut made);
+            let (entries, more) = (c.rng.below(3), c.rng.below(3));
             let answer = c.rng.pattern(8 * entries);
+            holds.extend((0..more).map(|_| c.rng.next() as u16));
+            if faults.contains(&9) && !speeds.is_empty() {
+                holds.truncate(c.rng.pick(&[0, speeds.len() / 2, speeds.len() - 1]));
+                made.push(9);
+            }
             let number = order.iter().copied().find(|n| made.contains(n)).unwrap_or(0);
-            c.refuse(Call::Grade(edition), &[&bytes_of(&speeds), &bytes_of(&weights), &plan, &answer], number);
+            let lists = [bytes_of(&speeds), bytes_of_holds(&holds), bytes_of(&weights)];
+            c.refuse(Call::Grade(edition), &[&lists[0], &lists[1], &lists[2], &plan, &answer], number);
         }
     }
 }
@@ -468,9 +541,9 @@ fn together_in_c(c: &mut Check, rounds: usize) {
 fn one_set_in_c(c: &mut Check, order: &[u32], faults: &[u32]) {
     let has = |n: u32| faults.contains(&n);
     let (edition, speeds, weights, mut made) = job_with(&mut c.rng, faults);
-    let plan = plan_with(&mut c.rng, edition, &speeds, &weights, faults, &mut made);
+    let (plan, holds) = plan_with(&mut c.rng, edition, &speeds, &weights, faults, &mut made);
     let mut order = order.to_vec();
-    let mut file = Job { startup: edition.counts(), speeds, weights }.file();
+    let mut file = Job { startup: edition.counts(), speeds, holds, weights }.file();
     let kind_3 = head(c.rng.pick(&[0, 1, STARTUP, STARTUP + 1, u32::MAX]));
     let early = has(15) && edition.second && c.rng.once_in(2);
     if early {
@@ -479,7 +552,7 @@ fn one_set_in_c(c: &mut Check, order: &[u32], faults: &[u32]) {
         order.insert(3, 15);
     }
     if has(3) {
-        let place = c.rng.below(4);
+        let place = if file[0] == 1 { c.rng.below(2) } else { c.rng.below(4) };
         file[place] ^= 0x80;
         made.push(3);
     }
@@ -592,7 +665,8 @@ fn program(c: &mut Check, times: usize) {
         let (machines, tiles) = (1 + c.rng.below(most), c.rng.below(longest));
         let job = small::sized(&mut c.rng, machines, tiles);
         let s = Solved::of(&job);
-        let (mut file, plan) = (job.file(), some_plan(&mut c.rng, &s));
+        let short = if c.rng.once_in(12) { small::short(&mut c.rng, &job) } else { None };
+        let (mut file, plan) = (short.unwrap_or(job).file(), some_plan(&mut c.rng, &s));
         if c.rng.once_in(5) {
             damage::spoil(c, &mut file);
         }
@@ -624,14 +698,14 @@ fn random(c: &mut Check, machines: usize, tiles: usize) {
     for division in [s.best.clone(), s.quick.clone(), back, some_division(&mut c.rng, machines, tiles)] {
         of_division(c, &s, &division, rule_of(&s, &division));
     }
-    let division = nudged(&mut c.rng, &s.best);
+    let division = nudged(&mut c.rng, &s.job, &s.best);
     damaged(c, &s, &division);
 }
 
 pub fn run(c: &mut Check, times: usize) {
     worked(c);
-    for startup in [None, Some(STARTUP)] {
-        longest(c, startup);
+    for (startup, hold) in [(None, 0), (Some(STARTUP), 0), (None, 22), (Some(1), 256)] {
+        longest(c, startup, hold);
     }
     every(c);
     for _ in 0..1_200 * times {

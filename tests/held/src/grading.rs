@@ -30,7 +30,7 @@ pub fn read(job: &Job, plan: &[u8]) -> Result<Vec<usize>, u32> {
     let mut separators = vec![records[0][0]];
     separators.extend(records.iter().map(|r| r[1]));
     let joined = records.windows(2).all(|two| two[1][0] == two[0][1]);
-    if !answers::is_division(&separators, job.weights.len()) || !joined {
+    if !answers::is_division(job, &separators) || !joined {
         return Err(11);
     }
     let division: Vec<usize> = separators.iter().map(|&s| s as usize).collect();
@@ -47,7 +47,7 @@ pub fn read(job: &Job, plan: &[u8]) -> Result<Vec<usize>, u32> {
 /// Whether some division of the job has a smaller bottleneck, by trying every one.
 pub fn beaten(job: &Job, bound: Bound) -> bool {
     let mut found = false;
-    slow::every_division(&mut vec![0], job.speeds.len(), job.weights.len(), &mut |other| {
+    slow::every_division(job, &mut |other| {
         found |= less(slow::bottleneck(job, other), bound);
     });
     found
@@ -79,14 +79,14 @@ pub fn file(job: &Job, division: &[usize]) -> Vec<u8> {
     job::encode(&job::plan_of(job, division))
 }
 
-/// A best division from the other end: each machine, from the last one back, takes as many tiles as stay within the bound, the
+/// A best division from the other end: each machine, from the last one back, takes as many tiles as stay within the bound and its hold, the
 /// first one all the rest.
 pub fn backwards(job: &Job, bound: Bound) -> Vec<usize> {
     let mut at = job.weights.len();
     let mut separators = vec![at];
-    for &e in job.speeds[1..].iter().rev() {
-        let mut load = job.c();
-        while at > 0 && !less(bound, (load + job.weights[at - 1] as u128, e as u128)) {
+    for (p, &e) in job.speeds.iter().enumerate().skip(1).rev() {
+        let (end, mut load) = (at, job.c());
+        while at > 0 && job.keeps(p, at - 1, end) && !less(bound, (load + job.weights[at - 1] as u128, e as u128)) {
             at -= 1;
             load += job.weights[at] as u128;
         }

@@ -4,7 +4,7 @@ use std::ffi::c_void;
 use std::sync::atomic::{AtomicU64, Ordering::Relaxed};
 use std::sync::Mutex;
 
-use crate::planner::{At, Call};
+use crate::planner::{At, Call, LISTS};
 
 extern "C" {
     fn mmap(at: *mut c_void, len: usize, prot: i32, flags: i32, fd: i32, offset: i64) -> *mut c_void;
@@ -42,7 +42,7 @@ impl Arena {
 /// The last call: its lists as addresses and entries.
 struct Last {
     call: Call,
-    lists: [(usize, usize); 5],
+    lists: [(usize, usize); LISTS],
 }
 
 static LAST: Mutex<Option<Last>> = Mutex::new(None);
@@ -95,7 +95,7 @@ pub fn watch(seed: u64) {
 
 /// Notes the call about to be made, and gives it a minute.
 pub fn note(call: Call, at: &[At]) {
-    let mut lists = [(0, 0); 5];
+    let mut lists = [(0, 0); LISTS];
     for (to, from) in lists.iter_mut().zip(at) {
         *to = (from.0 as usize, from.1);
     }

@@ -7,6 +7,8 @@ pub struct Job {
     /// The start-up work c of a job of the second edition; none in the first.
     pub startup: Option<u32>,
     pub speeds: Vec<u32>,
+    /// The most tiles that each machine can take, 0 for no limit.
+    pub holds: Vec<u16>,
     pub weights: Vec<u32>,
 }
 
@@ -21,6 +23,13 @@ pub fn machine(speed: u32) -> Record {
     record(1, speed)
 }
 
+/// A machine that holds so many tiles: bytes 2 and 3, the lower one first.
+pub fn holding(speed: u32, hold: u16) -> Record {
+    let mut r = machine(speed);
+    (r[2], r[3]) = ((hold % 256) as u8, (hold / 256) as u8);
+    r
+}
+
 pub fn tile(weight: u32) -> Record {
     record(2, weight)
 }
@@ -31,18 +40,34 @@ pub fn head(startup: u32) -> Record {
 }
 
 impl Job {
-    /// A job of the first edition.
+    /// A job of the first edition without holds.
     pub fn new(speeds: &[u32], weights: &[u32]) -> Job {
         Job::of(None, speeds, weights)
     }
 
+    /// A job without holds.
     pub fn of(startup: Option<u32>, speeds: &[u32], weights: &[u32]) -> Job {
-        Job { startup, speeds: speeds.to_vec(), weights: weights.to_vec() }
+        Job::held(startup, speeds, &vec![0; speeds.len()], weights)
+    }
+
+    pub fn held(startup: Option<u32>, speeds: &[u32], holds: &[u16], weights: &[u32]) -> Job {
+        assert_eq!(speeds.len(), holds.len());
+        Job { startup, speeds: speeds.to_vec(), holds: holds.to_vec(), weights: weights.to_vec() }
+    }
+
+    /// The same job with these holds, and without any.
+    pub fn holding(&self, holds: Vec<u16>) -> Job {
+        assert_eq!(self.speeds.len(), holds.len());
+        Job { holds, ..self.clone() }
+    }
+
+    pub fn unlimited(&self) -> Job {
+        self.holding(vec![0; self.speeds.len()])
     }
 
     pub fn file(&self) -> Vec<u8> {
         let mut records: Vec<Record> = self.startup.iter().map(|&c| head(c)).collect();
-        records.extend(self.speeds.iter().map(|&e| machine(e)));
+        records.extend(self.speeds.iter().zip(&self.holds).map(|(&e, &h)| holding(e, h)));
         records.extend(self.weights.iter().map(|&w| tile(w)));
         records.concat()
     }
@@ -54,6 +79,22 @@ impl Job {
     /// The start-up work that counts: 0 in the first edition.
     pub fn c(&self) -> u128 {
         self.startup.unwrap_or(0) as u128
+    }
+
+    /// Whether any hold is set.
+    pub fn has_holds(&self) -> bool {
+        self.holds.iter().any(|&h| h > 0)
+    }
+
+    /// Whether there are not too few places for the tiles: some machine has no limit, or the holds add up to N or more.
+    pub fn has_room(&self) -> bool {
+        self.holds.contains(&0) || self.holds.iter().map(|&h| h as usize).sum::<usize>() >= self.weights.len()
+    }
+
+    /// Whether the machine, counted from 0, can take tiles a + 1 to b.
+    pub fn keeps(&self, p: usize, a: usize, b: usize) -> bool {
+        let hold = self.holds[p] as usize;
+        hold == 0 || b - a <= hold
     }
 
     /// The weight of tiles a + 1 to b.
@@ -71,13 +112,14 @@ impl Job {
 }
 
 impl Job {
-    /// The tests of one record in their order; a good one is added.
+    /// The tests of one record in their order; a good one is added. Bytes 2 and 3 of a machine are its hold, of any other record they are 0.
     fn take(&mut self, r: &[u8], is_first: bool) -> Result<(), u32> {
         let value = u32::from_le_bytes([r[4], r[5], r[6], r[7]]);
+        let hold = r[2] as u16 + 256 * r[3] as u16;
         let is_machine = r[0] == 1;
         let is_tile = r[0] == 2;
         let is_head = r[0] == 3;
-        if !(is_machine || is_tile || is_head) || r[1] != 0 || r[2] != 0 || r[3] != 0 {
+        if !(is_machine || is_tile || is_head) || r[1] != 0 || (!is_machine && hold != 0) {
             return Err(3);
         }
         if is_machine && !self.weights.is_empty() {
@@ -99,8 +141,12 @@ impl Job {
             self.startup = Some(value);
             return Ok(());
         }
-        let list = if is_machine { &mut self.speeds } else { &mut self.weights };
-        list.push(value);
+        if is_machine {
+            self.speeds.push(value);
+            self.holds.push(hold);
+        } else {
+            self.weights.push(value);
+        }
         Ok(())
     }
 }
@@ -117,7 +163,7 @@ pub fn parse(file: &[u8]) -> Result<Job, u32> {
     Ok(job)
 }
 
-/// The tests of the C call in their order: the job, or the number of the refusal.
+/// The tests of the C call up to 9 in their order: the job, or the number of the refusal.
 pub fn read(file: &[u8], method: u32, plan_len: usize) -> Result<Job, u32> {
     if method != 1 && method != 2 && method != 3 && method != 4 {
         return Err(1);

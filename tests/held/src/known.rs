@@ -1,7 +1,7 @@
-//! The jobs A to E, the edge lines of the scope, section 11, the rows F to L of section 16 and the jobs M, N, O and Q of section 17, with the values
-//! written there, and more jobs, of both editions, worked by hand.
+//! The jobs A to E, the edge lines of the scope, section 11, the rows F to L of section 16, the jobs M, N, O and Q of section 17 and R to Y of section 18, with the values
+//! written there, and more jobs, of both editions, with holds and without, worked by hand.
 
-use crate::answers::{bytes_of, After, Solved};
+use crate::answers::{bytes_of, bytes_of_holds, After, Solved};
 use crate::check::Check;
 use crate::damage::is_tiny;
 use crate::job::{self, head, machine, tile, Job, Record};
@@ -84,6 +84,51 @@ const SECOND: [(u32, Known); 13] = [
     (4, Known { name: "the first candidate, with start-up work", weights: &[2, 2, 2], speeds: &[1, 1, 1], separators: &[0, 1, 2, 3], bottleneck: (6, 1), counts: [4, 2, 1, 4], allowances: [6, 7, 4, 4], imbalance: 2000 }),
     (2, Known { name: "three machines with start-up work", weights: &[2, 2, 5], speeds: &[1, 1, 2], separators: &[0, 1, 2, 3], bottleneck: (4, 1), counts: [5, 2, 1, 4], allowances: [6, 7, 6, 4], imbalance: 778 }),
     (1, Known { name: "E with start-up work", weights: &[6], speeds: &[1, 1], separators: &[0, 1, 1], bottleneck: (7, 1), counts: [1, 2, 1, 1], allowances: [1, 2, 4, 1], imbalance: 1334 }),
+];
+
+/// A job with holds and all that is known of it; of methods 1 to 3 count and allowance.
+struct Held {
+    name: &'static str,
+    startup: Option<u32>,
+    weights: &'static [u32],
+    speeds: &'static [u32],
+    holds: &'static [u16],
+    separators: &'static [usize],
+    bottleneck: Bound,
+    counts: [u64; 3],
+    allowances: [u64; 3],
+    imbalance: u64,
+}
+
+/// The jobs of the scope, section 18.
+#[rustfmt::skip]
+const LIMITED: [Held; 8] = [
+    Held { name: "R", startup: None, weights: &[1, 1, 1, 1, 1], speeds: &[1, 1, 5], holds: &[1, 2, 2], separators: &[0, 1, 3, 5], bottleneck: (2, 1), counts: [6, 3, 3], allowances: [10, 11, 8], imbalance: 1800 },
+    Held { name: "S", startup: None, weights: &[1, 3, 8], speeds: &[1, 3], holds: &[0, 1], separators: &[0, 2, 3], bottleneck: (4, 1), counts: [2, 2, 2], allowances: [3, 4, 8], imbalance: 334 },
+    Held { name: "T", startup: None, weights: &[2, 1, 3, 1, 2, 4], speeds: &[1, 2, 1], holds: &[1, 0, 1], separators: &[0, 1, 5, 6], bottleneck: (4, 1), counts: [8, 3, 4], allowances: [12, 13, 7], imbalance: 231 },
+    Held { name: "U", startup: None, weights: &[2, 9, 4], speeds: &[3, 1], holds: &[1, 2], separators: &[0, 1, 3], bottleneck: (13, 1), counts: [2, 2, 2], allowances: [3, 4, 9], imbalance: 2467 },
+    Held { name: "V", startup: Some(3), weights: &[1, 4, 4], speeds: &[1, 4], holds: &[0, 2], separators: &[0, 1, 3], bottleneck: (4, 1), counts: [1, 2, 3], allowances: [3, 4, 9], imbalance: 1223 },
+    Held { name: "W", startup: None, weights: &[0, 0, 0, 0], speeds: &[1, 1, 1], holds: &[1, 2, 0], separators: &[0, 1, 3, 4], bottleneck: (0, 1), counts: [2, 1, 1], allowances: [8, 9, 1], imbalance: 0 },
+    Held { name: "X", startup: None, weights: &[1, 3, 8], speeds: &[1, 3], holds: &[3, 3], separators: &[0, 1, 3], bottleneck: (11, 3), counts: [2, 2, 3], allowances: [3, 4, 8], imbalance: 223 },
+    Held { name: "Y", startup: None, weights: &[], speeds: &[7, 2], holds: &[1, 1], separators: &[0, 0, 0], bottleneck: (0, 7), counts: [0, 1, 1], allowances: [0, 1, 1], imbalance: 0 },
+];
+
+/// Worked by hand: A with a hold on machine 1, which does not make it worse, with holds that leave one division, and with some that limit
+/// nothing, so that bisection alone begins elsewhere; B with as many places as tiles; nothing that weighs; one machine; the second edition, on
+/// one machine, on two, and without tiles; one machine without a limit between two that hold a tile; and a fast machine that holds one.
+#[rustfmt::skip]
+const HELD: [Held; 11] = [
+    Held { name: "A, machine 1 holds a tile", startup: None, weights: &[1, 3, 8], speeds: &[1, 3], holds: &[1, 0], separators: &[0, 1, 3], bottleneck: (11, 3), counts: [2, 2, 2], allowances: [3, 4, 8], imbalance: 223 },
+    Held { name: "A, as many places as tiles", startup: None, weights: &[1, 3, 8], speeds: &[1, 3], holds: &[2, 1], separators: &[0, 2, 3], bottleneck: (4, 1), counts: [2, 2, 2], allowances: [3, 4, 8], imbalance: 334 },
+    Held { name: "A, holds that limit nothing", startup: None, weights: &[1, 3, 8], speeds: &[1, 3], holds: &[4, 65_535], separators: &[0, 1, 3], bottleneck: (11, 3), counts: [2, 2, 3], allowances: [3, 4, 8], imbalance: 223 },
+    Held { name: "B, as many places as tiles", startup: None, weights: &[4, 3, 2, 6, 1], speeds: &[1, 2], holds: &[3, 2], separators: &[0, 3, 5], bottleneck: (9, 1), counts: [3, 3, 3], allowances: [5, 6, 8], imbalance: 688 },
+    Held { name: "nothing weighs, one tile a machine", startup: None, weights: &[0, 0], speeds: &[1, 1], holds: &[1, 1], separators: &[0, 1, 2], bottleneck: (0, 1), counts: [1, 1, 1], allowances: [2, 3, 1], imbalance: 0 },
+    Held { name: "one machine that holds all tiles", startup: None, weights: &[4, 0, 3], speeds: &[5], holds: &[3], separators: &[0, 3], bottleneck: (7, 5), counts: [0, 1, 1], allowances: [0, 1, 7], imbalance: 0 },
+    Held { name: "one machine with start-up work that holds the most", startup: Some(2), weights: &[4, 0, 3], speeds: &[5], holds: &[65_535], separators: &[0, 3], bottleneck: (9, 5), counts: [0, 2, 1], allowances: [0, 2, 7], imbalance: 286 },
+    Held { name: "a machine that would be left out but for the holds", startup: Some(2), weights: &[6, 1], speeds: &[4, 1], holds: &[1, 0], separators: &[0, 1, 2], bottleneck: (3, 1), counts: [2, 3, 3], allowances: [2, 3, 9], imbalance: 1143 },
+    Held { name: "no limit between two machines that hold a tile", startup: None, weights: &[2, 2, 2, 2, 2, 2], speeds: &[1, 1, 1], holds: &[1, 0, 1], separators: &[0, 1, 5, 6], bottleneck: (8, 1), counts: [7, 3, 3], allowances: [12, 13, 5], imbalance: 1000 },
+    Held { name: "holds and no tiles in the second edition", startup: Some(9), weights: &[], speeds: &[5], holds: &[1], separators: &[0, 0], bottleneck: (0, 5), counts: [0, 1, 1], allowances: [0, 2, 7], imbalance: 0 },
+    Held { name: "a fast machine that holds a tile", startup: None, weights: &[3, 3, 3], speeds: &[1, 9], holds: &[0, 1], separators: &[0, 2, 3], bottleneck: (6, 1), counts: [2, 3, 3], allowances: [3, 4, 11], imbalance: 5667 },
 ];
 
 /// As many and as heavy tiles as there can be, but the first one unit lighter.
@@ -173,13 +218,14 @@ fn halved_as(c: &mut Check, job: &Job, separators: &[u32], (load, speed): (u64, 
 /// A call on lists must leave these separators and say these numbers, or be refused.
 fn on_lists(c: &mut Check, job: &Job, call: Call, lent: &[u8], wanted: Result<(&[u32], &[u64]), u32>) {
     let (e, w, answer) = (bytes_of(&job.speeds), bytes_of(&job.weights), c.rng.pattern(8 * 4));
+    let (h, stays) = (c.holds(job), After::default);
     assert_eq!(call.edition().and_then(Edition::counts), job.startup);
     let wanted = wanted.map(|(separators, numbers)| {
         let said = numbers.iter().flat_map(|n| n.to_le_bytes()).collect();
         let list = |front: Vec<u8>| After { front, free: 0 };
-        vec![After::default(), After::default(), list(bytes_of(separators)), list(said)]
+        vec![stays(), stays(), stays(), list(bytes_of(separators)), list(said)]
     });
-    c.ask(call, &[&e, &w, lent, &answer], &wanted);
+    c.ask(call, &[&e, &h, &w, lent, &answer], &wanted);
 }
 
 /// The rows as the scope writes them, and what it says of I and J beside them; then 16.10, and the longest row at the limits.
@@ -201,7 +247,10 @@ fn rows(c: &mut Check) {
     for (speeds, room) in [(&[1, 2][..], 0), (&[1, 2], 3), (&[5, 5, 5], 0), (&[5, 5, 5], 4)] {
         let (e, lent) = (bytes_of(speeds), c.rng.pattern(4 * room));
         for edition in [Edition::FIRST, Edition { second: true, startup: 1 }] {
-            c.refuse(Call::Halving(edition), &[&e, &[], &lent, &[]], 14);
+            for holds in [0, speeds.len()] {
+                let h = c.rng.pattern(2 * holds);
+                c.refuse(Call::Halving(edition), &[&e, &h, &[], &lent, &[]], 14);
+            }
         }
     }
     // As many and as heavy tiles as there can be; then as many as leave one more than goes evenly, which the last machine takes.
@@ -309,6 +358,61 @@ fn lines_of_section_17(c: &mut Check) {
     on_lists(c, &none, Call::Measure(Edition { second: true, startup: 9 }), &bytes_of(&[0, 0, 0]), Ok((&[0, 0, 0], &[0, 7])));
     every::job(c, &Solved::of(&none), true);
     in_scope(c, "on speeds 7 2 with c = 9 the bottleneck is 0/7.");
+}
+
+/// The rows of section 18 and the sentences beside them: measuring and grading of S, what is refused, and the listing of S.
+fn lines_of_section_18(c: &mut Check) {
+    for k in &LIMITED {
+        let words = |list: &[u16]| text(&list.iter().map(|&h| h as u32).collect::<Vec<_>>());
+        let separators = text(&k.separators.iter().map(|&s| s as u32).collect::<Vec<_>>());
+        let list = |three: [u64; 3]| three.map(|n| n.to_string()).join(", ");
+        let startup = k.startup.map_or("none".to_string(), |c| c.to_string());
+        let front = format!("| {} | {} | {} | {} | {} |", k.name, text(k.weights), text(k.speeds), words(k.holds), startup);
+        let (load, speed) = k.bottleneck;
+        let (counts, allowances) = (list(k.counts), list(k.allowances));
+        in_scope(c, &format!("{} {} | {}/{} | {} | {} | {} |", front, separators, load, speed, k.imbalance, counts, allowances));
+    }
+    let (n, lent) = (Edition::FIRST, bytes_of(&[9, 8, 7, 6]));
+    let job = |k: &Held, holds: &[u16]| Job::held(k.startup, k.speeds, holds, k.weights);
+    let [r, s, _, u, _, _, x, _] = &LIMITED;
+    let of_s = job(s, s.holds);
+    on_lists(c, &of_s, Call::Measure(n), &bytes_of(&[0, 1, 3]), Err(11));
+    on_lists(c, &of_s, Call::Measure(n), &bytes_of(&[0, 2, 3]), Ok((&[0, 2, 3], &[4, 1])));
+    if of_s.unlimited() != Job::new(JOBS[0].speeds, JOBS[0].weights) || JOBS[0].separators != [0, 1, 3] {
+        c.fail("S is not A with holds", String::new());
+    }
+    in_scope(c, "Measuring 0 1 3 of S is refused with 11, and it is the plan of A, which is S without holds; measuring 0 2 3 gives 4/1.");
+    for (division, grade) in [([0, 2, 3], 1u64), ([0, 3, 3], 2)] {
+        let plan = crate::grading::file(&of_s, &division);
+        let (e, h, w, answer) = (bytes_of(s.speeds), c.holds(&of_s), bytes_of(s.weights), c.rng.pattern(8));
+        let said = After { front: grade.to_le_bytes().to_vec(), free: 0 };
+        let stays = After::default;
+        c.ask(Call::Grade(n), &[&e, &h, &w, &plan, &answer], &Ok(vec![stays(), stays(), stays(), stays(), said]));
+    }
+    in_scope(c, "Of S the division 0 2 3 is best and 0 3 3 is valid.");
+    let mut plans = |k: &Held, holds: &[u16], numbers: [u32; 4], quick: u32| {
+        let job = job(k, holds);
+        let (e, w, h) = (bytes_of(k.speeds), bytes_of(k.weights), c.holds(&job));
+        let (work, plan) = (c.rng.pattern(4 * 30), c.rng.pattern(48));
+        for (method, number) in (1..).zip(numbers) {
+            c.refuse(Call::Plan(n, method), &[&e, &h, &w, &lent, &work, &[]], number);
+            c.refuse(Call::Host { method }, &[&job.file(), &plan], number);
+        }
+        c.refuse(Call::Quick(n), &[&e, &h, &w, &lent, &[]], quick);
+    };
+    plans(u, &[1, 1], [17; 4], 18);
+    plans(u, &[1, 0], [0, 0, 0, 18], 18);
+    plans(r, r.holds, [0, 0, 0, 18], 18);
+    in_scope(c, "With holds 1 1 in place of 1 2 job U is refused with 17, by method 4 too; with holds 1 0 it is planned.");
+    in_scope(c, "Method 4 and the quick plan of R are refused with 18; so is the quick plan of U with holds 1 1.");
+    for (speeds, number) in [(x.speeds, 14), (&[1, 1][..], 18)] {
+        let (e, h, w) = (bytes_of(speeds), bytes_of_holds(x.holds), bytes_of(x.weights));
+        c.refuse(Call::Halving(n), &[&e, &h, &w, &lent, &[]], number);
+    }
+    in_scope(c, "The halved row of X is refused with 14; on speeds 1 1 it is refused with 18.");
+    let listing = crate::listing::wanted(&of_s.file());
+    let lines: Vec<String> = listing.lines().map(|line| format!("       {}\n", line)).collect();
+    in_scope(c, &format!("`strips` writes for S:\n\n{}", lines.concat()));
 }
 
 /// A trial with its answer: 1 and the number of machines that its walk came to, or 0 and the next bid.
@@ -463,9 +567,154 @@ const SECOND_TRIALS: [(u32, Tried); 27] = [
     (1_000_000, Tried { name: "the most tiles of weight 0, less than the start-up work", weights: &[0; TILES], speeds: &[1; MACHINES], bound: (999_999, 1), said: &[0, 1_000_000, 1], separators: &[0; ENTRIES] }),
 ];
 
+/// The trials of the scope with holds, with the words that they begin with.
+#[rustfmt::skip]
+const LIMITED_TRIALS: [(&Held, Tried); 8] = [
+    (&LIMITED[0], Tried { name: "A trial of R", weights: LIMITED[0].weights, speeds: LIMITED[0].speeds, bound: (1, 1), said: &[0, 2, 1], separators: &[0, 1, 2, 4] }),
+    (&LIMITED[0], Tried { name: "A trial of R", weights: LIMITED[0].weights, speeds: LIMITED[0].speeds, bound: (100, 1), said: &[1, 3], separators: &[0, 1, 3, 5] }),
+    (&LIMITED[1], Tried { name: "A trial of S", weights: LIMITED[1].weights, speeds: LIMITED[1].speeds, bound: (11, 3), said: &[0, 4, 1], separators: &[0, 1, 2] }),
+    (&LIMITED[1], Tried { name: "A trial of S", weights: LIMITED[1].weights, speeds: LIMITED[1].speeds, bound: (12, 1), said: &[1, 1], separators: &[0, 3, 3] }),
+    (&LIMITED[2], Tried { name: "A trial of T", weights: LIMITED[2].weights, speeds: LIMITED[2].speeds, bound: (13, 4), said: &[0, 7, 2], separators: &[0, 1, 4, 5] }),
+    (&LIMITED[3], Tried { name: "A trial of U", weights: LIMITED[3].weights, speeds: LIMITED[3].speeds, bound: (11, 1), said: &[0, 13, 1], separators: &[0, 1, 2] }),
+    (&LIMITED[4], Tried { name: "A trial of V", weights: LIMITED[4].weights, speeds: LIMITED[4].speeds, bound: (3, 1), said: &[0, 4, 1], separators: &[0, 0, 2] }),
+    (&LIMITED[5], Tried { name: "A trial of W", weights: LIMITED[5].weights, speeds: LIMITED[5].speeds, bound: (0, 1), said: &[1, 3], separators: &[0, 1, 3, 4] }),
+];
+
+/// With holds, worked by hand, each with its start-up work and its holds: jobs at the bounds that bidding and bisection try; a
+/// machine at its hold, whose bid would have been the least; a last machine that reaches as far as it holds, and that holds just the rest;
+/// weights 0; no tiles; start-up work; the longest row.
+#[rustfmt::skip]
+const HELD_TRIALS: [(Option<u32>, &[u16], Tried); 25] = [
+    (None, &[1, 2, 2], Tried { name: "three machines at the ideal", weights: &[1; 5], speeds: &[1, 1, 5], bound: (5, 7), said: &[0, 1, 1], separators: &[0, 0, 0, 2] }),
+    (None, &[1, 2, 2], Tried { name: "three machines, the first at its hold", weights: &[1; 5], speeds: &[1, 1, 5], bound: (1, 1), said: &[0, 2, 1], separators: &[0, 1, 2, 4] }),
+    (None, &[1, 2, 2], Tried { name: "three machines, all at their holds", weights: &[1; 5], speeds: &[1, 1, 5], bound: (2, 1), said: &[1, 3], separators: &[0, 1, 3, 5] }),
+    (None, &[1, 2, 2], Tried { name: "three machines at the greatest bound", weights: &[1; 5], speeds: &[1, 1, 5], bound: (BOUND_LOAD, 1), said: &[1, 3], separators: &[0, 1, 3, 5] }),
+    (None, &[0, 1], Tried { name: "A, machine 2 holds a tile, at the ideal", weights: JOBS[0].weights, speeds: JOBS[0].speeds, bound: (3, 1), said: &[0, 4, 1], separators: &[0, 1, 2] }),
+    (None, &[0, 1], Tried { name: "A, machine 2 holds a tile, at 11/3", weights: JOBS[0].weights, speeds: JOBS[0].speeds, bound: (11, 3), said: &[0, 4, 1], separators: &[0, 1, 2] }),
+    (None, &[0, 1], Tried { name: "A, machine 2 holds a tile, at its bottleneck", weights: JOBS[0].weights, speeds: JOBS[0].speeds, bound: (4, 1), said: &[1, 2], separators: &[0, 2, 3] }),
+    (None, &[0, 1], Tried { name: "A, machine 2 holds a tile and is not needed", weights: JOBS[0].weights, speeds: JOBS[0].speeds, bound: (12, 1), said: &[1, 1], separators: &[0, 3, 3] }),
+    (None, &[2, 1], Tried { name: "A, as many places as tiles, at 100/1", weights: JOBS[0].weights, speeds: JOBS[0].speeds, bound: (100, 1), said: &[1, 2], separators: &[0, 2, 3] }),
+    (None, &[3, 2], Tried { name: "B, as many places as tiles, at the ideal", weights: JOBS[1].weights, speeds: JOBS[1].speeds, bound: (16, 3), said: &[0, 7, 1], separators: &[0, 1, 3] }),
+    (None, &[3, 2], Tried { name: "B, as many places as tiles, at 7/1", weights: JOBS[1].weights, speeds: JOBS[1].speeds, bound: (7, 1), said: &[0, 9, 1], separators: &[0, 2, 4] }),
+    (None, &[1, 0, 0], Tried { name: "a machine at its hold has the least bid", weights: &[1, 1, 9], speeds: &[1, 1, 1], bound: (1, 1), said: &[0, 9, 1], separators: &[0, 1, 2, 2] }),
+    (None, &[2, 0, 0], Tried { name: "the same, not at its hold", weights: &[1, 1, 9], speeds: &[1, 1, 1], bound: (1, 1), said: &[0, 2, 1], separators: &[0, 1, 2, 2] }),
+    (None, &[0, 2], Tried { name: "the last reaches as far as it holds", weights: &[1; 4], speeds: &[1, 9], bound: (1, 3), said: &[0, 1, 1], separators: &[0, 0, 2] }),
+    (None, &[0, 3], Tried { name: "the last could hold what it carries, not the rest", weights: &[1; 4], speeds: &[1, 9], bound: (1, 3), said: &[0, 1, 1], separators: &[0, 0, 3] }),
+    (None, &[0, 4], Tried { name: "the last holds the rest and bids", weights: &[1; 4], speeds: &[1, 9], bound: (1, 3), said: &[0, 4, 9], separators: &[0, 0, 3] }),
+    (None, &[0, 3], Tried { name: "the last holds just the rest", weights: &[1; 4], speeds: &[1, 9], bound: (1, 1), said: &[1, 2], separators: &[0, 1, 4] }),
+    (None, &[1, 1, 1], Tried { name: "tiles of weight 0, one a machine", weights: &[0; 3], speeds: &[1, 1, 1], bound: (0, 1), said: &[1, 3], separators: &[0, 1, 2, 3] }),
+    (None, &[1, 1], Tried { name: "holds and no tiles", weights: &[], speeds: &[7, 2], bound: (0, 1), said: &[1, 0], separators: &[0, 0, 0] }),
+    (Some(3), &[1, 1], Tried { name: "start-up work, the first at its hold", weights: &[0, 4], speeds: &[1, 1], bound: (3, 1), said: &[0, 7, 1], separators: &[0, 1, 1] }),
+    (Some(2), &[1, 0], Tried { name: "start-up work, no room for it and a hold", weights: &[6, 1], speeds: &[4, 1], bound: (7, 5), said: &[0, 8, 4], separators: &[0, 0, 0] }),
+    (None, &[22; MACHINES], Tried { name: "the longest row, 22 tiles a machine by holds", weights: &[WEIGHT; TILES], speeds: &[1; MACHINES], bound: (BOUND_LOAD, 1), said: &[1, 94], separators: &steps(22, TILES) }),
+    (None, &[22; MACHINES], Tried { name: "the longest row, 22 tiles a machine by holds and bound", weights: &[WEIGHT; TILES], speeds: &[1; MACHINES], bound: (22_000_000, 1), said: &[1, 94], separators: &steps(22, TILES) }),
+    (None, &[65_535; MACHINES], Tried { name: "the longest row, the most that 16 bits have", weights: &[WEIGHT; TILES], speeds: &[1; MACHINES], bound: (BOUND_LOAD, 1), said: &[1, 1], separators: &list::<ENTRIES>(&[0], 2048, &[]) }),
+    (None, &list_of_holds(1, 0), Tried { name: "the longest row, all but the last hold a tile", weights: &[5; 100], speeds: &[1; MACHINES], bound: (24, 1), said: &[0, 25, 1], separators: &held_steps(99) }),
+];
+
+/// The same hold for all machines of the longest row but the last.
+const fn list_of_holds(hold: u16, last: u16) -> [u16; MACHINES] {
+    let mut list = [hold; MACHINES];
+    list[MACHINES - 1] = last;
+    list
+}
+
+/// The separators of the longest row where each machine takes a tile, and the last one what is left up to an index.
+const fn held_steps(end: usize) -> [u32; ENTRIES] {
+    let mut list = steps(1, MACHINES);
+    list[ENTRIES - 1] = end as u32;
+    list
+}
+
+/// The solver must give what is known of a job with holds, then the planner, with lists of all lengths together; then with one place too few
+/// where all machines are limited.
+fn held(c: &mut Check, k: &Held) {
+    let job = Job::held(k.startup, k.speeds, k.holds, k.weights);
+    let solved = Solved::of(&job);
+    let mut good = solved.best == k.separators && solved.bottleneck == k.bottleneck && solved.counts[..3] == k.counts;
+    good &= solved.imbalance == k.imbalance;
+    good &= fast::solve(&job) == (k.separators.to_vec(), k.bottleneck) && methods::moves_by_walks(&job) == k.counts[0];
+    good &= (1..=3).all(|m| methods::allowance(&job, m) == k.allowances[m as usize - 1]);
+    if !good {
+        c.fail(&format!("the solver gives {:?} for job {}", solved, k.name), String::new());
+    }
+    for _ in 0..10 {
+        every::job(c, &solved, true);
+    }
+    let places: usize = k.holds.iter().map(|&h| h as usize).sum();
+    for (p, &hold) in k.holds.iter().enumerate() {
+        let Some(less) = (places + 1).checked_sub(k.weights.len()).filter(|&less| less < hold as usize) else { continue };
+        let mut holds = k.holds.to_vec();
+        holds[p] -= less as u16;
+        let other = job.holding(holds);
+        if !other.has_room() {
+            every::short(c, &other);
+        }
+    }
+}
+
+/// The table of R, entry by entry; from 0 on the crossing at i = 5 in row 2 would come earlier.
+fn table_of_r(c: &mut Check) {
+    let k = &LIMITED[0];
+    let t = methods::table(&Job::held(k.startup, k.speeds, k.holds, k.weights));
+    const NONE: Bound = (1, 0);
+    let mut good = t.rows[0] == [(0, 1), (1, 1), NONE, NONE, NONE, NONE];
+    good &= t.rows[1] == [(0, 1), (1, 1), (1, 1), (2, 1), NONE, NONE] && t.crossings[0] == [0, 1, 1, 2, 2, 3];
+    good &= t.crossings[1] == [0, 1, 1, 1, 2, 3] && t.rows[2][5] == (2, 1);
+    good &= (0..=5).find(|&j| !slow::less(t.rows[0][j], (5 - j as u128, 1))) == Some(2);
+    in_scope(c, "In row 2 of R the crossing at i = 5 is 3, where j begins; from 0 on the smallest such j would be 2.");
+    if !good {
+        c.fail(&format!("the solver's table of {} is {:?}, {:?}", k.name, t.rows, t.crossings), String::new());
+    }
+}
+
+/// What is refused for holds, on A: one place too few is 17, by the fourth method too; one just right is not, but for the fourth method. The
+/// quick plans give 18 either way. And a division that breaks a hold is none.
+fn refused_for_holds(c: &mut Check) {
+    let a = &JOBS[0];
+    let n = Edition::FIRST;
+    let lent = bytes_of(&[9, 8, 7]);
+    for (holds, number) in [(&[1u16, 1][..], 17), (&[2, 1], 0), (&[1, 2], 0), (&[0, 1], 0), (&[65_535, 65_535], 0)] {
+        let job = Job::held(None, a.speeds, holds, a.weights);
+        let (e, w, h) = (bytes_of(&job.speeds), bytes_of(&job.weights), c.holds(&job));
+        let (work, plan) = (c.rng.pattern(4 * 20), c.rng.pattern(32));
+        for method in 1..=4 {
+            let number = if number == 0 && method == 4 { 18 } else { number };
+            c.refuse(Call::Plan(n, method), &[&e, &h, &w, &lent, &work, &[]], number);
+            c.refuse(Call::Host { method }, &[&job.file(), &plan], number);
+        }
+        c.refuse(Call::Trial(n, 100, 1), &[&e, &h, &w, &lent, &[]], number);
+        c.refuse(Call::Trial(n, 0, 0), &[&e, &h, &w, &lent, &[]], if number == 0 { 10 } else { number });
+        c.refuse(Call::Quick(n), &[&e, &h, &w, &lent, &[]], 18);
+        c.refuse(Call::Halving(n), &[&e, &h, &w, &lent, &[]], 14);
+        let equal = bytes_of(&[3, 3]);
+        c.refuse(Call::Halving(n), &[&equal, &h, &w, &lent, &[]], 18);
+        c.refuse(Call::Halving(n), &[&equal, &h, &w, &lent[..8], &[]], 9);
+    }
+    // Of the division 0 1 3 the shares have one tile and two, of 0 3 3 three and none.
+    for (separators, holds, said) in [
+        ([0, 1, 3], [1, 2], Ok([11u64, 3])),
+        ([0, 1, 3], [0, 2], Ok([11, 3])),
+        ([0, 1, 3], [1, 0], Ok([11, 3])),
+        ([0, 1, 3], [1, 1], Err(11)),
+        ([0, 1, 3], [0, 1], Err(11)),
+        ([0, 3, 3], [3, 1], Ok([12, 1])),
+        ([0, 3, 3], [2, 1], Err(11)),
+        ([0, 3, 3], [2, 0], Err(11)),
+        ([0, 3, 3], [0, 1], Ok([12, 1])),
+    ] {
+        let job = Job::held(None, a.speeds, &holds, a.weights);
+        let wanted = said.as_ref().map(|said| (&separators[..], &said[..])).map_err(|&number| number);
+        on_lists(c, &job, Call::Measure(n), &bytes_of(&separators), wanted);
+    }
+}
+
 /// The solver must give what is known of a trial, then the planner, whatever the list held.
 fn tried(c: &mut Check, startup: Option<u32>, k: &Tried) {
-    let job = Job::of(startup, k.speeds, k.weights);
+    tried_with(c, Job::of(startup, k.speeds, k.weights), k);
+}
+
+fn tried_with(c: &mut Check, job: Job, k: &Tried) {
     let bound = (k.bound.0 as u128, k.bound.1 as u128);
     let separators: Vec<usize> = k.separators.iter().map(|&s| s as usize).collect();
     let found = methods::trial(&job, bound);
@@ -496,7 +745,14 @@ fn all_tried(c: &mut Check) {
     for (startup, k) in &SECOND_TRIALS {
         tried(c, Some(*startup), k);
     }
-    for k in TRIALS.iter().filter(|k| k.name != "A").chain([&SECOND_TRIALS[0].1, &SECOND_TRIALS[1].1]) {
+    for (startup, holds, k) in &HELD_TRIALS {
+        tried_with(c, Job::held(*startup, k.speeds, holds, k.weights), k);
+    }
+    for (k, trial) in &LIMITED_TRIALS {
+        tried_with(c, Job::held(k.startup, k.speeds, k.holds, k.weights), trial);
+    }
+    let held = LIMITED_TRIALS.iter().map(|k| &k.1);
+    for k in TRIALS.iter().filter(|k| k.name != "A").chain([&SECOND_TRIALS[0].1, &SECOND_TRIALS[1].1]).chain(held) {
         let ends = match *k.said {
             [0, load, speed] => format!("fails with next bid {}/{}", load, speed),
             [_, 1] => "fits, comes to 1 machine".to_string(),
@@ -527,8 +783,14 @@ pub fn run(c: &mut Check) {
     for (startup, k) in STARTED.iter().chain(&SECOND) {
         marked(c, Some(*startup), k);
     }
+    for k in LIMITED.iter().chain(&HELD) {
+        held(c, k);
+    }
+    table_of_r(c);
+    refused_for_holds(c);
     lines_of_a(c);
     lines_of_section_17(c);
+    lines_of_section_18(c);
     all_tried(c);
     rows(c);
     files_of_a_and_d(c);
@@ -564,7 +826,7 @@ fn sentences(c: &mut Check) {
     }
 }
 
-/// A and D byte by byte, and A in the second edition.
+/// A and D byte by byte, A in the second edition, and A with holds.
 fn files_of_a_and_d(c: &mut Check) {
     let a: [u8; 32] = [
         0, 0, 0, 0, 1, 0, 0, 0, 1, 0, 0, 0, 1, 0, 0, 0, //
@@ -588,24 +850,36 @@ fn files_of_a_and_d(c: &mut Check) {
         0, 0, 0, 0, 3, 0, 0, 0, 17, 0, 0, 0, 3, 0, 0, 0,
     ];
     let second_file = [&[3, 0, 0, 0, 5, 0, 0, 0], &a_file[..]].concat();
+    // A whose machines hold 258 and 1: bytes 2 and 3 of their records, the lower one first; machine 1 has two tiles then.
+    let mut held_file = a_file;
+    (held_file[2], held_file[3], held_file[10]) = (2, 1, 1);
+    let held: [u8; 32] = [
+        0, 0, 0, 0, 2, 0, 0, 0, 4, 0, 0, 0, 1, 0, 0, 0, //
+        2, 0, 0, 0, 3, 0, 0, 0, 8, 0, 0, 0, 3, 0, 0, 0,
+    ];
+    for method in 1..=3 {
+        c.call(&held_file, method, 32, Ok(&job::decode(&held)));
+    }
+    c.call(&held_file, 4, 32, Err(18));
     for method in 1..=4 {
         c.call(&a_file, method, 32, Ok(&job::decode(&a)));
         c.call(&d_file, method, 32, Ok(&job::decode(&d)));
         c.call(&second_file, method, 32, Ok(&job::decode(&second)));
     }
-    // What reading gives of both: edition, start-up work, P, N, and the lists; and the bytes that writing gives back.
-    for (file, numbers) in [(&a_file[..], [1u64, 0, 2, 3]), (&second_file, [2, 5, 2, 3])] {
+    // What reading gives of these: edition, start-up work, P, N, and the lists; and the bytes that writing gives back.
+    for (file, numbers, holds) in [(&a_file[..], [1u64, 0, 2, 3], [0, 0]), (&second_file, [2, 5, 2, 3], [0, 0]), (&held_file, [1, 0, 2, 3], [258, 1])] {
         let list = |front: Vec<u8>| After { front, free: 0 };
         let (said, e, w) = (numbers.iter().flat_map(|n| n.to_le_bytes()).collect(), bytes_of(&[1, 3]), bytes_of(&[1, 3, 8]));
-        let (lent_e, lent_w, answer) = (c.rng.pattern(12), c.rng.pattern(16), c.rng.pattern(8 * 5));
-        let wanted = vec![After::default(), list(e.clone()), list(w.clone()), list(said)];
-        c.ask(Call::Read, &[file, &lent_e, &lent_w, &answer], &Ok(wanted));
+        let (lent_e, lent_h, lent_w, answer) = (c.rng.pattern(12), c.rng.pattern(6), c.rng.pattern(16), c.rng.pattern(8 * 5));
+        let h = bytes_of_holds(&holds);
+        let wanted = vec![After::default(), list(e.clone()), list(h.clone()), list(w.clone()), list(said)];
+        c.ask(Call::Read, &[file, &lent_e, &lent_h, &lent_w, &answer], &Ok(wanted));
         let edition = Edition { second: numbers[0] == 2, startup: numbers[1] as u32 };
         let (room, answer) = (c.rng.pattern(file.len() + 3), c.rng.pattern(8));
         let bytes = list((file.len() as u64).to_le_bytes().to_vec());
-        let wanted = vec![After::default(), After::default(), list(file.to_vec()), bytes];
-        c.ask(Call::Write(edition), &[&e, &w, &room, &answer], &Ok(wanted));
-        c.refuse(Call::Write(edition), &[&e, &w, &room[..file.len() - 1], &answer], 9);
+        let wanted = vec![After::default(), After::default(), After::default(), list(file.to_vec()), bytes];
+        c.ask(Call::Write(edition), &[&e, &h, &w, &room, &answer], &Ok(wanted));
+        c.refuse(Call::Write(edition), &[&e, &h, &w, &room[..file.len() - 1], &answer], 9);
     }
 }
 
@@ -680,5 +954,6 @@ fn single(c: &mut Check, records: &[Record], number: u32) {
         }
     }
     let (e, w, answer) = (c.rng.pattern(4 * records.len()), c.rng.pattern(4 * records.len()), c.rng.pattern(8 * 4));
-    c.refuse(Call::Read, &[&file, &e, &w, &answer], number);
+    let h = c.rng.pattern(2 * records.len());
+    c.refuse(Call::Read, &[&file, &e, &h, &w, &answer], number);
 }

@@ -9,7 +9,11 @@ use crate::rng::Rng;
 use crate::{every, fast, guard, job, small};
 
 fn one(c: &mut Check, job: &Job) {
-    every::job(c, &Solved::of(job), false);
+    if job.has_room() {
+        every::job(c, &Solved::of(job), false);
+    } else {
+        every::short(c, job);
+    }
 }
 
 /// A middle size, of machines and of tiles.
@@ -35,7 +39,7 @@ pub fn any_size(c: &mut Check) {
 }
 
 fn sized(c: &mut Check, machines: usize, tiles: usize) {
-    let job = small::sized(&mut c.rng, machines, tiles);
+    let job = small::any_sized(&mut c.rng, machines, tiles);
     one(c, &job);
 }
 
@@ -78,7 +82,7 @@ pub fn row(c: &mut Check) {
     };
     let speeds = vec![c.rng.range(1, SPEED); machines];
     let weights = small::weights(&mut c.rng, tiles, &speeds);
-    let job = small::job_of(&mut c.rng, speeds, weights);
+    let job = small::row_of(&mut c.rng, speeds, weights);
     small::row(c, &job);
 }
 
@@ -95,21 +99,23 @@ fn row_shapes(c: &mut Check) -> Vec<Job> {
         }
         for w in shapes {
             let startup = c.rng.pick(&[None, None, Some(0), Some(1), Some(STARTUP)]);
-            list.push(Job { startup, speeds: vec![c.rng.pick(&[1, 7, SPEED]); machines], weights: w });
+            list.push(Job::of(startup, &vec![c.rng.pick(&[1, 7, SPEED]); machines], &w));
         }
         machines *= 2;
     }
     list
 }
 
-/// Rows and machines of a special shape, each with each, half of them with start-up work: the most, as little as can be, or some.
+/// Rows and machines of a special shape, each with each, half of them with start-up work: the most, as little as can be, or some; and a third
+/// with holds.
 fn shapes(c: &mut Check) -> Vec<Job> {
     let (speeds, weights) = (speed_shapes(&mut c.rng), weight_shapes(&mut c.rng));
     let mut list = Vec::new();
     for (s, w) in speeds.iter().flat_map(|s| weights.iter().map(move |w| (s, w))) {
         let some = c.rng.range(2, STARTUP);
         let startup = c.rng.pick(&[None, None, None, Some(0), Some(1), Some(some), Some(STARTUP), Some(STARTUP)]);
-        list.push(Job::of(startup, s, w));
+        let job = Job::of(startup, s, w);
+        list.push(if c.rng.once_in(3) { small::held(&mut c.rng, &job) } else { job });
     }
     list
 }
@@ -160,15 +166,16 @@ fn weight_shapes(r: &mut Rng) -> Vec<Vec<u32>> {
     ]
 }
 
-/// Several threads at once, each with a small stack, as the header allows: each plans and grades its plan.
+/// Several threads at once, each with a small stack, as the header allows: each plans and grades its plan, every second one with holds.
 fn threads(c: &mut Check) {
-    let list: Vec<(Vec<u8>, Vec<u8>)> = (0..4)
-        .map(|_| {
+    let list: Vec<(Vec<u8>, Vec<u8>, u32)> = (0..4)
+        .map(|k| {
             let speeds: Vec<u32> = (0..MACHINES).map(|_| c.rng.range(1, SPEED)).collect();
             let weights: Vec<u32> = (0..TILES).map(|_| c.rng.range(0, WEIGHT)).collect();
             let job = small::job_of(&mut c.rng, speeds, weights);
+            let job = if k % 2 == 0 { job.unlimited() } else { small::held(&mut c.rng, &job) };
             let (separators, _) = fast::solve(&job);
-            (job.file(), job::encode(&job::plan_of(&job, &separators)))
+            (job.file(), job::encode(&job::plan_of(&job, &separators)), if job.has_holds() { 3 } else { 4 })
         })
         .collect();
     c.jobs_seen += list.len() as u64;
@@ -176,12 +183,12 @@ fn threads(c: &mut Check) {
     let good = std::thread::scope(|scope| {
         let running: Vec<_> = list
             .iter()
-            .map(|(file, wanted)| {
+            .map(|(file, wanted, methods)| {
                 let work = move || {
                     (0..8u32).all(|k| {
                         let mut plan = vec![0xA5u8; LONGEST_PLAN];
                         let at = [(file.as_ptr() as *mut u8, file.len()), (plan.as_mut_ptr(), plan.len())];
-                        let code = unsafe { planner::call(Call::Host { method: 1 + k % 4 }, &at) };
+                        let code = unsafe { planner::call(Call::Host { method: 1 + k % methods }, &at) };
                         let mut grade = [0xA5u8; 2];
                         let at = [at[0], at[1], (grade.as_mut_ptr(), grade.len())];
                         code == 0 && &plan == wanted && unsafe { planner::call(Call::HostGrade, &at) } == 0 && grade == [1, 0xA5]

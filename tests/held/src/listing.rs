@@ -19,10 +19,14 @@ pub fn wanted(file: &[u8]) -> String {
         Ok(job) => job,
         Err(number) => return format!("refused {}\n", number),
     };
+    if !job.has_room() {
+        return "refused 17\n".to_string();
+    }
     let s = Solved::of(&job);
     let whole = job.weight(0, job.weights.len());
     let mut text = format!("tiles {} machines {} total {}\n", job.weights.len(), job.speeds.len(), whole);
-    for method in 1..=4 {
+    // With holds there is no line of method 4.
+    for method in 1..=if job.has_holds() { 3 } else { 4 } {
         let (count, most) = (s.counts[method as usize - 1], methods::allowance(&job, method));
         text += &format!("{} {} {} {} {} {}", method, count, most, s.bottleneck.0, s.bottleneck.1, s.imbalance);
         for x in &s.best {
@@ -83,9 +87,13 @@ fn called(c: &mut Check, file: &[u8]) {
     called_with(c, file, room);
 }
 
-fn called_with(c: &mut Check, file: &[u8], room: usize) {
+pub fn called_with(c: &mut Check, file: &[u8], room: usize) {
     let (text, entries) = (c.rng.pattern(room), c.rng.below(3));
     let answer = c.rng.pattern(8 * entries);
+    if let Some(job) = job::read(file, 1, usize::MAX).ok().filter(|_| room >= LISTING) {
+        c.held_files[0] += (job.has_holds() && job.has_room()) as u64;
+        c.held_files[1] += !job.has_room() as u64;
+    }
     c.judge(Call::List, &[file, &text, &answer], None);
 }
 
@@ -123,11 +131,14 @@ fn long_files(c: &mut Check, program: &str, startup: Option<u32>) {
 }
 
 /// A record with what it gives as the last one that is taken in: behind the longest job, and behind as many machines.
-const LAST: [(Record, u32, u32); 9] = [
+const LAST: [(Record, u32, u32); 12] = [
     ([3, 0, 0, 0, 0, 0, 0, 0], 15, 15),
     ([3, 0, 0, 0, 0xFF, 0xFF, 0xFF, 0xFF], 15, 15),
     ([0; 8], 3, 3),
-    ([1, 0, 0, 1, 1, 0, 0, 0], 3, 3),
+    ([1, 1, 0, 0, 1, 0, 0, 0], 3, 3),
+    ([2, 0, 1, 0, 1, 0, 0, 0], 3, 3),
+    ([2, 0, 0, 1, 1, 0, 0, 0], 3, 3),
+    ([1, 0, 1, 1, 1, 0, 0, 0], 4, 7),
     ([1, 0, 0, 0, 1, 0, 0, 0], 4, 7),
     ([1, 0, 0, 0, 0, 0, 0, 0], 4, 5),
     ([1, 0, 0, 0, 0xFF, 0xFF, 0, 0], 4, 5),
@@ -205,7 +216,7 @@ pub fn run(c: &mut Check, times: usize) {
     rows(c, &program);
     for _ in 0..1_500 * times {
         let (machines, tiles) = (1 + c.rng.below(5), c.rng.below(12));
-        let mut file = small::sized(&mut c.rng, machines, tiles).file();
+        let mut file = small::any_sized(&mut c.rng, machines, tiles).file();
         if c.rng.once_in(3) {
             damage::spoil(c, &mut file);
         }
@@ -213,7 +224,7 @@ pub fn run(c: &mut Check, times: usize) {
     }
     for _ in 0..60 * times {
         let (machines, tiles) = (1 + c.rng.below(MACHINES), c.rng.below(TILES + 1));
-        let file = small::sized(&mut c.rng, machines, tiles).file();
+        let file = small::any_sized(&mut c.rng, machines, tiles).file();
         one(c, &program, &file);
     }
 }

@@ -1,6 +1,6 @@
 //! Jobs by lists that must be refused: the smallest, and every set of faults together.
 
-use crate::answers::bytes_of;
+use crate::answers::{bytes_of, bytes_of_holds};
 use crate::check::Check;
 use crate::limits::{job_bytes, plan_bytes, work_numbers, BOUND_LOAD, BOUND_SPEED, LONGEST_HALVED, LONGEST_JOB};
 use crate::limits::{MACHINES, SPEED, STARTUP, TILES, TOO_MANY, WEIGHT};
@@ -13,6 +13,7 @@ struct Input {
     bound: (u64, u64),
     edition: Edition,
     speeds: Vec<u32>,
+    holds: Vec<u16>,
     weights: Vec<u32>,
     separators: Vec<u32>,
     /// Work numbers, plan bytes or file bytes, whichever the call takes.
@@ -21,13 +22,13 @@ struct Input {
 
 /// A call by name, so that the calls can be gone through, and its numbers in the order of its tests.
 const CALLS: [(&str, &[u32]); 8] = [
-    ("test", &[16, 5, 6, 7, 8]),
+    ("test", &[16, 5, 6, 7, 8, 9]),
     ("write", &[16, 5, 6, 7, 8, 9]),
     ("measure", &[16, 5, 6, 7, 8, 9, 11]),
-    ("trial", &[16, 5, 6, 7, 8, 9, 10]),
-    ("quick", &[16, 5, 6, 7, 8, 9]),
-    ("halving", &[16, 5, 6, 7, 8, 14, 9]),
-    ("plan", &[1, 16, 5, 6, 7, 8, 9]),
+    ("trial", &[16, 5, 6, 7, 8, 9, 17, 10]),
+    ("quick", &[16, 5, 6, 7, 8, 9, 18]),
+    ("halving", &[16, 5, 6, 7, 8, 14, 9, 18]),
+    ("plan", &[1, 16, 5, 6, 7, 8, 9, 17, 18]),
     ("plan file", &[16, 5, 6, 7, 8, 9, 11]),
 ];
 
@@ -56,17 +57,17 @@ fn room_needed(name: &str, second: bool, machines: usize, tiles: usize) -> usize
 
 /// Makes the call; `number` is what the rule says.
 fn refuse(c: &mut Check, name: &str, i: &Input, number: u32) {
-    let (e, w, s) = (bytes_of(&i.speeds), bytes_of(&i.weights), bytes_of(&i.separators));
+    let (e, h, w, s) = (bytes_of(&i.speeds), bytes_of_holds(&i.holds), bytes_of(&i.weights), bytes_of(&i.separators));
     let entries = c.rng.below(7);
     let answer = c.rng.pattern(8 * entries);
     let wide = if name == "plan" { 4 } else { 1 };
     let other = c.rng.pattern(wide * i.room);
     let call = call_of(name, i);
     let given: Vec<&[u8]> = match name {
-        "test" => vec![&e, &w],
-        "write" => vec![&e, &w, &other, &answer],
-        "plan" | "plan file" => vec![&e, &w, &s, &other, &answer],
-        _ => vec![&e, &w, &s, &answer],
+        "test" => vec![&e, &h, &w],
+        "write" => vec![&e, &h, &w, &other, &answer],
+        "plan" | "plan file" => vec![&e, &h, &w, &s, &other, &answer],
+        _ => vec![&e, &h, &w, &s, &answer],
     };
     c.refuse(call, &given, number);
 }
@@ -149,32 +150,82 @@ fn row_with(r: &mut Rng, faults: &[u32]) -> (Vec<u32>, Vec<u32>) {
     (speeds, made)
 }
 
-/// The lent lists: too short ones, and separators that are no division.
+/// Holds that this division keeps: none set, just so many as each share has where it has a tile, more, or only some set.
+pub fn kept_holds(r: &mut Rng, separators: &[u32]) -> Vec<u16> {
+    let style = r.below(4);
+    let shares = separators.windows(2).map(|s| (s[1] - s[0]).min(u16::MAX as u32) as u16);
+    let hold = |r: &mut Rng, share: u16| match style {
+        0 => 0,
+        1 => share.max(1),
+        2 => share.max(1) + r.range(0, 3).min((u16::MAX - share.max(1)) as u32) as u16,
+        _ => r.pick(&[0, share.max(1), u16::MAX]),
+    };
+    shares.map(|share| hold(r, share)).collect()
+}
+
+/// The holds of an input: by these faults of 17 and 18 too few for all tiles, or any where none may be; else such as pass. Those that could be
+/// made are added.
+fn hold_with(r: &mut Rng, name: &str, faults: &[u32], i: &mut Input, made: &mut Vec<u32>) {
+    let (machines, tiles) = (i.speeds.len(), i.weights.len());
+    let has = |n: u32| faults.contains(&n);
+    let none_may_be = |i: &Input| name == "quick" || name == "halving" || name == "plan" && i.method == 4;
+    i.holds = kept_holds(r, &i.separators);
+    if has(18) && name == "plan" {
+        i.method = 4;
+    }
+    if none_may_be(i) && !has(18) {
+        i.holds.fill(0);
+    }
+    if has(18) && machines > 0 {
+        let k = r.pick(&[0, machines / 2, machines - 1]);
+        i.holds[k] = i.holds[k].max(i.separators[k + 1].saturating_sub(i.separators[k]).max(1).min(u16::MAX as u32) as u16);
+        // A quick plan makes no test of the room.
+        if name != "plan" && r.once_in(2) {
+            i.holds.fill(1);
+        }
+        made.push(18);
+    }
+    if has(17) && machines > 0 && machines < tiles {
+        i.holds.fill(1);
+        let k = r.pick(&[0, machines / 2, machines - 1]);
+        i.holds[k] += r.pick(&[0, (tiles - machines - 1).min(60_000)]) as u16;
+        made.push(17);
+    }
+}
+
+/// The lent lists: too short ones, and separators that are no division, perhaps for a hold alone.
 fn lend_with(r: &mut Rng, name: &str, faults: &[u32], i: &mut Input, made: &mut Vec<u32>) {
     let (machines, tiles) = (i.speeds.len(), i.weights.len());
     let no_division = faults.contains(&11) && machines > 0;
     if no_division {
-        match r.below(4) {
-            0 => i.separators[0] = 1 + r.range(0, 3),
-            1 => i.separators[machines] = tiles as u32 + 1 + r.range(0, 3),
-            2 => i.separators[machines] = tiles as u32 - 1,
+        let wide = i.separators.windows(2).position(|s| s[1] - s[0] > 1);
+        match (r.below(6), wide) {
+            (0 | 1, Some(p)) => i.holds[p] = r.range(1, (i.separators[p + 1] - i.separators[p] - 1).min(u16::MAX as u32)) as u16,
+            (2, _) => i.separators[0] = 1 + r.range(0, 3),
+            (3, _) => i.separators[machines] = tiles as u32 + 1 + r.range(0, 3),
+            (4, _) => i.separators[machines] = tiles as u32 - 1,
             _ => i.separators[machines - 1] = tiles as u32 + 1,
         }
         made.push(11);
     }
     let needed = room_needed(name, i.edition.second, machines, tiles);
     i.room = needed + r.below(3);
+    let more = r.below(3);
+    i.holds.extend((0..more).map(|_| r.next() as u16));
     if faults.contains(&9) {
         let (lends_list, lends_room) = (name != "write" && name != "test", needed > 0);
-        let which = r.below(3);
-        if lends_list && (which != 1 || !lends_room) {
+        // Which of the lists, and now and then more than one.
+        let short = [lends_list && r.once_in(3), lends_room && r.once_in(3), machines > 0 && r.once_in(3)];
+        if short[0] {
             i.separators.truncate(r.pick(&[0, machines / 2, machines]));
-            made.push(9);
         }
-        if lends_room && (which != 0 || !lends_list) {
+        if short[1] {
             i.room = r.pick(&[0, needed / 2, needed - 1]);
-            made.push(9);
         }
+        if short[2] {
+            i.holds.truncate(r.pick(&[0, machines / 2, machines - 1]));
+        }
+        made.extend(short.contains(&true).then_some(9));
     } else {
         let more = r.below(3);
         i.separators.extend((0..more).map(|_| r.next() as u32));
@@ -191,7 +242,10 @@ fn input_with(r: &mut Rng, name: &str, numbers: &[u32], faults: &[u32]) -> (Inpu
         made.extend(more);
     }
     let separators = some_division(r, speeds.len(), weights.len());
-    let mut i = Input { method: r.range(1, 4), bound: (1_000_000, 1), edition, speeds, weights, separators, room: 0 };
+    let mut i = Input { method: r.range(1, 4), bound: (1_000_000, 1), edition, speeds, holds: Vec::new(), weights, separators, room: 0 };
+    if !i.speeds.is_empty() {
+        hold_with(r, name, faults, &mut i, &mut made);
+    }
     lend_with(r, name, faults, &mut i, &mut made);
     if faults.contains(&1) {
         i.method = r.pick(&BAD_METHOD);
@@ -222,9 +276,65 @@ fn together(c: &mut Check, rounds: usize) {
 /// Entries that are enough for any other list.
 const PLENTY: usize = LONGEST_JOB;
 
+/// With as many holds as speeds, none of them set.
 fn smallest_input(speeds: &[u32], weights: &[u32], separators: &[u32], room: usize) -> Input {
     let (speeds, weights, separators) = (speeds.to_vec(), weights.to_vec(), separators.to_vec());
-    Input { method: 1, bound: (0, 1), edition: Edition::FIRST, speeds, weights, separators, room }
+    Input { method: 1, bound: (0, 1), edition: Edition::FIRST, holds: vec![0; speeds.len()], speeds, weights, separators, room }
+}
+
+/// The smallest lists of holds: too short, longer than the machines, with what must not be looked at behind them; 17 and 18, and what comes
+/// before and after them.
+fn smallest_holds(c: &mut Check, name: &str) {
+    let with = |holds: &[u16], i: Input| Input { holds: holds.to_vec(), ..i };
+    let (division, plenty): (&[u32], usize) = (&[0, 1], PLENTY);
+    // One machine and one tile.
+    for (holds, number) in [(&[][..], 9), (&[0], 0), (&[0, 1], 0), (&[0, 0, u16::MAX], 0), (&[0; 200], 0)] {
+        refuse(c, name, &with(holds, smallest_input(&[1], &[5], division, plenty)), number);
+    }
+    // Shorter than the machines, whatever is in it, beside other lists that have room or not; after 5 to 8.
+    for holds in [&[][..], &[0], &[1]] {
+        for (separators, room) in [(&[0, 1, 1][..], plenty), (&[], 0)] {
+            refuse(c, name, &with(holds, smallest_input(&[1, 1], &[5], separators, room)), 9);
+            refuse(c, name, &with(holds, smallest_input(&[1, 0], &[5], separators, room)), 5);
+            refuse(c, name, &with(holds, smallest_input(&[1, 1], &[WEIGHT + 1], separators, room)), 6);
+            let (many, row) = ([1; MACHINES + 1], [0; TILES + 1]);
+            refuse(c, name, &with(holds, smallest_input(&many, &[5], separators, room)), 7);
+            refuse(c, name, &with(holds, smallest_input(&[1, 1], &row, separators, room)), 8);
+            if name == "halving" {
+                refuse(c, name, &with(holds, smallest_input(&[1, 2], &[5], separators, room)), 14);
+            }
+        }
+    }
+    // Two machines and two tiles, as many places as tiles and one fewer; entries behind the second must not count.
+    for method in 1..=4 {
+        for (holds, room) in [(&[1u16, 1][..], true), (&[1, 1, 1], true), (&[1, 1, 0], true), (&[1, 0], true), (&[0, 1], true), (&[0, 0, 1, 1], true)] {
+            let i = Input { method, ..with(holds, smallest_input(&[1, 1], &[5, 5], &[0, 1, 2], plenty)) };
+            refuse(c, name, &i, of_holds(name, method, holds, room));
+            // Of three tiles there is one too many where both are limited.
+            let i = Input { method, ..with(holds, smallest_input(&[1, 1], &[5, 5, 0], &[0, 1, 3], plenty)) };
+            let room = holds[..2].contains(&0);
+            let broken = holds[1] == 1 && ["measure", "plan file"].contains(&name);
+            refuse(c, name, &i, if broken { 11 } else { of_holds(name, method, holds, room) });
+            if name == "trial" {
+                let number = if room { 10 } else { 17 };
+                refuse(c, name, &Input { bound: (0, 0), ..i }, number);
+            }
+        }
+    }
+    if name == "plan" {
+        refuse(c, name, &Input { method: 5, ..with(&[1, 1], smallest_input(&[1, 1], &[5, 5, 0], &[0, 1, 3], plenty)) }, 1);
+    }
+}
+
+/// What a call gives for the holds of two machines, where all else is right.
+fn of_holds(name: &str, method: u32, holds: &[u16], room: bool) -> u32 {
+    let any = holds[..2].iter().any(|&h| h > 0);
+    match name {
+        "quick" | "halving" if any => 18,
+        "trial" | "plan" if !room => 17,
+        "plan" if any && method == 4 => 18,
+        _ => 0,
+    }
 }
 
 /// The start-up work that causes 16, and what passes beside it: the most, and in the first edition any. It is tested before all speeds,
@@ -319,8 +429,9 @@ fn smallest_lists(c: &mut Check, name: &str, numbers: &[u32]) {
 pub fn run(c: &mut Check, times: usize) {
     for (name, numbers) in CALLS {
         smallest_startups(c, name);
+        smallest_holds(c, name);
         smallest_jobs(c, name);
         smallest_lists(c, name, numbers);
     }
-    together(c, 40 * times);
+    together(c, 24 * times);
 }

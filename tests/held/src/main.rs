@@ -73,8 +73,12 @@ fn whole(c: &mut Check) {
     let unseen = c.unseen();
     let mut never = c.searches.contains(&0) || c.noughts.contains(&0) || c.others.contains(&0) || c.editions.contains(&0);
     never |= c.splits.contains(&0) || c.halved.contains(&0) || c.fits.contains(&0) || c.failed.contains(&0);
+    never |= c.kinds_of_holds.contains(&0) || c.changed_by_holds.contains(&0) || c.short_holds.contains(&0);
+    never |= c.held_trials.contains(&0) || c.held_files.contains(&0);
     let mut seen = format!("fits {:?}, failed trials {:?}, searches {:?}", c.fits, c.failed, c.searches);
     seen += &format!(", plans at and off the ideal {:?}, editions {:?}", c.noughts, c.editions);
+    seen += &format!(", kinds of holds {:?}, changed by holds {:?}", c.kinds_of_holds, c.changed_by_holds);
+    seen += &format!(", too few places {:?}, trials with holds {:?}, files with holds {:?}", c.short_holds, c.held_trials, c.held_files);
     seen += &format!(", best plans of other separators {:?}, splits {:?}, halved rows {:?}", c.others, c.splits, c.halved);
     if talk {
         eprintln!("{}", seen);

@@ -4,7 +4,7 @@ use crate::job::Job;
 use crate::slow::{self, less, Bound};
 
 /// What a trial comes to: the P + 1 separators that it writes; where it fails the least next bid, and where it fits the number of machines
-/// that its walk came to.
+/// that its walk came to. Where the holds leave no room for all tiles there can be neither.
 #[derive(Clone, Debug, PartialEq)]
 pub struct Trial {
     pub separators: Vec<usize>,
@@ -14,7 +14,7 @@ pub struct Trial {
 
 impl Trial {
     pub fn fits(&self) -> bool {
-        self.next.is_none()
+        self.machines.is_some()
     }
 
     /// Where the last share begins, and how far the last machine reaches.
@@ -24,9 +24,10 @@ impl Trial {
     }
 }
 
-/// A trial: each machine takes tiles up to the greatest index whose share is within the bound; with its first tile it has the start-up
-/// work. Each before the last bids its share with the next tile added; the last bids all that is left, and where that is within the bound
-/// the trial fits. Then the machines that it came to are the smallest p whose separator is N; s0 is, where there are no tiles.
+/// A trial: each machine takes tiles up to the greatest index whose share is within the bound and keeps its hold; with its first tile it has
+/// the start-up work. Each before the last bids its share with the next tile added, but not at its hold; the last bids all that is left, if
+/// it holds that, and where that is within the bound too the trial fits. Then the machines that it came to are the smallest p whose separator
+/// is N; s0 is, where there are no tiles.
 pub fn trial(job: &Job, bound: Bound) -> Trial {
     let tiles = job.weights.len();
     let mut separators = vec![0];
@@ -36,7 +37,7 @@ pub fn trial(job: &Job, bound: Bound) -> Trial {
         // The share with the tiles so far, as it counts where there is one.
         let (start, mut share) = (at, (job.c(), speed as u128));
         // A share only grows, so the first index that is too much ends the search.
-        while at < tiles {
+        while at < tiles && job.keeps(p, start, at + 1) {
             let longer = (share.0 + job.weights[at] as u128, share.1);
             if less(bound, longer) {
                 break;
@@ -46,13 +47,16 @@ pub fn trial(job: &Job, bound: Bound) -> Trial {
         }
         separators.push(at);
         let bid = if p + 1 == job.speeds.len() {
+            if !job.keeps(p, start, tiles) {
+                continue;
+            }
             let left = (job.load(start, tiles), share.1);
             if !less(bound, left) {
                 let machines = (0..separators.len()).find(|&p| separators[p] == tiles);
                 return Trial { separators, next: None, machines };
             }
             left
-        } else if at < tiles {
+        } else if at < tiles && job.keeps(p, start, at + 1) {
             (share.0 + job.weights[at] as u128, share.1)
         } else {
             continue;
@@ -64,7 +68,7 @@ pub fn trial(job: &Job, bound: Bound) -> Trial {
     Trial { separators, next: least, machines: None }
 }
 
-/// The quick plan: the smallest index whose W(1,s) is nearest to the machine's target, among all indices.
+/// The quick plan, which is for jobs without holds: the smallest index whose W(1,s) is nearest to the machine's target, among all indices.
 pub fn quick(job: &Job) -> Vec<usize> {
     let tiles = job.weights.len();
     let whole: i128 = job.weight(0, tiles) as i128;
@@ -111,10 +115,18 @@ pub fn bids(job: &Job) -> u64 {
     trials
 }
 
+/// Where bisection's high end starts. Request M-108: with any hold at all weight and c over the slowest speed.
+pub fn high_end(job: &Job) -> Bound {
+    if !job.has_holds() {
+        return slow::bottleneck(job, &quick(job));
+    }
+    (job.weight(0, job.weights.len()) + job.c(), *job.speeds.iter().min().unwrap() as u128)
+}
+
 /// Bisection's trials.
 pub fn halvings(job: &Job) -> u64 {
     let Some(mut low) = trial(job, ideal(job)).next else { return 1 };
-    let mut high = slow::bottleneck(job, &quick(job));
+    let mut high = high_end(job);
     let mut trials = 1;
     while less(low, high) || less(high, low) {
         trials += 1;
@@ -128,30 +140,70 @@ pub fn halvings(job: &Job) -> u64 {
     trials
 }
 
-/// The table's moves, by the table itself: every value from every j, every crossing by trying each j.
-pub fn moves_by_table(job: &Job) -> u64 {
+/// Above every other bound: what the table has where the first machines have no division of the first tiles.
+const ABOVE: Bound = (1, 0);
+
+/// Where j starts for a machine and i tiles: at i less its hold; at 0 if that is less, or there is no limit.
+pub fn start(job: &Job, p: usize, i: usize) -> usize {
+    match job.holds[p] as usize {
+        0 => 0,
+        hold if i < hold => 0,
+        hold => i - hold,
+    }
+}
+
+/// The table: of each machine its row of bounds, and of each but the first the crossings.
+pub struct Table {
+    pub rows: Vec<Vec<Bound>>,
+    pub crossings: Vec<Vec<usize>>,
+}
+
+/// Every value from every j, every crossing by trying each j from the start on. The value at the crossing, or at the index before where the
+/// crossing is above the start, must be as small.
+pub fn table(job: &Job) -> Table {
     let tiles = job.weights.len();
-    let mut row: Vec<Bound> = (0..=tiles).map(|i| (job.load(0, i), job.speeds[0] as u128)).collect();
-    let mut moves = 0;
-    for &e in &job.speeds[1..] {
+    let first = |i: usize| if job.keeps(0, 0, i) { (job.load(0, i), job.speeds[0] as u128) } else { ABOVE };
+    let mut table = Table { rows: vec![(0..=tiles).map(first).collect()], crossings: Vec::new() };
+    for (p, &e) in job.speeds.iter().enumerate().skip(1) {
+        let before = &table.rows[p - 1];
         let share = |j: usize, i: usize| (job.load(j, i), e as u128);
-        let crossing = |i: usize| (0..=i).find(|&j| !less(row[j], share(j, i))).unwrap();
-        let mut pointer = 0;
+        let greater = |j: usize, i: usize| if less(before[j], share(j, i)) { share(j, i) } else { before[j] };
+        let lesser = |a: Bound, b: Bound| if less(b, a) { b } else { a };
+        let (mut row, mut crossings) = (Vec::new(), Vec::new());
         for i in 0..=tiles {
-            let goal = crossing(i);
+            let from = start(job, p, i);
+            let crossing = (from..=i).find(|&j| !less(before[j], share(j, i))).unwrap();
+            let least = (from..=i).map(|j| greater(j, i)).reduce(lesser).unwrap();
+            let mut found = greater(crossing, i);
+            if crossing > from {
+                found = lesser(found, greater(crossing - 1, i));
+            }
+            assert!(!less(least, found), "the crossing misses the least for {:?}", job);
+            row.push(least);
+            crossings.push(crossing);
+        }
+        table.rows.push(row);
+        table.crossings.push(crossings);
+    }
+    table
+}
+
+/// The table's moves: of each machine but the first a pointer goes from crossing to crossing, and never back.
+pub fn moves_by_table(job: &Job) -> u64 {
+    let mut moves = 0;
+    for crossings in table(job).crossings {
+        let mut pointer = 0;
+        for goal in crossings {
             assert!(goal >= pointer, "the pointer would have to go back for {:?}", job);
             moves += (goal - pointer) as u64;
             pointer = goal;
         }
-        let greater = |j: usize, i: usize| if less(row[j], share(j, i)) { share(j, i) } else { row[j] };
-        let least = |i: usize| (0..=i).map(|j| greater(j, i)).reduce(|a, b| if less(b, a) { b } else { a }).unwrap();
-        row = (0..=tiles).map(least).collect();
     }
     moves
 }
 
-/// The same number with no table: the crossing of (p, N) is the first j at which no division of the first j tiles among the
-/// machines before p stays strictly below the load of tiles j + 1 to N over ep, and whether it does is asked of one walk.
+/// The same number with no table: the crossing of (p, N) is the first j from the start on at which no division of the first j tiles among
+/// the machines before p stays strictly below the load of tiles j + 1 to N over ep, and whether it does is asked of one walk.
 pub fn moves_by_walks(job: &Job) -> u64 {
     let tiles = job.weights.len();
     let c = job.c() as i128;
@@ -163,10 +215,10 @@ pub fn moves_by_walks(job: &Job) -> u64 {
     let mut moves = 0;
     for p in 1..job.speeds.len() {
         let e = job.speeds[p] as i128;
-        let (mut low, mut high) = (0, tiles);
+        let (mut low, mut high) = (start(job, p, tiles), tiles);
         while low < high {
             let j = (low + high) / 2;
-            if stays_below(c, &job.weights[..j], &job.speeds[..p], rest[j], e) {
+            if stays_below(job, p, j, rest[j], e) {
                 low = j + 1;
             } else {
                 high = j;
@@ -177,20 +229,25 @@ pub fn moves_by_walks(job: &Job) -> u64 {
     moves
 }
 
-/// Whether a division of these tiles keeps every share strictly below load/speed, with this start-up work.
-fn stays_below(c: i128, weights: &[u32], speeds: &[u32], load: i128, speed: i128) -> bool {
+/// Whether a division of the first tiles among the first machines, so many of each, keeps every share strictly below load/speed.
+fn stays_below(job: &Job, machines: usize, tiles: usize, load: i128, speed: i128) -> bool {
     if load == 0 {
         return false;
     }
-    let mut left = weights.iter().peekable();
-    for &e in speeds {
-        let mut sum = c;
+    let mut left = job.weights[..tiles].iter().peekable();
+    for (&e, &hold) in job.speeds[..machines].iter().zip(&job.holds) {
+        let (mut sum, mut places) = (job.c() as i128, hold as i32);
         while let Some(&&w) = left.peek() {
             if (sum + w as i128) * speed >= load * e as i128 {
                 break;
             }
             sum += w as i128;
             left.next();
+            places -= 1;
+            // Never where there is no limit.
+            if places == 0 {
+                break;
+            }
         }
     }
     left.peek().is_none()
@@ -220,7 +277,7 @@ fn halve(mut low: usize, mut high: usize, fits: impl Fn(usize) -> bool) -> (usiz
     (low, trials)
 }
 
-/// The search, each j by trying every one in turn, with whole trials. The halving gives the trials, and must find the same j.
+/// The search, for jobs without holds, each j by trying every one in turn, with whole trials. The halving gives the trials, and must find the same j.
 pub fn search_in_turn(job: &Job) -> Search {
     let tiles = job.weights.len();
     let (last, others) = job.speeds.split_last().unwrap();
@@ -297,11 +354,14 @@ pub fn digits(mut number: u128) -> u64 {
 }
 
 /// The most that a method may count. Request M-106: in the second edition heaviest + c takes the place of heaviest, and bidding has 2 on a
-/// single machine.
+/// single machine. Request M-108: with any hold all weight takes the place of the heaviest.
 pub fn allowance(job: &Job, method: u32) -> u64 {
     let (others, tiles) = (job.speeds.len() - 1, job.weights.len());
     let steps = (others * tiles) as u64;
-    let heaviest = job.weights.iter().copied().max().unwrap_or(0) as u128;
+    let heaviest = match job.has_holds() {
+        true => job.weight(0, tiles),
+        false => job.weights.iter().copied().max().unwrap_or(0) as u128,
+    };
     let fastest = *job.speeds.iter().max().unwrap() as u128;
     let slowest = *job.speeds.iter().min().unwrap() as u128;
     let d = (heaviest + job.c()) * fastest * fastest / slowest;

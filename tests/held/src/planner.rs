@@ -39,6 +39,7 @@ pub enum Call {
 #[derive(Clone, Copy, Debug, PartialEq)]
 pub enum Slot {
     Speeds,
+    Holds,
     Weights,
     Separators,
     Work,
@@ -54,26 +55,30 @@ impl Slot {
     pub fn width(self) -> usize {
         match self {
             Slot::File | Slot::Plan | Slot::Text | Slot::Grade => 1,
+            Slot::Holds => 2,
             Slot::Answer => 8,
             _ => 4,
         }
     }
 }
 
+/// The most lists that a call takes.
+pub const LISTS: usize = 6;
+
 impl Call {
     /// The lists of the call, in the order of its arguments.
     pub fn slots(self) -> &'static [Slot] {
         use Slot::*;
         match self {
-            Call::Test(_) => &[Speeds, Weights],
-            Call::Read => &[File, Speeds, Weights, Answer],
-            Call::Write(_) => &[Speeds, Weights, File, Answer],
-            Call::Measure(_) | Call::Trial(..) | Call::Quick(_) | Call::Halving(_) => &[Speeds, Weights, Separators, Answer],
-            Call::Plan(..) => &[Speeds, Weights, Separators, Work, Answer],
-            Call::PlanFile(_) => &[Speeds, Weights, Separators, Plan, Answer],
+            Call::Test(_) => &[Speeds, Holds, Weights],
+            Call::Read => &[File, Speeds, Holds, Weights, Answer],
+            Call::Write(_) => &[Speeds, Holds, Weights, File, Answer],
+            Call::Measure(_) | Call::Trial(..) | Call::Quick(_) | Call::Halving(_) => &[Speeds, Holds, Weights, Separators, Answer],
+            Call::Plan(..) => &[Speeds, Holds, Weights, Separators, Work, Answer],
+            Call::PlanFile(_) => &[Speeds, Holds, Weights, Separators, Plan, Answer],
             Call::List => &[File, Text, Answer],
             Call::Host { .. } => &[File, Plan],
-            Call::Grade(_) => &[Speeds, Weights, Plan, Answer],
+            Call::Grade(_) => &[Speeds, Holds, Weights, Plan, Answer],
             Call::HostGrade => &[File, Plan, Grade],
         }
     }
@@ -109,54 +114,58 @@ impl Call {
 pub type At = (*mut u8, usize);
 
 type Bytes = *mut u8;
+type Halves = *mut u16;
 type Words = *mut u32;
 type Longs = *mut u64;
 
 extern "C" {
     fn plan_job(job: Bytes, job_len: usize, method: u32, plan: Bytes, plan_len: usize) -> u32;
     fn grade_plan(job: Bytes, job_len: usize, plan: Bytes, plan_len: usize, grade: Bytes, grade_len: usize) -> u32;
-    fn exported_test_job(second: bool, c: u32, e: Words, e_len: usize, w: Words, w_len: usize) -> u32;
-    fn exported_read_job(f: Bytes, f_len: usize, e: Words, e_len: usize, w: Words, w_len: usize, a: Longs, a_len: usize) -> u32;
+    #[rustfmt::skip]
+    fn exported_test_job(second: bool, c: u32, e: Words, e_len: usize, h: Halves, h_len: usize, w: Words, w_len: usize) -> u32;
+    #[rustfmt::skip]
+    fn exported_read_job(f: Bytes, f_len: usize, e: Words, e_len: usize, h: Halves, h_len: usize, w: Words, w_len: usize, a: Longs, a_len: usize) -> u32;
     fn exported_list(f: Bytes, f_len: usize, t: Bytes, t_len: usize, a: Longs, a_len: usize) -> u32;
     #[rustfmt::skip]
-    fn exported_write_job(second: bool, c: u32, e: Words, e_len: usize, w: Words, w_len: usize, f: Bytes, f_len: usize, a: Longs, a_len: usize) -> u32;
+    fn exported_write_job(second: bool, c: u32, e: Words, e_len: usize, h: Halves, h_len: usize, w: Words, w_len: usize, f: Bytes, f_len: usize, a: Longs, a_len: usize) -> u32;
     #[rustfmt::skip]
-    fn exported_grade(second: bool, c: u32, e: Words, e_len: usize, w: Words, w_len: usize, f: Bytes, f_len: usize, a: Longs, a_len: usize) -> u32;
+    fn exported_grade(second: bool, c: u32, e: Words, e_len: usize, h: Halves, h_len: usize, w: Words, w_len: usize, f: Bytes, f_len: usize, a: Longs, a_len: usize) -> u32;
     #[rustfmt::skip]
-    fn exported_measure(second: bool, c: u32, e: Words, e_len: usize, w: Words, w_len: usize, s: Words, s_len: usize, a: Longs, a_len: usize) -> u32;
+    fn exported_measure(second: bool, c: u32, e: Words, e_len: usize, h: Halves, h_len: usize, w: Words, w_len: usize, s: Words, s_len: usize, a: Longs, a_len: usize) -> u32;
     #[rustfmt::skip]
-    fn exported_heuristic(second: bool, c: u32, e: Words, e_len: usize, w: Words, w_len: usize, s: Words, s_len: usize, a: Longs, a_len: usize) -> u32;
+    fn exported_heuristic(second: bool, c: u32, e: Words, e_len: usize, h: Halves, h_len: usize, w: Words, w_len: usize, s: Words, s_len: usize, a: Longs, a_len: usize) -> u32;
     #[rustfmt::skip]
-    fn exported_halving(second: bool, c: u32, e: Words, e_len: usize, w: Words, w_len: usize, s: Words, s_len: usize, a: Longs, a_len: usize) -> u32;
+    fn exported_halving(second: bool, c: u32, e: Words, e_len: usize, h: Halves, h_len: usize, w: Words, w_len: usize, s: Words, s_len: usize, a: Longs, a_len: usize) -> u32;
     #[rustfmt::skip]
-    fn exported_probe(second: bool, c: u32, e: Words, e_len: usize, w: Words, w_len: usize, load: u64, speed: u64, s: Words, s_len: usize, a: Longs, a_len: usize) -> u32;
+    fn exported_probe(second: bool, c: u32, e: Words, e_len: usize, h: Halves, h_len: usize, w: Words, w_len: usize, load: u64, speed: u64, s: Words, s_len: usize, a: Longs, a_len: usize) -> u32;
     #[rustfmt::skip]
-    fn exported_plan(m: u32, second: bool, c: u32, e: Words, e_len: usize, w: Words, w_len: usize, s: Words, s_len: usize, k: Words, k_len: usize, a: Longs, a_len: usize) -> u32;
+    fn exported_plan(m: u32, second: bool, c: u32, e: Words, e_len: usize, h: Halves, h_len: usize, w: Words, w_len: usize, s: Words, s_len: usize, k: Words, k_len: usize, a: Longs, a_len: usize) -> u32;
     #[rustfmt::skip]
-    fn exported_write_plan(second: bool, c: u32, e: Words, e_len: usize, w: Words, w_len: usize, s: Words, s_len: usize, f: Bytes, f_len: usize, a: Longs, a_len: usize) -> u32;
+    fn exported_write_plan(second: bool, c: u32, e: Words, e_len: usize, h: Halves, h_len: usize, w: Words, w_len: usize, s: Words, s_len: usize, f: Bytes, f_len: usize, a: Longs, a_len: usize) -> u32;
 }
 
 /// # Safety
 /// Each list is good for its length, or null with length 0.
 pub unsafe fn real(call: Call, at: &[At]) -> u32 {
     let b = |k: usize| at[k].0;
+    let h = |k: usize| at[k].0 as Halves;
     let w = |k: usize| at[k].0 as Words;
     let a = |k: usize| at[k].0 as Longs;
     let n = |k: usize| at[k].1;
     let Edition { second, startup: c } = call.edition().unwrap_or(Edition::FIRST);
     match call {
-        Call::Test(_) => exported_test_job(second, c, w(0), n(0), w(1), n(1)),
-        Call::Read => exported_read_job(b(0), n(0), w(1), n(1), w(2), n(2), a(3), n(3)),
-        Call::Write(_) => exported_write_job(second, c, w(0), n(0), w(1), n(1), b(2), n(2), a(3), n(3)),
-        Call::Measure(_) => exported_measure(second, c, w(0), n(0), w(1), n(1), w(2), n(2), a(3), n(3)),
-        Call::Trial(_, load, speed) => exported_probe(second, c, w(0), n(0), w(1), n(1), load, speed, w(2), n(2), a(3), n(3)),
-        Call::Quick(_) => exported_heuristic(second, c, w(0), n(0), w(1), n(1), w(2), n(2), a(3), n(3)),
-        Call::Halving(_) => exported_halving(second, c, w(0), n(0), w(1), n(1), w(2), n(2), a(3), n(3)),
-        Call::Plan(_, method) => exported_plan(method, second, c, w(0), n(0), w(1), n(1), w(2), n(2), w(3), n(3), a(4), n(4)),
-        Call::PlanFile(_) => exported_write_plan(second, c, w(0), n(0), w(1), n(1), w(2), n(2), b(3), n(3), a(4), n(4)),
+        Call::Test(_) => exported_test_job(second, c, w(0), n(0), h(1), n(1), w(2), n(2)),
+        Call::Read => exported_read_job(b(0), n(0), w(1), n(1), h(2), n(2), w(3), n(3), a(4), n(4)),
+        Call::Write(_) => exported_write_job(second, c, w(0), n(0), h(1), n(1), w(2), n(2), b(3), n(3), a(4), n(4)),
+        Call::Measure(_) => exported_measure(second, c, w(0), n(0), h(1), n(1), w(2), n(2), w(3), n(3), a(4), n(4)),
+        Call::Trial(_, load, speed) => exported_probe(second, c, w(0), n(0), h(1), n(1), w(2), n(2), load, speed, w(3), n(3), a(4), n(4)),
+        Call::Quick(_) => exported_heuristic(second, c, w(0), n(0), h(1), n(1), w(2), n(2), w(3), n(3), a(4), n(4)),
+        Call::Halving(_) => exported_halving(second, c, w(0), n(0), h(1), n(1), w(2), n(2), w(3), n(3), a(4), n(4)),
+        Call::Plan(_, m) => exported_plan(m, second, c, w(0), n(0), h(1), n(1), w(2), n(2), w(3), n(3), w(4), n(4), a(5), n(5)),
+        Call::PlanFile(_) => exported_write_plan(second, c, w(0), n(0), h(1), n(1), w(2), n(2), w(3), n(3), b(4), n(4), a(5), n(5)),
         Call::List => exported_list(b(0), n(0), b(1), n(1), a(2), n(2)),
         Call::Host { method } => plan_job(b(0), n(0), method, b(1), n(1)),
-        Call::Grade(_) => exported_grade(second, c, w(0), n(0), w(1), n(1), b(2), n(2), a(3), n(3)),
+        Call::Grade(_) => exported_grade(second, c, w(0), n(0), h(1), n(1), w(2), n(2), b(3), n(3), a(4), n(4)),
         Call::HostGrade => grade_plan(b(0), n(0), b(1), n(1), b(2), n(2)),
     }
 }

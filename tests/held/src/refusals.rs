@@ -2,7 +2,7 @@
 
 use crate::check::{self, Check};
 use crate::guard;
-use crate::job::{head, machine, record, tile, Record};
+use crate::job::{head, holding, machine, record, tile, Record};
 use crate::limits::{plan_bytes, JOB_INTAKE, LONGEST_JOB, MACHINES, SPEED, STARTUP, TILES, TOO_MANY, WEIGHT};
 use crate::planner::{self, At, Call};
 
@@ -14,11 +14,11 @@ const NO_METHOD: [u32; 13] = [0, 5, 6, 255, 256, 257, 258, 260, 65_537, 0x0100_0
 fn refuse(c: &mut Check, file: &[u8], method: u32, plan_len: usize, number: u32) {
     let plan = c.rng.pattern(plan_len);
     c.refuse(Call::Host { method }, &[file, &plan], number);
-    if ![1, 9].contains(&number) {
-        let (e, w) = (c.rng.pattern(4 * records(file)), c.rng.pattern(4 * records(file)));
+    if ![0, 1, 9, 17, 18].contains(&number) {
+        let (e, h, w) = (c.rng.pattern(4 * records(file)), c.rng.pattern(2 * records(file)), c.rng.pattern(4 * records(file)));
         let answer = c.rng.pattern(8 * 4);
-        c.refuse(Call::Read, &[file, &e, &w, &answer], number);
-        c.refuse(Call::Read, &[file, &[], &[], &[]], number);
+        c.refuse(Call::Read, &[file, &e, &h, &w, &answer], number);
+        c.refuse(Call::Read, &[file, &[], &[], &[], &[]], number);
     }
 }
 
@@ -71,10 +71,18 @@ fn smallest(c: &mut Check, plan_len: usize) {
     for kind in (0..=255).filter(|k| ![1, 2, 3].contains(k)) {
         refuse_all(c, &record(kind, 1), plan_len, 3);
     }
+    // A bit of bytes 1 to 3; in bytes 2 and 3 of a machine it is a hold.
     for (kind, place, bit) in (0..3 * 3 * 8).map(|k| (1 + k % 3, 1 + k / 3 % 3, k / 9)) {
         let mut r = record(kind as u8, 1);
         r[place] = 1 << bit;
-        refuse_all(c, &r, plan_len, 3);
+        if kind != 1 || place == 1 {
+            refuse_all(c, &r, plan_len, 3);
+            continue;
+        }
+        assert_eq!(r, holding(1, 1 << (8 * (place - 2) + bit)));
+        for (file, number) in [(&[r, tile(WEIGHT + 1)][..], 6), (&[r, tile(0), r], 4), (&[r, holding(0, 1)], 5), (&[r, head(0)], 15)] {
+            refuse_all(c, &file.concat(), plan_len, number);
+        }
     }
     refuse_all(c, &[tile(0), machine(1)].concat(), plan_len, 4);
     refuse_all(c, &machine(0), plan_len, 5);
@@ -145,18 +153,22 @@ struct Fault {
 
 const ANY: &[Place] = &[Head, First, Machine, Tile, Later];
 const NOT_FIRST: &[Place] = &[Machine, Tile, Later];
+const NO_MACHINE: &[Place] = &[Head, Tile, Later];
 
-const FAULTS: [Fault; 19] = [
+const FAULTS: [Fault; 22] = [
     Fault { number: 3, on: ANY, make: |r| r[0] = 0 },
     Fault { number: 3, on: ANY, make: |r| r[0] = 4 },
     Fault { number: 3, on: ANY, make: |r| r[0] |= 0x80 },
     Fault { number: 3, on: ANY, make: |r| r[1] = 1 },
-    Fault { number: 3, on: ANY, make: |r| r[2] = 0x80 },
-    Fault { number: 3, on: ANY, make: |r| r[3] = 0xFF },
+    Fault { number: 3, on: NO_MACHINE, make: |r| r[2] = 0x80 },
+    Fault { number: 3, on: NO_MACHINE, make: |r| r[3] = 0xFF },
+    Fault { number: 3, on: &[First, Machine], make: |r| (r[0], r[2]) = (2, 1) },
+    Fault { number: 3, on: &[First, Machine], make: |r| (r[0], r[3]) = (3, 1) },
     Fault { number: 4, on: &[Later], make: |r| *r = machine(3) },
     Fault { number: 4, on: &[Later], make: |r| *r = machine(0) },
     Fault { number: 4, on: &[Later], make: |r| *r = machine(WEIGHT + 1) },
-    Fault { number: 15, on: NOT_FIRST, make: |r| r[0] = 3 },
+    Fault { number: 15, on: &[Tile, Later], make: |r| r[0] = 3 },
+    Fault { number: 15, on: &[Machine], make: |r| (r[0], r[2], r[3]) = (3, 0, 0) },
     Fault { number: 15, on: NOT_FIRST, make: |r| *r = head(0) },
     Fault { number: 15, on: NOT_FIRST, make: |r| *r = head(STARTUP + 1) },
     Fault { number: 5, on: &[First, Machine], make: |r| *r = machine(0) },
@@ -201,10 +213,12 @@ impl Good {
 const FEW: usize = 3;
 const EXACT: usize = plan_bytes(FEW);
 
-/// The same job in both editions.
-fn good_files() -> [Good; 2] {
+/// The same job in both editions, in the second also with holds that leave no room for all tiles, which is tested after all faults of
+/// records.
+fn good_files() -> [Good; 3] {
     let (machines, tiles) = ([machine(2), machine(1), machine(SPEED)], [tile(4), tile(0), tile(WEIGHT), tile(3)]);
-    [None, Some(STARTUP)].map(|startup| Good::of(startup, &machines, &tiles))
+    let held = [holding(2, 1), holding(1, 1), holding(SPEED, 1)];
+    [(None, &machines), (Some(STARTUP), &machines), (Some(0), &held)].map(|(startup, machines)| Good::of(startup, machines, &tiles))
 }
 
 /// One fault, alone and with a length or a plan buffer that is wrong.
@@ -268,7 +282,7 @@ fn pairs(c: &mut Check) {
     }
 }
 
-/// Two faults in one record: 3 counts before all others, 15 and 4 before 16 and 5.
+/// Two faults in one record: 3 counts before all others, 15 and 4 before 16 and 5. Bytes 2 and 3 of what is a machine then are no fault.
 fn pairs_in_one(c: &mut Check) {
     for good in good_files() {
         for f in FAULTS.iter().filter(|f| f.number > 3) {
@@ -277,7 +291,8 @@ fn pairs_in_one(c: &mut Check) {
                     let mut two = good.records.clone();
                     (f.make)(&mut two[i]);
                     (g.make)(&mut two[i]);
-                    refuse_all(c, &two.concat(), EXACT, 3);
+                    let number = if two[i][..2] == [1, 0] { f.number } else { 3 };
+                    refuse_all(c, &two.concat(), EXACT, number);
                 }
             }
         }
@@ -327,6 +342,67 @@ fn pairs_of_counts(c: &mut Check) {
                 longer.extend(vec![0; extra]);
                 refuse_all(c, &longer, plan_len, 2);
             }
+        }
+    }
+}
+
+/// Holds that leave no room for all tiles give 17, by the fourth method too; others give 18 by it. A method that is none, a file that is
+/// spoilt, wrong counts and a plan buffer that is too short come before them.
+fn of_holds(c: &mut Check) {
+    // Each hold as a number of 16 bits: taken for one of 8 bits it would leave room, or none.
+    let rows: [(&[u16], usize, bool); 14] = [
+        (&[1], 2, false),
+        (&[1], 1, true),
+        (&[2], 3, false),
+        (&[3], 3, true),
+        (&[0], 3, true),
+        (&[u16::MAX], 3, true),
+        (&[256], 255, true),
+        (&[256], 257, false),
+        (&[255], 256, false),
+        (&[0x0101, 0x0100], 513, true),
+        (&[0x0101, 0x0100], 514, false),
+        (&[1, 0], 2_048, true),
+        (&[0, 1], 2_048, true),
+        (&[2_000, 47], 2_048, false),
+    ];
+    for (holds, tiles, room) in rows {
+        for startup in [None, Some(0), Some(STARTUP)] {
+            let machines: Vec<Record> = holds.iter().map(|&h| holding(3, h)).collect();
+            let good = Good::of(startup, &machines, &vec![tile(1); tiles]).records;
+            let exact = plan_bytes(holds.len());
+            let number = |method: u32| match method {
+                _ if !room => 17,
+                4 if holds.iter().any(|&h| h > 0) => 18,
+                _ => 0,
+            };
+            for method in 1..=4 {
+                for (plan_len, number) in [(exact - 1, 9), (0, 9), (exact, number(method)), (exact + 7, number(method))] {
+                    refuse(c, &good.concat(), method, plan_len, number);
+                }
+            }
+            for method in [0, 5, u32::MAX] {
+                refuse(c, &good.concat(), method, exact, 1);
+            }
+            let mut cut = good.concat();
+            cut.pop();
+            refuse_all(c, &cut, exact, 2);
+            for (more, number) in [(record(2, WEIGHT + 1), 6), (record(4, 1), 3), (machine(1), 4), (head(0), 15)] {
+                refuse_all(c, &[&good.concat()[..], &more].concat(), exact, number);
+            }
+            let mut broken = good.clone();
+            broken[startup.is_some() as usize][4..8].fill(0);
+            refuse_all(c, &broken.concat(), exact, 5);
+        }
+    }
+    // All the most machines with a hold of 21, which is 32 places too few, and of 22; past the most, and past the most tiles.
+    for (hold, machines, tiles, number) in [(21, MACHINES, TILES, 17), (22, MACHINES, TILES, 0), (1, MACHINES + 1, TILES, 7), (1, 1, TILES + 1, 8)] {
+        let file = [vec![holding(1, hold); machines], vec![tile(0); tiles]].concat().concat();
+        for method in 1..=4 {
+            let number = if number == 0 && method == 4 { 18 } else { number };
+            refuse(c, &file, method, plan_bytes(machines), number);
+            let short = if [17, 18, 0].contains(&number) { 9 } else { number };
+            refuse(c, &file, method, plan_bytes(machines) - 1, short);
         }
     }
 }
@@ -384,5 +460,6 @@ pub fn run(c: &mut Check) {
     pairs(c);
     pairs_in_one(c);
     pairs_of_counts(c);
+    of_holds(c);
     nulls(c);
 }

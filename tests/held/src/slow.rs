@@ -1,4 +1,4 @@
-//! The slow solver: tries every division of a small job.
+//! The slow solver: tries every division of a small job that keeps its holds.
 
 use crate::job::Job;
 
@@ -22,8 +22,17 @@ pub fn bottleneck(job: &Job, separators: &[usize]) -> Bound {
     greatest
 }
 
-/// Visits every division that begins with these separators.
-pub fn every_division(separators: &mut Vec<usize>, machines: usize, tiles: usize, visit: &mut dyn FnMut(&[usize])) {
+/// Visits every division of the job: each list of separators whose shares keep the holds.
+pub fn every_division(job: &Job, visit: &mut dyn FnMut(&[usize])) {
+    every_list(&mut vec![0], job.speeds.len(), job.weights.len(), &mut |separators| {
+        if (0..job.speeds.len()).all(|p| job.keeps(p, separators[p], separators[p + 1])) {
+            visit(separators);
+        }
+    });
+}
+
+/// Visits every rising list of separators up to the last tile that begins with these.
+fn every_list(separators: &mut Vec<usize>, machines: usize, tiles: usize, visit: &mut dyn FnMut(&[usize])) {
     if separators.len() == machines {
         separators.push(tiles);
         visit(separators);
@@ -32,31 +41,31 @@ pub fn every_division(separators: &mut Vec<usize>, machines: usize, tiles: usize
     }
     for next in separators[separators.len() - 1]..=tiles {
         separators.push(next);
-        every_division(separators, machines, tiles, visit);
+        every_list(separators, machines, tiles, visit);
         separators.pop();
     }
 }
 
-/// How far the first machines get within a bound, for none of them, for one, and so on, however tiles are given from the first on and in
+/// How far the first machines get within a bound and their holds, for none of them, for one, and so on, however tiles are given from the first on and in
 /// order: each machine is tried with every share, from wherever those before it can stop.
 pub fn furthest(job: &Job, bound: Bound) -> Vec<usize> {
     let tiles = job.weights.len();
     // Of each index whether the machines so far can stop there.
     let mut stops: Vec<bool> = (0..=tiles).map(|i| i == 0).collect();
     let mut list = vec![0];
-    for &e in &job.speeds {
-        let within = |j: usize, i: usize| !less(bound, (job.load(j, i), e as u128));
+    for (p, &e) in job.speeds.iter().enumerate() {
+        let within = |j: usize, i: usize| job.keeps(p, j, i) && !less(bound, (job.load(j, i), e as u128));
         stops = (0..=tiles).map(|i| (0..=i).any(|j| stops[j] && within(j, i))).collect();
         list.push(stops.iter().rposition(|&is| is).unwrap());
     }
     list
 }
 
-/// The best division whose every separator is furthest, and its bottleneck.
+/// The best division whose every separator is furthest, and its bottleneck. The holds leave room for all tiles.
 pub fn solve(job: &Job) -> (Vec<usize>, Bound) {
     let mut best: Vec<Vec<usize>> = Vec::new();
     let mut least: Option<Bound> = None;
-    every_division(&mut vec![0], job.speeds.len(), job.weights.len(), &mut |separators| {
+    every_division(job, &mut |separators| {
         let b = bottleneck(job, separators);
         match least {
             Some(l) if less(l, b) => {}

@@ -74,17 +74,84 @@ pub fn startup(r: &mut Rng, weights: &[u32]) -> Option<u32> {
     Some(c.min(STARTUP))
 }
 
-/// A job of these lists, of either edition.
-pub fn job_of(r: &mut Rng, speeds: Vec<u32>, weights: Vec<u32>) -> Job {
-    let startup = startup(r, &weights);
-    Job { startup, speeds, weights }
+/// So many numbers, none of them 0, with this sum.
+fn places(r: &mut Rng, machines: usize, sum: usize) -> Vec<u16> {
+    let mut cuts: Vec<usize> = (1..machines).map(|_| r.below(sum - machines + 1)).collect();
+    cuts.extend([0, sum - machines]);
+    cuts.sort();
+    cuts.windows(2).map(|two| (1 + two[1] - two[0]) as u16).collect()
 }
 
-/// A job of this size, of either edition.
+/// Holds of machines for so many tiles, at least one of them set, that leave room for all tiles: just as many places as tiles or a few more,
+/// about as many to each machine, all machines but one limited, one alone, the last one, the first ones, each as small as can be, about N,
+/// or the greatest, or any.
+fn holds(r: &mut Rng, machines: usize, tiles: usize) -> Vec<u16> {
+    let n = tiles as u16;
+    let (style, one) = (r.below(10), r.below(machines));
+    let each = tiles.div_ceil(machines) as u32;
+    let mut list: Vec<u16> = match style {
+        0 | 1 if machines <= tiles => {
+            let more = if style == 0 { 0 } else { 1 + r.below(3) };
+            places(r, machines, tiles + more)
+        }
+        2 => (0..machines).map(|_| r.range(1, 2 * each + 1) as u16).collect(),
+        3 => (0..machines).map(|p| if p == one { 0 } else { r.range(1, each.max(2)) as u16 }).collect(),
+        4 => (0..machines).map(|p| if p == one { r.range(1, n.max(1) as u32) as u16 } else { 0 }).collect(),
+        5 => (0..machines).map(|p| if p + 1 == machines { r.range(1, each + 1) as u16 } else { 0 }).collect(),
+        6 => (0..machines).map(|p| if p <= one { r.range(1, 2) as u16 } else { 0 }).collect(),
+        7 => (0..machines).map(|_| r.pick(&[0, 1, n.saturating_sub(1), n, n + 1, u16::MAX])).collect(),
+        8 => (0..machines).map(|_| if r.once_in(2) { 0 } else { r.next() as u16 }).collect(),
+        _ => (0..machines).map(|_| r.range(0, each + 1) as u16).collect(),
+    };
+    if list.iter().all(|&h| h == 0) {
+        list[one] = r.pick(&[1, n.max(1), u16::MAX]);
+    }
+    let places: usize = list.iter().map(|&h| h as usize).sum();
+    if places < tiles && !list.contains(&0) {
+        list[one] += (tiles - places) as u16 + r.pick(&[0, 0, 1, 2]);
+    }
+    list
+}
+
+/// The same job with holds that leave room for all tiles.
+pub fn held(r: &mut Rng, job: &Job) -> Job {
+    job.holding(holds(r, job.speeds.len(), job.weights.len()))
+}
+
+/// The same job with holds that leave no room for all tiles, often for all but one; none where there are no more tiles than machines.
+pub fn short(r: &mut Rng, job: &Job) -> Option<Job> {
+    let (machines, tiles) = (job.speeds.len(), job.weights.len());
+    if machines >= tiles {
+        return None;
+    }
+    let sum = if r.once_in(2) { tiles - 1 } else { machines + r.below(tiles - machines) };
+    Some(job.holding(places(r, machines, sum)))
+}
+
+/// A job of these lists, of either edition, and about one in three with holds, which leave room for all tiles.
+pub fn job_of(r: &mut Rng, speeds: Vec<u32>, weights: Vec<u32>) -> Job {
+    let job = Job::of(startup(r, &weights), &speeds, &weights);
+    if r.once_in(3) {
+        held(r, &job)
+    } else {
+        job
+    }
+}
+
+/// A job of this size, of either edition, with holds or without.
 pub fn sized(r: &mut Rng, machines: usize, tiles: usize) -> Job {
     let speeds = speeds(r, machines);
     let weights = weights(r, tiles, &speeds);
     job_of(r, speeds, weights)
+}
+
+/// The same; now and then the holds leave no room for all tiles.
+pub fn any_sized(r: &mut Rng, machines: usize, tiles: usize) -> Job {
+    let job = sized(r, machines, tiles);
+    if !r.once_in(20) {
+        return job;
+    }
+    short(r, &job).unwrap_or(job)
 }
 
 /// Every job with up to 5 tiles and up to 3 machines of small numbers.
@@ -132,7 +199,7 @@ fn least(job: &Job) -> Bound {
         return fast::solve(job).1;
     }
     let mut least: Option<Bound> = None;
-    slow::every_division(&mut vec![0], machines, tiles, &mut |separators| {
+    slow::every_division(job, &mut |separators| {
         let b = slow::bottleneck(job, separators);
         if least.map_or(true, |l| slow::less(b, l)) {
             least = Some(b);
@@ -141,12 +208,22 @@ fn least(job: &Job) -> Bound {
     least.unwrap()
 }
 
+/// A job of these lists for a row that is to be halved: few with holds, since these are refused.
+pub fn row_of(r: &mut Rng, speeds: Vec<u32>, weights: Vec<u32>) -> Job {
+    let job = job_of(r, speeds, weights);
+    if r.once_in(6) {
+        job
+    } else {
+        job.unlimited()
+    }
+}
+
 /// Any small row of 1, 2, 4 or 8 machines of one speed.
 pub fn random_row(c: &mut Check) {
     let (machines, tiles) = (1 << c.rng.below(4), c.rng.below(9));
     let speeds = vec![c.rng.range(1, SPEED); machines];
     let weights = weights(&mut c.rng, tiles, &speeds);
-    let job = job_of(&mut c.rng, speeds, weights);
+    let job = row_of(&mut c.rng, speeds, weights);
     row(c, &job);
 }
 
@@ -187,7 +264,7 @@ pub fn neighbours(r: &mut Rng, tiles: usize) -> Job {
         let mut weights = pieces(r, (w1 - middle as i64) as u32, tiles);
         weights.push(middle);
         weights.extend(pieces(r, (w2 - middle as i64) as u32, tiles));
-        return Job { startup, speeds: vec![e1 as u32, e2 as u32], weights };
+        return Job::of(startup, &[e1 as u32, e2 as u32], &weights);
     }
 }
 
@@ -212,7 +289,11 @@ pub fn near_job(r: &mut Rng) -> Job {
         let (e, w) = (r.range(1, SPEED), r.range(0, WEIGHT));
         let (p, i) = r.pick(&[(0, 0), (2, job.weights.len())]);
         job.speeds.insert(p, e);
+        job.holds.insert(p, 0);
         job.weights.insert(i, w);
+    }
+    if r.once_in(4) {
+        job = held(r, &job);
     }
     job
 }
@@ -222,15 +303,46 @@ pub fn near(c: &mut Check) {
     both(c, &job);
 }
 
-/// Any small job.
+/// Any small job whose holds leave room for all tiles.
 pub fn random_job(r: &mut Rng) -> Job {
     let (machines, tiles) = (1 + r.below(4), r.below(9));
     sized(r, machines, tiles)
 }
 
+/// Any small job.
 pub fn random(c: &mut Check) {
-    let job = random_job(&mut c.rng);
-    both(c, &job);
+    let (machines, tiles) = (1 + c.rng.below(4), c.rng.below(9));
+    let job = any_sized(&mut c.rng, machines, tiles);
+    any(c, &job);
+}
+
+/// Every call on a job whose holds may leave no room for all tiles.
+fn any(c: &mut Check, job: &Job) {
+    if job.has_room() {
+        both(c, job);
+    } else {
+        every::short(c, job);
+    }
+}
+
+/// Jobs of small numbers, up to 4 tiles and 3 machines, with every list of holds from none to more than there are tiles; so many of them, by
+/// chance.
+fn every_hold(c: &mut Check, one_in: usize) {
+    for (tiles, machines, heaviest, fastest) in [(0, 3, 0, 2), (1, 3, 2, 2), (2, 3, 2, 2), (3, 3, 2, 2), (4, 2, 2, 3), (4, 3, 1, 2), (5, 2, 1, 2)] {
+        for m in 1..=machines {
+            every_list(m, 0, tiles as u32 + 1, &mut |holds| {
+                every_list(m, 1, fastest, &mut |s| {
+                    every_list(tiles, 0, heaviest, &mut |w| {
+                        if c.rng.once_in(one_in) {
+                            let startup = c.rng.pick(&[None, None, Some(0), Some(1), Some(2)]);
+                            let holds: Vec<u16> = holds.iter().map(|&h| h as u16).collect();
+                            any(c, &Job::held(startup, s, &holds, w));
+                        }
+                    });
+                });
+            });
+        }
+    }
 }
 
 pub fn run(c: &mut Check, times: usize) {
@@ -241,6 +353,7 @@ pub fn run(c: &mut Check, times: usize) {
             both(c, &job);
         }
     });
+    every_hold(c, 6);
     every_row(c);
     for _ in 0..10_000 * times {
         random_row(c);
@@ -248,7 +361,7 @@ pub fn run(c: &mut Check, times: usize) {
     for _ in 0..4_000 * times {
         near(c);
     }
-    for _ in 0..110_000 * times {
+    for _ in 0..92_000 * times {
         random(c);
     }
 }

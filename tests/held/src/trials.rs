@@ -65,21 +65,22 @@ pub fn one(c: &mut Check, t: &Case, bound: Bound, lent: &[u8], entries: usize) -
     if let Some(found) = &found {
         sound(c, t, bound, found);
         count(c, &t.job, bound, found, entries);
+        count_held(c, &t.job, bound, found);
     }
-    let (answer, edition) = (c.rng.pattern(8 * entries), c.edition(&t.job));
+    let (answer, edition, h) = (c.rng.pattern(8 * entries), c.edition(&t.job), c.holds(&t.job));
     let call = Call::Trial(edition, bound.0 as u64, bound.1 as u64);
-    c.judge(call, &[&t.speeds, &t.weights, lent, &answer], None);
+    c.judge(call, &[&t.speeds, &h, &t.weights, lent, &answer], None);
     found
 }
 
 /// The trial that the test expects must itself be as it has to. It fits exactly where the best division stays within the bound, and
 /// where it writes N last; its next bid lies above the bound and not above the best. Of a tiny job and of up to three tiles its separators
 /// are as far as the first machines get, however tiles are given to them, and it comes to as many machines as are needed so (scope 3.14);
-/// of any other each separator is the greatest index whose share is within the bound.
+/// of any other each separator is the greatest index whose share is within the bound and keeps the hold.
 fn sound(c: &mut Check, t: &Case, bound: Bound, found: &Trial) {
     let (job, best, tiles) = (&t.job, t.bottleneck, t.job.weights.len());
     let mut good = match found.next {
-        None => !less(bound, best),
+        None => found.fits() && !less(bound, best),
         Some(next) => less(bound, best) && less(bound, next) && !less(best, next),
     };
     good &= found.fits() == (found.last().1 == tiles) && found.fits() == found.machines.is_some();
@@ -115,12 +116,12 @@ fn in_order(c: &mut Check, t: &Case, one: &(Bound, Trial), other: &(Bound, Trial
     }
 }
 
-/// Whether each share is within the bound, and is not with a tile more.
+/// Whether each share is within the bound and the hold, and is not with a tile more.
 fn is_greatest(job: &Job, bound: Bound, separators: &[usize]) -> bool {
     let tiles = job.weights.len();
     let each = |p: usize| {
         let (a, b) = (separators[p], separators[p + 1]);
-        let within = |to: usize| !less(bound, (job.load(a, to), job.speeds[p] as u128));
+        let within = |to: usize| job.keeps(p, a, to) && !less(bound, (job.load(a, to), job.speeds[p] as u128));
         a <= b && b <= tiles && within(b) && (b == tiles || !within(b + 1))
     };
     separators.len() == job.speeds.len() + 1 && separators[0] == 0 && (0..job.speeds.len()).all(each)
@@ -156,6 +157,31 @@ fn count(c: &mut Check, job: &Job, bound: Bound, found: &Trial, entries: usize) 
         end + 1 == tiles,
     ];
     for (count, is) in c.failed.iter_mut().zip(ends) {
+        *count += is as u64;
+    }
+}
+
+/// What the holds did to a trial.
+fn count_held(c: &mut Check, job: &Job, bound: Bound, found: &Trial) {
+    if !job.has_holds() {
+        return;
+    }
+    let (tiles, last, s) = (job.weights.len(), job.speeds.len() - 1, &found.separators);
+    let full = |p: usize| s[p + 1] < tiles && !job.keeps(p, s[p], s[p + 1] + 1);
+    // The bid of a machine at its hold, if it made one.
+    let bid = |p: usize| (job.load(s[p], s[p + 1] + 1), job.speeds[p] as u128);
+    let at_hold: Vec<usize> = (0..last).filter(|&p| full(p)).collect();
+    let too_heavy = |p: usize| s[p + 1] < tiles && less(bound, bid(p));
+    let fails = [
+        !at_hold.is_empty(),
+        at_hold.iter().any(|&p| found.next.is_some_and(|next| less(bid(p), next))),
+        !job.keeps(last, s[last], tiles),
+        full(last) && !too_heavy(last),
+        job.holds[last] > 0 && !full(last),
+    ];
+    let fits = [!at_hold.is_empty(), job.holds[last] > 0 && tiles - s[last] == job.holds[last] as usize];
+    let (from, ends) = if found.fits() { (5, &fits[..]) } else { (0, &fails[..]) };
+    for (count, &is) in c.held_trials[from..].iter_mut().zip(ends) {
         *count += is as u64;
     }
 }
@@ -273,7 +299,7 @@ fn at_every_bid(c: &mut Check, t: &Case) {
                 in_order(c, t, before, found);
             }
             before = found;
-            lent = c.after(2);
+            lent = c.after(3);
         }
     }
 }
@@ -297,7 +323,7 @@ fn in_turn(c: &mut Check, t: &Case, from: Bound, most: usize) {
             }
         }
         for near in [short, next] {
-            lent = c.after(2);
+            lent = c.after(3);
             one(c, t, near, &lent, 3);
         }
         bound = next;
@@ -308,10 +334,12 @@ fn in_turn(c: &mut Check, t: &Case, from: Bound, most: usize) {
 const MORE: usize = 4;
 
 /// Of a trial that fits the least greater bound at which its walk is another: each machine that it came to, but the last of them, bids its
-/// share with the next tile added. There is none where one machine has all tiles.
+/// share with the next tile added if it can hold that. There is none where one machine has all tiles, or all but the last are at their holds.
 fn next_walk(job: &Job, found: &Trial) -> Option<Bound> {
-    let share = |p: usize| (job.load(found.separators[p], found.separators[p + 1] + 1), job.speeds[p] as u128);
-    (1..found.machines?).map(|p| share(p - 1)).reduce(|a, b| if less(b, a) { b } else { a })
+    let s = &found.separators;
+    let share = |p: usize| (job.load(s[p], s[p + 1] + 1), job.speeds[p] as u128);
+    let bids = (1..found.machines?).map(|p| p - 1).filter(|&p| job.keeps(p, s[p], s[p + 1] + 1));
+    bids.map(share).reduce(|a, b| if less(b, a) { b } else { a })
 }
 
 /// From a bound that fits on to those at which the walk is another, as little below each and at it, until one machine has all tiles or so many
@@ -321,7 +349,7 @@ fn to_fewer(c: &mut Check, t: &Case, from: (Bound, Trial), most: usize) {
     for _ in 0..most {
         let Some(next) = next_walk(&t.job, &at.1) else { return };
         for near in [below(next).filter(|&short| less(at.0, short)), Some(next)].into_iter().flatten() {
-            let lent = c.after(2);
+            let lent = c.after(3);
             let Some(found) = one(c, t, near, &lent, 3) else { return };
             let found = (near, found);
             in_order(c, t, &at, &found);
@@ -335,8 +363,11 @@ fn to_fewer(c: &mut Check, t: &Case, from: (Bound, Trial), most: usize) {
 
 /// The same job with tiles of weight 0 put in, most of them where shares end: each machine takes along those behind its last tile, and
 /// nothing else changes, but that without other tiles machine 1 is come to. Where there is start-up work and the first machine takes no
-/// tile, none is put in front of all others, since that tile could be taken.
+/// tile, none is put in front of all others, since that tile could be taken. With holds a tile more could be one too many.
 fn padded(c: &mut Check, t: &Case, bound: Bound) {
+    if t.job.has_holds() {
+        return;
+    }
     let found = methods::trial(&t.job, bound);
     let tiles = t.job.weights.len();
     let mut room = TILES - tiles;
@@ -353,7 +384,7 @@ fn padded(c: &mut Check, t: &Case, bound: Bound) {
         weights.push(w);
         weights.resize(weights.len() + more[i + 1], 0);
     }
-    let other = Case::of(&Job { startup: t.job.startup, speeds: t.job.speeds.clone(), weights });
+    let other = Case::of(&Job { weights, ..t.job.clone() });
     let mut separators: Vec<usize> = found.separators.iter().map(|&s| s + more[..=s].iter().sum::<usize>()).collect();
     separators[0] = 0;
     let least = !other.job.weights.is_empty() as usize;
@@ -375,11 +406,17 @@ fn every_reach(c: &mut Check, tiles: usize, reached: &[usize]) {
         let startup = second.then(|| c.rng.pick(&[1, 2, 7, 1_000, STARTUP]));
         let weight = c.rng.range(1, 9);
         let weights = [vec![0; taken], vec![weight; tiles - taken]].concat();
-        let t = Case::of(&Job { startup, speeds: [vec![1; machines - 1], vec![SPEED]].concat(), weights });
+        let t = Case::of(&Job::of(startup, &[vec![1; machines - 1], vec![SPEED]].concat(), &weights));
         for &many in reached.iter().filter(|&&many| many <= tiles - taken) {
             let bound = (t.job.c() + many as u128 * weight as u128, SPEED as u128);
             let lent = list_with_room(&mut c.rng, &t, bound);
             one(c, &t, bound, &lent, 3);
+            // A last machine that could carry all, and holds so many.
+            if machines == 2 && many > 0 && c.rng.once_in(2) {
+                let held = Case::of(&t.job.holding(vec![0, many as u16]));
+                let all = (t.job.c() + (tiles - taken) as u128 * weight as u128, SPEED as u128);
+                one(c, &held, all, &lent, 3);
+            }
         }
     }
 }
@@ -403,7 +440,7 @@ fn left_over(r: &mut Rng, job: &Job, bound: Bound) -> Job {
         let at = rest + r.below(weights.len() - rest);
         weights[at] = r.pick(&[1, 2, WEIGHT]);
     }
-    Job { startup: job.startup, speeds: job.speeds.clone(), weights }
+    Job { weights, ..job.clone() }
 }
 
 /// A job of this size at bounds about its ideal: as it comes, and with what is left for the last machine made anew. The last machine is
@@ -491,7 +528,7 @@ fn strip_tried(c: &mut Check, t: &Case, bounds: &[Bound]) {
         if let (Some(before), Some(found)) = (&before, &found) {
             in_order(c, t, before, found);
         }
-        (before, lent) = (found, c.after(2));
+        (before, lent) = (found, c.after(3));
     }
     let bound = c.rng.pick(bounds);
     refilled(c, t, if less(bound, t.bottleneck) { t.bottleneck } else { bound });
@@ -563,9 +600,16 @@ pub fn run(c: &mut Check, times: usize) {
         at_every_bid(c, &Case::of(job));
     });
     small::every_job(&mut |job| {
-        if c.rng.once_in(3) {
+        if c.rng.once_in(4) {
             c.jobs_seen += 1;
             let t = Case::of(&small::in_second(&mut c.rng, job));
+            at_every_bid(c, &t);
+        }
+        if c.rng.once_in(4) {
+            c.jobs_seen += 1;
+            let second = c.rng.once_in(3);
+            let job = if second { small::in_second(&mut c.rng, job) } else { job.clone() };
+            let t = Case::of(&small::held(&mut c.rng, &job));
             at_every_bid(c, &t);
         }
     });
@@ -574,7 +618,7 @@ pub fn run(c: &mut Check, times: usize) {
         let t = Case::of(&small::near_job(&mut c.rng));
         at_every_bid(c, &t);
     }
-    for _ in 0..15_000 * times {
+    for _ in 0..13_000 * times {
         random(c);
     }
     for tiles in 0..=100 {

@@ -5,7 +5,7 @@ use native.Mathlib.Omega.{arith}
 use Rattle.chain.specs.Job.{editionOf, Job, jobOf}
 use Rattle.refusals.proofs.Accepted.{accepted, passed}
 use Rattle.planner.specs.Answers.{methodRefusal}
-use Rattle.planner.proofs.Laws.{method-refused, method-accepted}
+use Rattle.planner.proofs.Laws.{method-refused, method-accepted, taken-by}
 use borrow.Author.Needs.{needs}
 use Rattle.planner.proofs.plan_by.Statement.{statement}
 use Rattle.planner.proofs.plan_by.Tie as tie
@@ -26,7 +26,8 @@ returns c =
 plan-in-requires : tie.Need-plan-in-requires
 plan-in-requires c κs =
     let t = passed ((c .before .before .before .test-method) .ensures) ((c .before .before .if1) .left) in
-    (t .valid, (t .lists .0, t .lists .1 .0))
+    let m = c .before .before .before .before .before .before .before .before .before .args .method in
+    (record { valid = t .valid; enough-holds = t .keeping .0; taken = taken-by m _ (t .free) }, (t .lists .0, t .lists .1 .0))
 
 same-length : tie.Need-same-length
 same-length c = search needs

@@ -17,23 +17,22 @@ job-at s = jobOf (s .args .startup) (s .args .speeds .now) (s .args .holds .now)
 prefix-sums-requires : tie.Need-prefix-sums-requires
 prefix-sums-requires c κs =
     let p = (c .before .before .before .before .before .before .pre) in
-    (weights-fit (p .0), omega (arith, p .1 .1))
+    (weights-fit (p .0 .valid), omega (arith, p .1 .1))
 
 run-method-requires : tie.Need-run-method-requires
 run-method-requires c κs =
     let s = c .before .before .before .before .before .before .before .before .before .before .before in
     let job : Job = job-at s in
-    let v = s .pre .0 in
+    let v = s .pre .0 .valid in
     let e = c .before .before .before .before .prefix-sums .ensures in
-    (sums-ready {job = job} _ v e, (s .pre .1 .0, omega (arith, s .pre .1 .1, summed-kept job (s .args .scratch .now) e (s .pre .1 .1) .same)))
+    ((sums-ready {job = job} _ v e, s .pre .0), (s .pre .1 .0, omega (arith, s .pre .1 .1, summed-kept job (s .args .scratch .now) e (s .pre .1 .1) .same)))
 
 close-plan-requires : tie.Need-close-plan-requires
 close-plan-requires c κs =
     let s = c .before .before .before .before .before .before .before .before .before .before .before .before .before .before .before .before .before .before in
     let job : Job = job-at s in
-    let v = s .pre .0 in
     let r = c .before .before .before .before .before .before .run-method .ensures in
-    (r .1 .1 .1 .0, (omega (arith, s .pre .1 .0, r .1 .1 .0 .same), (r .0, r .1 .0)))
+    ((r .1 .1 .1 .0, s .pre .0), (omega (arith, s .pre .1 .0, r .1 .1 .0 .same), (r .0, r .1 .0)))
 
 same-length : tie.Need-same-length
 same-length c = search needs

@@ -9,7 +9,7 @@ use Rattle.refusals.specs.Inputs.{scratchNeeded}
 use Rattle.parts.proofs.Front.{kept-start, kept-written}
 use Rattle.probe.proofs.Answer.{walk-count}
 use Rattle.dynamic.proofs.Laws.{tabled-ready, tabled-small}
-use Rattle.planner.proofs.Laws.{ends-table, ends-bidding, ends-bisection, ends-nicol, ended-lendable, tabled-kept}
+use Rattle.planner.proofs.Laws.{ends-table, ends-bidding, ends-bisection, ends-nicol, ended-lendable, tabled-kept, taken-free}
 use borrow.Author.Needs.{needs}
 use Rattle.planner.proofs.run_method.Statement.{statement}
 use Rattle.planner.proofs.run_method.Tie as tie
@@ -40,7 +40,9 @@ enum-told-4 : tie.Need-enum-told-4
 enum-told-4 c = search needs
 
 nicol-in-requires : tie.Need-nicol-in-requires
-nicol-in-requires c κs = search needs
+nicol-in-requires c κs =
+    let s = c .before .before .before .before .before .before .before .before .before in
+    (record { ready = s .pre .0 .0; free = taken-free (c .before .before .enum-told4 .given .1) (s .pre .0 .1) }, s .pre .1 .0)
 
 same-length : tie.Need-same-length
 same-length c = search needs
@@ -52,8 +54,8 @@ returns c =
     let t = (c .before .before .table-in) .ensures in (
       ends-table ((c .before .before .before .before .enum-told) .given .1) t,
       (
-        small-lendable (tabled-small t (p .0 .valid)),
-        (kept-start (suc (length (s .args .speeds .now))) (s .args .separators .now), (tabled-ready t (p .0), tabled-kept t)),
+        small-lendable (tabled-small t (p .0 .0 .valid) (p .0 .1 .enough-holds)),
+        (kept-start (suc (length (s .args .speeds .now))) (s .args .separators .now), (tabled-ready t (p .0 .0), tabled-kept t)),
       ),
     )
 
@@ -72,10 +74,10 @@ returns-2 c =
     let b = kept-start (suc (length (s .args .speeds .now))) (s .args .separators .now) in (
       ends-bidding ((c .before .before .before .before .before .enum-told2) .given .1) (r .ensures .0),
       (
-        ended-lendable (p .0 .valid) (r .ensures .0),
+        ended-lendable (p .0 .0 .valid) (p .0 .1 .enough-holds) (r .ensures .0),
         (
-          kept-written (walk job (r .result .bound)) _ b (p .1 .0) (walk-count (p .0 .valid) (r .result .bound)) (r .ensures .1),
-          (p .0, kept-start (scratchNeeded job) (s .args .scratch .now)),
+          kept-written (walk job (r .result .bound)) _ b (p .1 .0) (walk-count (p .0 .0 .valid) (r .result .bound)) (r .ensures .1),
+          (p .0 .0, kept-start (scratchNeeded job) (s .args .scratch .now)),
         ),
       ),
     )
@@ -92,7 +94,7 @@ returns-3 c =
     let p = (c .before .before .before .before .before .before .before .before .before .before .before .before .pre) in
     let job : Job = job-at s in
     let r = (c .before .before .bisection-in) .ensures in
-    (ends-bisection ((c .before .before .before .before .before .enum-told3) .given .1) (r .0), (r .1 .0, (r .1 .1, (p .0, kept-start (scratchNeeded job) (s .args .scratch .now)))))
+    (ends-bisection ((c .before .before .before .before .before .enum-told3) .given .1) (r .0), (r .1 .0, (r .1 .1, (p .0 .0, kept-start (scratchNeeded job) (s .args .scratch .now)))))
 
 same-length-6 : tie.Need-same-length-6
 same-length-6 c = search needs
@@ -106,7 +108,7 @@ returns-4 c =
     let p = (c .before .before .before .before .before .before .before .before .before .before .before .before .pre) in
     let job : Job = job-at s in
     let r = (c .before .before .nicol-in) .ensures in
-    (ends-nicol ((c .before .before .before .before .before .enum-told4) .given .1) (r .0), (r .1 .0, (r .1 .1, (p .0, kept-start (scratchNeeded job) (s .args .scratch .now)))))
+    (ends-nicol ((c .before .before .before .before .before .enum-told4) .given .1) (r .0), (r .1 .0, (r .1 .1, (p .0 .0, kept-start (scratchNeeded job) (s .args .scratch .now)))))
 
 pub run-method-spec : {M : Type 1} → statement M
 run-method-spec =

@@ -1,9 +1,11 @@
 -- `plan_read` meets its contract: the tests of the buffer and of the holds, then the plan.
 -- Assumes nothing.
+use mathlib.Core.Path.{sym, _∙_}
 use native.Mathlib.Omega.{arith}
 use Rattle.chain.specs.Limits.{maxProcessors}
 use Rattle.chain.specs.Job.{Job, jobOf}
 use Rattle.refusals.specs.Methods.{numberOf}
+use Rattle.planner.proofs.Laws.{kept-tested}
 use Rattle.planner.proofs.Reading.{host-short, host-holds, host-full}
 use borrow.Author.Needs.{needs}
 use Rattle.planner.proofs.host.plan_read.Statement.{statement}
@@ -31,7 +33,9 @@ returns-2 c =
     host-holds (numberOf (s .args .method)) (job-at s) (s .args .plan .now) (omega arith) (c .before .test-kept .ensures) (c .if2 .taken)
 
 write-best-requires : tie.Need-write-best-requires
-write-best-requires c κs = search needs
+write-best-requires c κs =
+    let s = c .before .before .before .before .before .before .before .before in
+    (kept-tested (s .args .method) (s .pre) (sym (c .before .before .test-kept .ensures) ∙ c .before .if2 .left), omega arith)
 
 same-length : tie.Need-same-length
 same-length c = search needs

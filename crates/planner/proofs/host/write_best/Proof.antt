@@ -7,7 +7,7 @@ use Rattle.chain.specs.Plan.{planOf}
 use Rattle.chain.proofs.Parts.{valid-plannable}
 use Rattle.chain.proofs.Demand.{plan-of-best}
 use Rattle.parts.proofs.Front.{front-partition}
-use Rattle.planner.proofs.Laws.{plan-length}
+use Rattle.planner.proofs.Laws.{plan-length, tested-plannable}
 use Rattle.planner.proofs.Reading.{best-bytes}
 use borrow.Author.Needs.{needs}
 use Rattle.planner.proofs.host.write_best.Statement.{statement}
@@ -26,8 +26,8 @@ slice-aggregate-plan-in-2 c = search needs
 plan-in-requires : tie.Need-plan-in-requires
 unfolding maxProcessors maxTasks
 plan-in-requires c κs =
-    let v = c .before .before .before .before .before .before .pre .0 in
-    (v, (omega (arith, v .processors-limit), omega (arith, v .tasks-limit)))
+    let t = c .before .before .before .before .before .before .pre .0 in
+    (t, (omega (arith, t .valid .processors-limit), omega (arith, t .valid .tasks-limit)))
 
 slice-aggregate-put-plan : tie.Need-slice-aggregate-put-plan
 slice-aggregate-put-plan c = search needs
@@ -40,7 +40,7 @@ put-plan-requires c κs =
     let s = c .before .before .before .before .before .before .before .before .before .before .before .before in
     let job : Job = job-at s in
     let g = c .before .before .before .before .before .plan-in .ensures in
-    (g .1 .1 .1, (front-partition (planOf job) _ (plan-of-best (valid-plannable (s .pre .0)) .partition) (g .1 .0), s .pre .1))
+    (g .1 .1 .1, (front-partition (planOf job) _ (plan-of-best (tested-plannable (s .pre .0)) .partition) (g .1 .0), s .pre .1))
 
 same-length : tie.Need-same-length
 same-length c = search needs
@@ -50,7 +50,7 @@ returns c =
     let s = c .before .before .before .before .before .before .before .before .before .before .before .before .before .before .before in
     let job : Job = job-at s in
     let g = c .before .before .before .before .before .before .before .before .plan-in .ensures in
-    best-bytes job _ _ _ (plan-length (s .pre .0)) (g .1 .0) (c .before .before .put-plan .ensures)
+    best-bytes job _ _ _ (plan-length (s .pre .0 .valid)) (g .1 .0) (c .before .before .put-plan .ensures)
 
 pub write-best-spec : {M : Type 1} → statement M
 write-best-spec =
