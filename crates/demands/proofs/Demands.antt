@@ -15,12 +15,12 @@ use Rattle.chain.specs.Job.{Edition, startupOf, Job, jobOf, bottleneck}
 use Rattle.chain.specs.Plan.{planOf, Best}
 use Rattle.chain.specs.Probe as probing
 use Rattle.chain.specs.Heuristic as guessing
-use Rattle.chain.specs.Refusal.{Test, eachBetween, methodTest, startupTest, speedsTest, weightsTest, processorsTest, tasksTest, rowTest, lengthTest, holdsTest, enoughTest, freeTest, boundTest, partitionTest, planLengthTest, joinedTest, trueTest, firstRefusal, jobTests, planTests, nothing, callTests, refusal, measureInputs, halvingInputs}
+use Rattle.chain.specs.Refusal.{Test, eachBetween, methodTest, startupTest, speedsTest, weightsTest, processorsTest, tasksTest, rowTest, lengthTest, holdsTest, enoughTest, freeTest, boundTest, partitionTest, planLengthTest, joinedTest, trueTest, firstRefusal, jobTests, planTests, Inputs, nothing, callTests, refusal, measureInputs, halvingInputs}
 use Rattle.chain.proofs.Demand.{plan-of-best}
 use Rattle.chain.proofs.Parts.{valid-plannable}
 use Rattle.chain.proofs.Refusals.{Numbered, numbered-nil, numbered-cons, numbered-append, numbered-map, call-numbered, plan-numbered, accepted-passes, passes-accepted, gives}
 use Rattle.fields.specs.Field.{Bytes}
-use Rattle.refusals.specs.Inputs.{planNeeded, freeBy, probeInputs, heuristicInputs, planInputs, writeInputs, writePlanInputs}
+use Rattle.refusals.specs.Inputs.{planNeeded, planLists, freeBy, probeInputs, heuristicInputs, planInputs, writeInputs, writePlanInputs}
 use Rattle.refusals.specs.Answers.{Said, saidBy}
 use Rattle.refusals.proofs.Answering.{said-alone, said-nothing, number-of}
 use Rattle.refusals.proofs.Lent.{lent-refused}
@@ -105,6 +105,30 @@ free-ordered m job = go (eqb m 4)
     go true = unfold freeTest in refl
     go false = refl
 
+-- What planning takes beside the job, with these jobs for the test 18.
+abbrev pub planning : ℕ → Job → ℕ → ℕ → List Job → Inputs
+planning m job separators scratch free =
+    record {
+      methods = m ∷ [];
+      rows = [];
+      lists = (planLists job separators scratch) .lists;
+      keeping = job ∷ [];
+      free = free;
+      bounds = [];
+      divisions = [];
+      plans = [];
+    }
+
+plan-ordered : (m : ℕ) (job : Job) (separators scratch : ℕ)
+    → numbersOf (callTests job (planInputs job m separators scratch)) ≡ 1 ∷ 16 ∷ 5 ∷ 6 ∷ 7 ∷ 8 ∷ 9 ∷ 9 ∷ 9 ∷ 17 ∷ freeOrder m
+unfolding freeBy freeOrder
+plan-ordered m job separators scratch = go (eqb m 4)
+  where
+    go : (b : Bool) → numbersOf (callTests job (planning m job separators scratch (cond b (job ∷ []) [])))
+        ≡ 1 ∷ 16 ∷ 5 ∷ 6 ∷ 7 ∷ 8 ∷ 9 ∷ 9 ∷ 9 ∷ 17 ∷ cond b (18 ∷ []) []
+    go true = unfold callTests jobTests methodTest startupTest speedsTest weightsTest processorsTest tasksTest holdsTest lengthTest enoughTest freeTest in refl
+    go false = unfold callTests jobTests methodTest startupTest speedsTest weightsTest processorsTest tasksTest holdsTest lengthTest enoughTest in refl
+
 ordered : (call : Call) → numbersOf (tests call) ≡ order call
 unfolding readTests hostTests hostFileTests holdTests listTests gradeTests planTests callTests jobTests methodTest startupTest speedsTest weightsTest processorsTest tasksTest rowTest lengthTest holdsTest enoughTest freeTest boundTest partitionTest planLengthTest joinedTest trueTest
 ordered (TestJob g) = refl
@@ -116,7 +140,7 @@ ordered (Measure g s) = refl
 ordered (Probe g B s) = refl
 ordered (Heuristic g s) = refl
 ordered (Halving g s) = refl
-ordered (Plan m g s t) = ap (λ (ns : List ℕ). 1 ∷ 16 ∷ 5 ∷ 6 ∷ 7 ∷ 8 ∷ 9 ∷ 9 ∷ 9 ∷ 17 ∷ ns) (free-ordered m (jobBy g))
+ordered (Plan m g s t) = plan-ordered m (jobBy g) (length s) (length t)
 ordered (WritePlan g s plan) = refl
 ordered (Grade g plan) = refl
 ordered (ListJob file out) = refl

@@ -13,17 +13,15 @@ use lib.ListN.{length}
 use Rattle.chain.specs.Job.{Job, Valid, Partition, partLoad, at, bottleneck}
 use Rattle.chain.specs.Halving.{Halvable}
 use Rattle.chain.specs.Halving as splitting
-use Rattle.chain.specs.Refusal.{Test, rowTest, lengthTest, firstRefusal, jobTests, separatorsNeeded, halvingInputs, callTests, refusal}
+use Rattle.chain.specs.Refusal.{Test, startupTest, speedsTest, weightsTest, processorsTest, tasksTest, rowTest, lengthTest, holdsTest, freeTest, firstRefusal, jobTests, separatorsNeeded, halvingInputs, callTests, refusal}
 use Rattle.chain.proofs.Refusals.{pass-skip, first-refusal-append, first-refusal-before, refused-first, oneOf, given-number, job-numbered, job-accepted}
 use Rattle.chain.proofs.Halving.{row-test, halving-one}
 use Rattle.refusals.specs.Inputs.{heuristicInputs}
 use Rattle.refusals.proofs.Accepted.{accepted}
-use Rattle.refusals.proofs.Promises.{job-numbers}
-use Rattle.refusals.proofs.Tests.{length-enough}
 use Rattle.calls.specs.declared.Measured.the-variants.{Bottleneck}
 use Rattle.calls.specs.Answers.{measuredOf, halvingAnswer}
 use Rattle.calls.proofs.Promises.{heuristic-number, halving-number, halving-promise}
-use Rattle.demands.specs.Call.{ByLists, jobBy, TestJob, Heuristic, Halving}
+use Rattle.demands.specs.Call.{ByLists, jobBy, Heuristic, Halving}
 use Rattle.demands.specs.Demands.{number, Accepts, front}
 use Rattle.demands.specs.Halvings.{HalvedRow, Halvings}
 
@@ -46,55 +44,56 @@ halved g s e =
       alone = λ k. h .front ∙ halving-one job (h .row) k;
     }
 
--- The tests of the call: those of the job, then the row's and the list's.
+-- The tests of the call: those of the job, then the row's, those of the lists and that of the holds.
 module _ (job : Job) (lent : ℕ) where
+  lists-and-holds : List Test
+  lists-and-holds = holdsTest job ∷ lengthTest (separatorsNeeded job) lent ∷ freeTest job ∷ []
+
   row-and-list : List Test
-  row-and-list = rowTest (job .speeds) ∷ lengthTest (separatorsNeeded job) lent ∷ []
+  row-and-list = rowTest (job .speeds) ∷ lists-and-holds
 
   tests-are : refusal job (halvingInputs job lent) ≡ firstRefusal (jobTests job ++ row-and-list)
-  unfolding refusal callTests jobTests row-and-list
+  unfolding refusal callTests jobTests row-and-list lists-and-holds
   tests-are = refl
 
-  -- Where the job is within its limits, the row and the list decide.
+  -- Where the job is within its limits, the row and those behind decide.
   past-job : firstRefusal (jobTests job) ≡ 0 → refusal job (halvingInputs job lent) ≡ firstRefusal row-and-list
   past-job z = tests-are ∙ first-refusal-append (jobTests job) row-and-list (job-numbered job) z
 
-  past-row : firstRefusal (jobTests job) ≡ 0 → Halvable (job .speeds) → refusal job (halvingInputs job lent) ≡ firstRefusal (lengthTest (separatorsNeeded job) lent ∷ [])
+  past-row : firstRefusal (jobTests job) ≡ 0 → Halvable (job .speeds) → refusal job (halvingInputs job lent) ≡ firstRefusal lists-and-holds
   unfolding row-and-list
-  past-row z row = past-job z ∙ pass-skip (rowTest (job .speeds)) (lengthTest (separatorsNeeded job) lent ∷ []) ((row-test (job .speeds)) .1 row)
+  past-row z row = past-job z ∙ pass-skip (rowTest (job .speeds)) lists-and-holds ((row-test (job .speeds)) .1 row)
 
   row-fails : firstRefusal (jobTests job) ≡ 0 → (T ((rowTest (job .speeds)) .passes) → ⊥) → firstRefusal (jobTests job ++ row-and-list) ≡ 14
   unfolding row-and-list rowTest
   row-fails z none =
-      refused-first (jobTests job) (rowTest (job .speeds)) (lengthTest (separatorsNeeded job) lent ∷ []) (job-numbered job) z (go ((rowTest (job .speeds)) .passes) none)
+      refused-first (jobTests job) (rowTest (job .speeds)) lists-and-holds (job-numbered job) z (go ((rowTest (job .speeds)) .passes) none)
     where
       go : (b : Bool) → (T b → ⊥) → b ≡ false
       go true h = absurd (h tt)
       go false h = refl
 
   -- So of the heuristic, without the row's test.
-  list-is : refusal job (heuristicInputs job lent) ≡ firstRefusal (jobTests job ++ lengthTest (separatorsNeeded job) lent ∷ [])
-  unfolding refusal callTests jobTests
+  list-is : refusal job (heuristicInputs job lent) ≡ firstRefusal (jobTests job ++ lists-and-holds)
+  unfolding refusal callTests jobTests lists-and-holds
   list-is = refl
 
-  past-list : firstRefusal (jobTests job) ≡ 0 → refusal job (heuristicInputs job lent) ≡ firstRefusal (lengthTest (separatorsNeeded job) lent ∷ [])
-  past-list z = list-is ∙ first-refusal-append (jobTests job) (lengthTest (separatorsNeeded job) lent ∷ []) (job-numbered job) z
+  past-list : firstRefusal (jobTests job) ≡ 0 → refusal job (heuristicInputs job lent) ≡ firstRefusal lists-and-holds
+  past-list z = list-is ∙ first-refusal-append (jobTests job) lists-and-holds (job-numbered job) z
 
-  accepted-list : Valid job → separatorsNeeded job ≤ lent
-      → (refusal job (heuristicInputs job lent) ≡ 0) × (Halvable (job .speeds) → refusal job (halvingInputs job lent) ≡ 0)
-  accepted-list v h =
-      let z = job-accepted .1 v in
-      let l = sym (length-enough (separatorsNeeded job) lent h) in
-      (past-list z ∙ l, λ row. past-row z row ∙ l)
+  -- Once the job is valid and the row can be halved, the two calls give one number.
+  same-list : Valid job → Halvable (job .speeds) → refusal job (halvingInputs job lent) ≡ refusal job (heuristicInputs job lent)
+  same-list v row = let z = job-accepted .1 v in past-row z row ∙ sym (past-list z)
 
 accepts : (g : ByLists) (s : List ℕ) → Accepts (Halving g s) ↔ (Accepts (Heuristic g s) × Halvable (g .speeds))
 accepts g s = (
   λ e.
-      let a = accepted (sym (halving-number job s) ∙ e) in
-      (heuristic-number job s ∙ accepted-list job (length s) (a .valid) (a .lists .0) .0, a .rows .0),
+      let z = sym (halving-number job s) ∙ e in
+      let a = accepted z in
+      (heuristic-number job s ∙ sym (same-list job (length s) (a .valid) (a .rows .0)) ∙ z, a .rows .0),
   λ (e, row).
-      let a = accepted (sym (heuristic-number job s) ∙ e) in
-      halving-number job s ∙ accepted-list job (length s) (a .valid) (a .lists .0) .1 row,
+      let z = sym (heuristic-number job s) ∙ e in
+      halving-number job s ∙ same-list job (length s) ((accepted z) .valid) row ∙ z,
 )
   where
     job : Job
@@ -113,14 +112,19 @@ not-one n (k ∷ ks) t m = elim (List·Memᴰ·cases-cons m) [ inl e ↦ equal (
     other true u = absurd u
     other false u = u
 
--- 14 is no number of the list's test.
-list-number : (needed given : ℕ) → firstRefusal (lengthTest needed given ∷ []) ≡ 14 → ⊥
-unfolding lengthTest
-list-number needed given e = not-one 14 (0 ∷ 9 ∷ []) tt (given-number (9 ∷ []) (lengthTest needed given ∷ []) (sym e) tt)
+-- 14 is no number of the job's tests, nor of those behind the row's.
+job-number : (job : Job) → firstRefusal (jobTests job) ≡ 14 → ⊥
+unfolding jobTests startupTest speedsTest weightsTest processorsTest tasksTest
+job-number job e =
+    not-one 14 (0 ∷ 16 ∷ 5 ∷ 6 ∷ 7 ∷ 8 ∷ []) tt (given-number (16 ∷ 5 ∷ 6 ∷ 7 ∷ 8 ∷ []) (jobTests job) (sym e) tt)
 
-refuses : (g : ByLists) (s : List ℕ) → (number (Halving g s) ≡ 14) ↔ (Accepts (TestJob g) × (Halvable (g .speeds) → ⊥))
+list-number : (job : Job) (lent : ℕ) → firstRefusal (lists-and-holds job lent) ≡ 14 → ⊥
+unfolding lists-and-holds holdsTest lengthTest freeTest
+list-number job lent e = not-one 14 (0 ∷ 9 ∷ 18 ∷ []) tt (given-number (9 ∷ 18 ∷ []) (lists-and-holds job lent) (sym e) tt)
+
+refuses : (g : ByLists) (s : List ℕ) → (number (Halving g s) ≡ 14) ↔ ((firstRefusal (jobTests (jobBy g)) ≡ 0) × (Halvable (g .speeds) → ⊥))
 refuses g s = (
-  λ e. let z = within (sym (halving-number job s) ∙ e) in (z, λ row. list-number (separatorsNeeded job) (length s) (sym (past-row job (length s) z row) ∙ sym (halving-number job s) ∙ e)),
+  λ e. let z = within (sym (halving-number job s) ∙ e) in (z, λ row. list-number job (length s) (sym (past-row job (length s) z row) ∙ sym (halving-number job s) ∙ e)),
   λ (z, none). halving-number job s ∙ tests-are job (length s) ∙ fourteen z none,
 )
   where
@@ -134,7 +138,8 @@ refuses g s = (
     within e =
         elim (ℕ-discrete (firstRefusal (jobTests job)) 0) [
           | yes z ↦ z
-          | no z ↦ absurd (not-one 14 (0 ∷ 16 ∷ 5 ∷ 6 ∷ 7 ∷ 8 ∷ []) tt (subst (λ (n : ℕ). List·Memᴰ n (0 ∷ 16 ∷ 5 ∷ 6 ∷ 7 ∷ 8 ∷ [])) (sym (first-refusal-before (jobTests job) (row-and-list job (length s)) z) ∙ sym (tests-are job (length s)) ∙ e) (job-numbers job)))
+          | no z ↦
+              absurd (job-number job (sym (first-refusal-before (jobTests job) (row-and-list job (length s)) z) ∙ sym (tests-are job (length s)) ∙ e))
         ]
 
 pub halvings : Halvings

@@ -15,12 +15,12 @@ use Rattle.chain.specs.Plan.{planOf, Best}
 use Rattle.chain.specs.Refusal.{Test, test, between, firstRefusal}
 use Rattle.refusals.specs.Answers.{Said, saidBy, lentAfter}
 use Rattle.jobs.specs.JobFile.{jobBytes}
-use Rattle.jobs.specs.Parse.{speedsOf, holdsOf, weightsOf, jobIn, fileTests, fileRefusal}
+use Rattle.jobs.specs.Parse.{speedsOf, holdsOf, weightsOf, jobIn, fileRefusal}
 use Rattle.planfile.specs.PlanFile.{planBytes}
 use Rattle.grading.specs.Answers.{gradedSaid, readGrade}
 use Rattle.planner.specs.Answers.{planWrites, ScratchAfter}
 use Rattle.listing.specs.Room.{roomFor, listingRoom}
-use Rattle.listing.specs.Listing.{listingOf, intakeFor, listing}
+use Rattle.listing.specs.Listing.{listingOf, listedTests, intakeFor, listing}
 use Rattle.demands.specs.Call.{ByLists, editionBy, jobBy, Call, TestJob, ReadJob, WriteJob, Measure, Probe, Heuristic, Halving, Plan, WritePlan, Grade, ListJob, PlanJob, GradePlan, said, values, tests, numbers, Leaves}
 use Rattle.demands.specs.Demands.{Accepts, front}
 
@@ -86,7 +86,7 @@ Counts call = List·Memᴰ 7 (numbers call)
 abbrev pub listingWith : ℕ → List ℕ → List ℕ
 listingWith limit file =
     let judged = take (intakeFor limit) file in
-    listingOf (firstRefusal (limitedTo limit (length (speedsOf judged)) (fileTests judged))) judged
+    listingOf (firstRefusal (limitedTo limit (length (speedsOf judged)) (listedTests judged))) judged
 
 -- A call answers and leaves with that limit what it does with ours.
 pub record Alike (limit : ℕ) (call : Call) : Type 0 where
