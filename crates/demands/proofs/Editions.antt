@@ -19,13 +19,13 @@ use Rattle.chain.specs.Limits.{maxStartup}
 use Rattle.chain.specs.Probe.{reach, separator}
 use Rattle.chain.specs.Plan.{breadth, difference, biddingAllowance, allowance}
 use Rattle.chain.specs.Refusal.{Test, between, startupTest, processorsTest, tasksTest, firstRefusal, jobTests, callTests, refusal}
+use Rattle.chain.proofs.Cut.{holds-long}
 use Rattle.chain.proofs.Parts.{load-plain, load-some}
 use Rattle.chain.proofs.Refusals.{first-refusal-same}
 use Rattle.chain.proofs.Walk.{reach-unique, separator-to, walked-at}
 use Rattle.chain.proofs.Within.{within-empty, past-of}
 use Rattle.refusals.specs.Inputs.{probeInputs}
 use Rattle.refusals.proofs.Accepted.{accepted}
-use Rattle.refusals.proofs.Holds.{holds-long}
 use Rattle.jobs.specs.declared.JobRead.{JobRead}
 use Rattle.jobs.specs.JobFile.{processorKind, taskKind, startupKind, jobBytes, ExactHolds}
 use Rattle.jobs.specs.Parse.{recordCount, multipleTest, speedsOf, holdsOf, weightsOf, kindAt, isKind, blank, secondIn, editionIn, formTest, orderTest, placeTest, speedTest, weightTest, workTest, recordTests, recordsTests, valueAt, fileTests, fileRefusal}

@@ -100,7 +100,7 @@ accepts g s = (
     job = jobBy g
 
 -- A number that is none of these is none of them.
-not-one : (n : ℕ) (ns : List ℕ) → T (not (oneOf ns n)) → List·Memᴰ n ns → ⊥
+pub not-one : (n : ℕ) (ns : List ℕ) → T (not (oneOf ns n)) → List·Memᴰ n ns → ⊥
 not-one n [] t m = List·Memᴰ·not-nil m
 not-one n (k ∷ ks) t m = elim (List·Memᴰ·cases-cons m) [ inl e ↦ equal (eqb n k) (eq-eqb n k e) t | inr i ↦ not-one n ks (other (eqb n k) t) i ]
   where

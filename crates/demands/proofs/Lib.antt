@@ -4,3 +4,4 @@ pub mod Limit
 pub mod Halvings
 pub mod Trials
 pub mod Editions
+pub mod Holds

@@ -5,3 +5,4 @@ pub mod Limit
 pub mod Halvings
 pub mod Trials
 pub mod Editions
+pub mod Holds

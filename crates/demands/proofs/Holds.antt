@@ -1,0 +1,478 @@
+-- What the holds of the machines change and what they do not: `holdings`.
+-- Assumes nothing.
+use Prim.Native.Nat.{ℕ, zero, suc, _+_, _-_, _*_, _/_, _≤_, _<_}
+use mathlib.Core.Path.{_≡_, refl, sym, ap, ap₂, subst, _∙_}
+use mathlib.Core.Bool.{Bool, true, false, not, cond, _&&_, _||_}
+use mathlib.Core.List.{List, [], _∷_, _++_, map, append-assoc, append-nil, List·Memᴰ, List·Memᴰ·head, List·Memᴰ·tail}
+use mathlib.Core.Logic.{_≢_, _↔_, _⊎_, inl, inr}
+use native.Mathlib.Omega.{arith}
+use native.Mathlib.Decide.{decLe, ℕ-discrete}
+use lib.Dec.{T, eqb, leb, ltb, eqb→eq, leb→le, le→leb, ltb→lt, lt→ltb}
+use lib.ListN.{length, getD, take, replicate}
+use lib.Seq.{length-take-le, take-all, getD-take}
+use borrow.Author.Tests.{eq-eqb, ne-eqb, lt-leb}
+use Rattle.bound.specs.declared.Bound.{Bound}
+use Rattle.bound.specs.Order.{le, pick}
+use Rattle.chain.specs.Lists.{sumTo, all, eachOf}
+use Rattle.chain.specs.Job.{Edition, startupOf, Job, jobOf, freeJob, Valid, tasks, processors, last, speedOf, holdOf, held, enough, partOf, partLoad, totalWeight, heaviest, fastest, slowest, partBound, keeps, within, offer, at, Partition, allKept, boundAt, bottleneckTo, bottleneck, ideal, widest}
+use Rattle.chain.specs.Heuristic.{heuristic}
+use Rattle.chain.specs.Halving.{Halvable}
+use Rattle.chain.specs.Bisection.{firstEnds}
+use Rattle.chain.specs.Plan.{onward, those, partitions, difference}
+use Rattle.chain.specs.Refusal.{Test, test, methodTest, startupTest, speedsTest, weightsTest, processorsTest, tasksTest, rowTest, lengthTest, holdsTest, enoughTest, freeTest, boundTest, isPartition, partitionTest, planLengthTest, joinedTest, trueTest, firstRefusal, jobTests, Inputs, nothing, withMethod, withRow, lending, separatorsNeeded, measureInputs, halvingInputs, callTests, refusal}
+use Rattle.chain.proofs.Cut.{cut-long, long-cut, holds-long, hold-at}
+use Rattle.chain.proofs.Tests.{T-of, T-true, T-false, and-left, and-right, and-both, same-test}
+use Rattle.chain.proofs.Sums.{sum-same-below}
+use Rattle.chain.proofs.Indices.{all-at, all-of}
+use Rattle.chain.proofs.Parts.{Proper, valid-proper}
+use Rattle.chain.proofs.Within.{Free, free-keeps, keeps-cases, keeps-limited, within-keeps, offer-part}
+use Rattle.chain.proofs.Table.{start-unlimited}
+use Rattle.chain.proofs.Enough.{partition-enough, enough-exactly}
+use Rattle.chain.proofs.Refusals.{Numbered, numbered-nil, numbered-cons, numbered-append, numbered-map, pass-skip, first-refusal-append, first-refusal-before, first-refusal-same, refused-first, append-accepted, numbersIn, oneOf, given-number, numbers-append, numbers-more, job-numbered, call-numbered, job-accepted, valid-holds, partition-test}
+use Rattle.chain.proofs.Halving.{row-test}
+use Rattle.fields.specs.Field.{Bytes}
+use Rattle.refusals.specs.Inputs.{planNeeded, scratchNeeded, listInputs, probeInputs, heuristicInputs, freeBy, planInputs, writePlanInputs}
+use Rattle.refusals.proofs.Accepted.{accepted}
+use Rattle.refusals.proofs.Holds.{one-set, some-processor}
+use Rattle.jobs.specs.JobFile.{processorKind, taskKind, noHold, recordBytes, recordsBytes, editionBytes, jobBytes}
+use Rattle.jobs.specs.Parse.{byteAt, isKind, blank, startupIn, speedsOf, holdsOf, weightsOf, jobIn, fileTests, fileRefusal}
+use Rattle.jobs.proofs.Calls.{file-numbered, valid-lists}
+use Rattle.jobs.proofs.Promises.{fromTwo, file-in}
+use Rattle.jobs.proofs.Reading.{holds-length}
+use Rattle.jobs.proofs.RoundTrip.{free-read, accepted-valid}
+use Rattle.calls.proofs.Promises.{measure-number, heuristic-number, halving-number, probe-number}
+use Rattle.planfile.specs.PlanFile.{planRecord, planBytesTo, planBytes, TruePlan}
+use Rattle.planfile.proofs.Promises.{write-plan-number}
+use Rattle.planner.specs.Answers.{planRefusal, planWrites}
+use Rattle.planner.specs.HostCall.{holdTests, hostFileTests, hostTests, hostAnswer}
+use Rattle.planner.proofs.Promises.{plan-number}
+use Rattle.refusals.specs.Answers.{Said}
+use Rattle.demands.specs.Call.{ByLists, editionBy, jobBy, listsIn, Call, TestJob, ReadJob, WriteJob, Measure, Probe, Heuristic, Halving, Plan, WritePlan, Grade, ListJob, PlanJob, GradePlan, said, Leaves}
+use Rattle.demands.specs.Demands.{number, Accepts, front, HostLeft}
+use Rattle.demands.specs.Limit.{processorsIn}
+use Rattle.demands.specs.Editions.{Same}
+use Rattle.demands.specs.Holds.{Held, Short, Indivisible, Ready, PlanReady, HostReady, RefusesShort, Keeping, holding, callHolding, Unheld, testsBefore, Unlimited, BlankHolds, BlankFile, Regardless, Holdings}
+use Rattle.demands.proofs.Demands.{planning, demand-three, lists-job}
+use Rattle.demands.proofs.Grades.{grades}
+use Rattle.demands.proofs.Halvings.{not-one}
+use Rattle.demands.proofs.Trials.{trials}
+
+-- A number is given exactly where the tests before its own pass and its own fails, if no other test has that number: those before and those
+-- behind have the numbers ns.
+module _ (before after : List Test) (k : ℕ) (b : Bool) (ns : List ℕ) (numbered : Numbered before) (first : T (numbersIn ns before))
+    (rest : T (numbersIn ns after)) (other : T (not (oneOf (0 ∷ ns) k))) where
+  exactly-at : {n : ℕ} → n ≡ firstRefusal (before ++ test k b ∷ after) → (n ≡ k) ↔ ((firstRefusal before ≡ 0) × (b ≡ false))
+  exactly-at {n} is = (there, λ (z, f). is ∙ refused-first before (test k b) after numbered z f)
+    where
+      failed : (c : Bool) → firstRefusal (test k c ∷ after) ≡ k → c ≡ false
+      failed true e =
+          absurd (not-one k (0 ∷ ns) other (given-number ns after (sym e ∙ pass-skip (test k true) after tt) rest))
+      failed false e = refl
+
+      there : n ≡ k → (firstRefusal before ≡ 0) × (b ≡ false)
+      there e =
+          elim (ℕ-discrete (firstRefusal before) 0) [
+            | yes z ↦ (z, failed b (sym (first-refusal-append before (test k b ∷ after) numbered z) ∙ sym is ∙ e))
+            | no z ↦ absurd (not-one k (0 ∷ ns) other (given-number ns before (sym e ∙ is ∙ first-refusal-before before (test k b ∷ after) z) first))
+          ]
+
+-- A test that is passed and one that is not.
+not-both : {b : Bool} → b ≡ true → b ≡ false → ⊥
+not-both {b} e f = let z : _≡_ {A = ℕ} 0 1 = cc (sym e ∙ f) in omega arith
+
+is-false : (b : Bool) → (T b → ⊥) → b ≡ false
+is-false true h = absurd (h tt)
+is-false false h = refl
+
+not-false-is : (b : Bool) → not b ≡ false → b ≡ true
+not-false-is true e = refl
+not-false-is false e = sym e
+
+and-true : (b : Bool) → (b && true) ≡ b
+and-true true = refl
+and-true false = refl
+
+-- Every entry of a list is 0, or there is one that is not.
+found : (xs : List ℕ) → (eachOf (λ h. eqb h 0) xs ≡ true) ⊎ ((p : ℕ) × (p < length xs) × (getD xs p 0 ≢ 0))
+unfolding eachOf
+found [] = inl refl
+found (x ∷ xs) =
+    elim (ℕ-discrete x 0) [
+      | no n ↦ inr (0, omega arith, n)
+      | yes e ↦
+          elim (found xs) [
+            | inl f ↦ inl (ap₂ (λ (s t : Bool). s && t) (eq-eqb x 0 e) f)
+            | inr (p, h, n) ↦ inr (suc p, omega arith, n)
+          ]
+    ]
+
+-- The holds of a job by lists, whatever its start-up work is.
+module _ (c : ℕ) (g : ByLists) where
+  abbrev row : Job
+  row = jobOf c (g .speeds) (g .holds) (g .weights)
+
+  abbrev P : ℕ
+  P = length (g .speeds)
+
+  at-hold : (p : ℕ) → p < P → getD (g .holds) p 0 ≡ holdOf row p
+  at-hold p h = hold-at c (g .speeds) (g .holds) (g .weights) p h
+
+  sums : sumTo (λ p. getD (g .holds) p 0) P ≡ sumTo (holdOf row) P
+  sums = sum-same-below P at-hold
+
+  abbrev limits : ℕ → Bool
+  limits p = ltb 0 (holdOf row p)
+
+  -- They are not enough exactly where they fall short,
+  short-exactly : (enough row ≡ false) ↔ Short g
+  unfolding enough
+  short-exactly = (
+    λ e.
+        let t : T (all limits P && ltb (sumTo (holdOf row) P) (length (g .weights))) = T-of (not-false-is (all limits P && ltb (sumTo (holdOf row) P) (length (g .weights))) e) in
+        record {
+          limited = λ p h. let l = ltb→lt 0 (holdOf row p) (all-at limits P (and-left (all limits P) (ltb (sumTo (holdOf row) P) (length (g .weights))) t) p h) in omega (arith, at-hold p h, l);
+          less = let l = ltb→lt (sumTo (holdOf row) P) (length (g .weights)) (and-right (all limits P) (ltb (sumTo (holdOf row) P) (length (g .weights))) t) in omega (arith, sums, l);
+        },
+    λ s.
+        ap not
+        (T-true (all limits P && ltb (sumTo (holdOf row) P) (length (g .weights)))
+        (and-both (all limits P) (ltb (sumTo (holdOf row) P) (length (g .weights)))
+        (all-of limits P (λ p h. lt→ltb 0 (holdOf row p) (omega (arith, at-hold p h, s .limited p h))))
+        (lt→ltb (sumTo (holdOf row) P) (length (g .weights)) (omega (arith, sums, s .less))))),
+  )
+
+  -- which is exactly where there is no division;
+  none-exactly : Proper row → (enough row ≡ false) ↔ Indivisible row
+  none-exactly ok = (
+    λ e s w. not-both (T-true (enough row) (partition-enough row w)) e,
+    λ h. is-false (enough row) (λ t. let s = enough-exactly ok .0 t in h (s .0) (s .1)),
+  )
+
+  -- some are set exactly where one is not 0.
+  set-exactly : P ≤ length (g .holds) → (held row ≡ true) ↔ Held g
+  unfolding held
+  set-exactly long = (λ e. there e (found (take P (g .holds))), λ (p, h, n). sym (one-set c (g .speeds) (g .holds) (g .weights) p h n))
+    where
+      there : not (eachOf (λ h. eqb h 0) (take P (g .holds))) ≡ true
+          → (eachOf (λ h. eqb h 0) (take P (g .holds)) ≡ true) ⊎ ((p : ℕ) × (p < length (take P (g .holds))) × (getD (take P (g .holds)) p 0 ≢ 0)) → Held g
+      there e (inl f) = absurd (not-both e (ap not f))
+      there e (inr (p, h, n)) =
+          let l : p < P = omega (arith, length-take-le P (g .holds) long) in
+          (p, l, λ z. n (getD-take P (g .holds) p 0 l ∙ z))
+
+  -- Parts that keep the holds.
+  keeping : (s : List ℕ) → ((p : ℕ) → p < P → T (keeps row p (at s p) (at s (suc p)))) → Keeping g s
+  keeping s k p h n =
+      elim (keeps-cases row p (at s p) (at s (suc p)) (k p h)) [
+        | inl e ↦ absurd (n (at-hold p h ∙ e))
+        | inr l ↦ omega (arith, at-hold p h, l)
+      ]
+
+-- 17 and 18 of a call that plans: the tests before, those of the holds behind. Neither number is among those before.
+module _ (job : Job) (m : ℕ) (before : List Test) (numbered : Numbered before) (first : T (numbersIn (1 ∷ fromTwo) before)) where
+  abbrev behindBy : List Job → List Test
+  behindBy free = enoughTest job ∷ map freeTest free
+
+  free-is : m ≡ 4 → freeBy m job ≡ job ∷ []
+  unfolding freeBy
+  free-is e = ap (λ (b : Bool). cond b (job ∷ []) []) (eq-eqb m 4 e)
+
+  free-none : m ≢ 4 → freeBy m job ≡ []
+  unfolding freeBy
+  free-none h = ap (λ (b : Bool). cond b (job ∷ []) []) (ne-eqb m 4 h)
+
+  module _ {n : ℕ} (is : n ≡ firstRefusal (before ++ behindBy (freeBy m job))) where
+    seventeen : (n ≡ 17) ↔ ((firstRefusal before ≡ 0) × (enough job ≡ false))
+    unfolding enoughTest freeTest freeBy
+    seventeen =
+        exactly-at before (map freeTest (freeBy m job)) 17 (enough job) (18 ∷ 1 ∷ fromTwo) numbered (numbers-more 18 (1 ∷ fromTwo) before first) (all-free (eqb m 4)) tt is
+      where
+        all-free : (b : Bool) → T (numbersIn (18 ∷ 1 ∷ fromTwo) (map freeTest (cond b (job ∷ []) [])))
+        all-free true = unfold freeTest in tt
+        all-free false = tt
+
+    abbrev all-before : List Test
+    all-before = before ++ enoughTest job ∷ []
+
+    all-numbered : Numbered all-before
+    unfolding enoughTest
+    all-numbered = numbered-append numbered (numbered-cons (omega arith) numbered-nil)
+
+    all-in : T (numbersIn (17 ∷ 1 ∷ fromTwo) all-before)
+    unfolding enoughTest
+    all-in = numbers-append (17 ∷ 1 ∷ fromTwo) before (enoughTest job ∷ []) (numbers-more 17 (1 ∷ fromTwo) before first) tt
+
+    is-four : m ≡ 4 → n ≡ firstRefusal (all-before ++ freeTest job ∷ [])
+    is-four e =
+        is ∙ ap (λ (free : List Job). firstRefusal (before ++ behindBy free)) (free-is e)
+        ∙ ap firstRefusal (sym (append-assoc before (enoughTest job ∷ []) (freeTest job ∷ [])))
+
+    by-four : m ≡ 4 → (n ≡ 18) ↔ ((firstRefusal all-before ≡ 0) × (not (held job) ≡ false))
+    unfolding freeTest
+    by-four e = exactly-at all-before [] 18 (not (held job)) (17 ∷ 1 ∷ fromTwo) all-numbered all-in tt tt (is-four e)
+
+    enough-before : (firstRefusal all-before ≡ 0) ↔ ((firstRefusal before ≡ 0) × (enough job ≡ true))
+    unfolding enoughTest
+    enough-before = (
+      λ z. let a = append-accepted before (enoughTest job ∷ []) numbered z in (a .0, passed (enough job) (a .1)),
+      λ (z, e). first-refusal-append before (enoughTest job ∷ []) numbered z ∙ pass-skip (test 17 (enough job)) [] (T-of e) ∙ unfold firstRefusal in refl,
+    )
+      where
+        passed : (b : Bool) → firstRefusal (test 17 b ∷ []) ≡ 0 → b ≡ true
+        passed true e = refl
+        passed false e = unfold firstRefusal in absurd (let z : ⊥ = omega (arith, e) in z)
+
+    eighteen : (n ≡ 18) ↔ ((firstRefusal before ≡ 0) × (enough job ≡ true) × (m ≡ 4) × (held job ≡ true))
+    eighteen = (
+      λ e. elim (ℕ-discrete m 4) [ yes f ↦ with-four e f | no f ↦ absurd (without f e) ],
+      λ (z, e, f, h). by-four f .1 (enough-before .1 (z, e), ap not h),
+    )
+      where
+        with-four : n ≡ 18 → m ≡ 4 → (firstRefusal before ≡ 0) × (enough job ≡ true) × (m ≡ 4) × (held job ≡ true)
+        with-four e f =
+            let a = by-four f .0 e in
+            let b = enough-before .0 (a .0) in
+            (b .0, b .1, f, not-false-is (held job) (a .1))
+
+        without : m ≢ 4 → n ≡ 18 → ⊥
+        without f e =
+            not-one 18 (0 ∷ 17 ∷ 1 ∷ fromTwo) tt
+            (given-number (17 ∷ 1 ∷ fromTwo) all-before (sym e ∙ is ∙ ap (λ (free : List Job). firstRefusal (before ++ behindBy free)) (free-none f)) all-in)
+
+-- A test is passed.
+length-passes : (needed given : ℕ) → needed ≤ given → T ((lengthTest needed given) .passes)
+unfolding lengthTest
+length-passes needed given h = le→leb needed given h
+
+method-passes : (m : ℕ) → 1 ≤ m → m ≤ 4 → T ((methodTest m) .passes)
+unfolding methodTest
+method-passes m l h = and-both (leb 1 m) (leb m 4) (le→leb 1 m l) (le→leb m 4 h)
+
+-- What the tests before the holds say: by lists,
+module _ (job : Job) where
+  job-none : Valid job → refusal job nothing ≡ 0
+  job-none v = sym (valid-lists job v)
+
+  list-none : (lent : ℕ) → refusal job nothing ≡ 0 → separatorsNeeded job ≤ lent → refusal job (listInputs job lent) ≡ 0
+  unfolding refusal callTests jobTests
+  list-none lent e h =
+      first-refusal-append (callTests job nothing) (lengthTest (separatorsNeeded job) lent ∷ []) (call-numbered job nothing) e
+      ∙ pass-skip (lengthTest (separatorsNeeded job) lent) [] (length-passes (separatorsNeeded job) lent h) ∙ unfold firstRefusal in refl
+
+  abbrev planBefore : ℕ → ℕ → ℕ → Inputs
+  planBefore m a b = withMethod m (lending (separatorsNeeded job) a (lending (scratchNeeded job) b nothing))
+
+  plan-none : (m a b : ℕ) → 1 ≤ m → m ≤ 4 → refusal job nothing ≡ 0 → separatorsNeeded job ≤ a → scratchNeeded job ≤ b → refusal job (planBefore m a b) ≡ 0
+  unfolding refusal callTests jobTests
+  plan-none m a b l k e x y =
+      pass-skip (methodTest m) (callTests job nothing ++ lengthTest (separatorsNeeded job) a ∷ lengthTest (scratchNeeded job) b ∷ []) (method-passes m l k)
+      ∙ first-refusal-append (callTests job nothing) (lengthTest (separatorsNeeded job) a ∷ lengthTest (scratchNeeded job) b ∷ []) (call-numbered job nothing) e
+      ∙ pass-skip (lengthTest (separatorsNeeded job) a) (lengthTest (scratchNeeded job) b ∷ []) (length-passes (separatorsNeeded job) a x)
+      ∙ pass-skip (lengthTest (scratchNeeded job) b) [] (length-passes (scratchNeeded job) b y) ∙ unfold firstRefusal in refl
+
+  plan-in : (m a b : ℕ) → T (numbersIn (1 ∷ fromTwo) (callTests job (planBefore m a b)))
+  unfolding callTests jobTests methodTest startupTest speedsTest weightsTest processorsTest tasksTest holdsTest lengthTest
+  plan-in m a b = tt
+
+  plan-tests : (m a b : ℕ) → callTests job (planInputs job m a b) ≡ callTests job (planBefore m a b) ++ enoughTest job ∷ map freeTest (freeBy m job)
+  unfolding freeBy
+  plan-tests m a b = go (eqb m 4)
+    where
+      go : (t : Bool) → callTests job (planning m job a b (cond t (job ∷ []) [])) ≡ callTests job (planBefore m a b) ++ enoughTest job ∷ map freeTest (cond t (job ∷ []) [])
+      go true = unfold callTests jobTests in refl
+      go false = unfold callTests jobTests in refl
+
+-- and of the C call.
+module _ (file : List ℕ) (m lent : ℕ) where
+  room : Test
+  room = lengthTest (planNeeded (jobIn file)) lent
+
+  hostBefore : List Test
+  hostBefore = methodTest m ∷ (fileTests file ++ room ∷ [])
+
+  host-numbered : Numbered hostBefore
+  unfolding hostBefore room methodTest lengthTest
+  host-numbered = numbered-cons (omega arith) (numbered-append (file-numbered file) (numbered-cons (omega arith) numbered-nil))
+
+  host-in : T (numbersIn (1 ∷ fromTwo) hostBefore)
+  unfolding hostBefore room methodTest lengthTest
+  host-in = numbers-append (1 ∷ fromTwo) (fileTests file) (room ∷ []) (numbers-more 1 fromTwo (fileTests file) (file-in file)) tt
+
+  host-tests : hostTests file m lent ≡ hostBefore ++ enoughTest (jobIn file) ∷ map freeTest (freeBy m (jobIn file))
+  unfolding hostTests hostFileTests holdTests hostBefore room
+  host-tests =
+      ap (λ (ts : List Test). methodTest m ∷ ts)
+      (sym (append-assoc (fileTests file) (room ∷ []) (enoughTest (jobIn file) ∷ map freeTest (freeBy m (jobIn file)))))
+
+-- Planning by lists: it is ready,
+module _ (m : ℕ) (g : ByLists) (s t : List ℕ) where
+  abbrev planned-before : Inputs
+  planned-before = planBefore (jobBy g) m (length s) (length t)
+
+  plan-ready : (refusal (jobBy g) planned-before ≡ 0) ↔ PlanReady m g s t
+  plan-ready = (
+    λ z.
+        let a = accepted z in
+        record {
+          low = a .methods .0 .0;
+          high = a .methods .0 .1;
+          job = job-none (jobBy g) (a .valid);
+          separators = a .lists .0;
+          scratch = a .lists .1 .0;
+        },
+    λ r. plan-none (jobBy g) m (length s) (length t) (r .low) (r .high) (r .job) (r .separators) (r .scratch),
+  )
+
+  plan-is : number (Plan m g s t) ≡ firstRefusal (callTests (jobBy g) planned-before ++ enoughTest (jobBy g) ∷ map freeTest (freeBy m (jobBy g)))
+  unfolding planRefusal refusal
+  plan-is = plan-number (editionBy g) (jobBy g) m s t ∙ ap firstRefusal (plan-tests (jobBy g) m (length s) (length t))
+
+  plan-seventeen : (number (Plan m g s t) ≡ 17) ↔ ((refusal (jobBy g) planned-before ≡ 0) × (enough (jobBy g) ≡ false))
+  unfolding refusal
+  plan-seventeen =
+      seventeen (jobBy g) m (callTests (jobBy g) planned-before) (call-numbered (jobBy g) planned-before) (plan-in (jobBy g) m (length s) (length t)) plan-is
+
+  plan-eighteen : (number (Plan m g s t) ≡ 18)
+      ↔ ((refusal (jobBy g) planned-before ≡ 0) × (enough (jobBy g) ≡ true) × (m ≡ 4) × (held (jobBy g) ≡ true))
+  unfolding refusal
+  plan-eighteen =
+      eighteen (jobBy g) m (callTests (jobBy g) planned-before) (call-numbered (jobBy g) planned-before) (plan-in (jobBy g) m (length s) (length t)) plan-is
+
+-- An accepted job by lists is valid, and its list of holds long enough.
+job-valid : (g : ByLists) → Accepts (TestJob g) → Valid (jobBy g)
+job-valid g e = (accepted e) .valid
+
+job-long : (g : ByLists) → Accepts (TestJob g) → length (g .speeds) ≤ length (g .holds)
+job-long g e = holds-long (startupOf (editionBy g)) (g .speeds) (g .holds) (g .weights) (job-valid g e)
+
+-- With what is tested before, holds that are not enough are those that fall short and those that no division keeps.
+refuses-short : (call : Call) (g : ByLists) (Before : Type 0) → (Before → Proper (jobBy g)) → (number call ≡ 17) ↔ (Before × (enough (jobBy g) ≡ false))
+    → RefusesShort call g Before
+refuses-short call g Before proper (to, from) =
+    record {
+      short = (λ e. let a = to e in (a .0, short-exactly c g .0 (a .1)), λ (b, s). from (b, short-exactly c g .1 s));
+      none = (λ e. let a = to e in (a .0, none-exactly c g (proper (a .0)) .0 (a .1)), λ (b, d). from (b, none-exactly c g (proper b) .1 d));
+    }
+  where
+    c : ℕ
+    c = startupOf (editionBy g)
+
+-- Enough holds do not fall short.
+not-short : (c : ℕ) (g : ByLists) → (enough (jobOf c (g .speeds) (g .holds) (g .weights)) ≡ true) ↔ (Short g → ⊥)
+not-short c g = (λ e s. not-both e (short-exactly c g .1 s), λ h. is-true (enough (row c g)) (λ f. h (short-exactly c g .0 f)))
+  where
+    is-true : (b : Bool) → (b ≡ false → ⊥) → b ≡ true
+    is-true true f = refl
+    is-true false f = absurd (f refl)
+
+plan-short : (m : ℕ) (g : ByLists) (s t : List ℕ) → RefusesShort (Plan m g s t) g (PlanReady m g s t)
+plan-short m g s t =
+    refuses-short (Plan m g s t) g (PlanReady m g s t) (λ r. valid-proper (job-valid g (r .job))) (
+      λ e. let a = plan-seventeen m g s t .0 e in (plan-ready m g s t .0 (a .0), a .1),
+      λ (r, e). plan-seventeen m g s t .1 (plan-ready m g s t .1 r, e),
+    )
+
+plan-held : (m : ℕ) (g : ByLists) (s t : List ℕ) → (number (Plan m g s t) ≡ 18) ↔ (PlanReady m g s t × (Short g → ⊥) × (m ≡ 4) × Held g)
+plan-held m g s t = (
+  λ e.
+      let a = plan-eighteen m g s t .0 e in
+      let r = plan-ready m g s t .0 (a .0) in
+      (r, not-short c g .0 (a .1), a .2, set-exactly c g (job-long g (r .job)) .0 (a .3)),
+  λ (r, h, f, w).
+      plan-eighteen m g s t .1 (plan-ready m g s t .1 r, not-short c g .1 h, f, set-exactly c g (job-long g (r .job)) .1 w),
+)
+  where
+    c : ℕ
+    c = startupOf (editionBy g)
+
+-- A call by lists that takes a list for its separators.
+module _ (g : ByLists) (s : List ℕ) where
+  list-ready : (refusal (jobBy g) (listInputs (jobBy g) (length s)) ≡ 0) ↔ Ready g s
+  list-ready = (
+    λ z. let a = accepted z in record { job = job-none (jobBy g) (a .valid); separators = a .lists .0 },
+    λ r. list-none (jobBy g) (length s) (r .job) (r .separators),
+  )
+
+  trial-short : (B : Bound) → RefusesShort (Probe g B s) g (Ready g s)
+  trial-short B =
+      refuses-short (Probe g B s) g (Ready g s) (λ r. valid-proper (job-valid g (r .job))) (
+        λ e. let a = tests .0 e in (list-ready .0 (a .0), a .1),
+        λ (r, e). tests .1 (list-ready .1 r, e),
+      )
+    where
+      tests : (number (Probe g B s) ≡ 17) ↔ ((refusal (jobBy g) (listInputs (jobBy g) (length s)) ≡ 0) × (enough (jobBy g) ≡ false))
+      tests =
+          unfold refusal callTests jobTests startupTest speedsTest weightsTest processorsTest tasksTest holdsTest lengthTest enoughTest boundTest in
+          exactly-at (callTests (jobBy g) (listInputs (jobBy g) (length s))) (boundTest B ∷ []) 17 (enough (jobBy g)) (10 ∷ 1 ∷ fromTwo)
+          (call-numbered (jobBy g) (listInputs (jobBy g) (length s))) tt tt tt (probe-number (jobBy g) B s)
+
+  quick-held : (number (Heuristic g s) ≡ 18) ↔ (Ready g s × Held g)
+  quick-held = (
+    λ e. let a = tests .0 e in let r = list-ready .0 (a .0) in (r, set-exactly c g (job-long g (r .job)) .0 (not-false-is (held (jobBy g)) (a .1))),
+    λ (r, w). tests .1 (list-ready .1 r, ap not (set-exactly c g (job-long g (r .job)) .1 w)),
+  )
+    where
+      c : ℕ
+      c = startupOf (editionBy g)
+
+      tests : (number (Heuristic g s) ≡ 18) ↔ ((refusal (jobBy g) (listInputs (jobBy g) (length s)) ≡ 0) × (not (held (jobBy g)) ≡ false))
+      tests =
+          unfold refusal callTests jobTests startupTest speedsTest weightsTest processorsTest tasksTest holdsTest lengthTest freeTest in
+          exactly-at (callTests (jobBy g) (listInputs (jobBy g) (length s))) [] 18 (not (held (jobBy g))) fromTwo
+          (call-numbered (jobBy g) (listInputs (jobBy g) (length s))) tt tt tt (heuristic-number (jobBy g) s)
+
+  -- Halving tests the row first.
+  abbrev halvingBefore : Inputs
+  halvingBefore = withRow (g .speeds) (listInputs (jobBy g) (length s))
+
+  row-none : Halvable (g .speeds) → Ready g s → refusal (jobBy g) halvingBefore ≡ 0
+  unfolding refusal callTests jobTests
+  row-none h r =
+      let job = jobBy g in
+      let v = job-valid g (r .job) in
+      let ls = lengthTest (separatorsNeeded job) (length s) ∷ [] in
+      first-refusal-append (jobTests job) (rowTest (g .speeds) ∷ holdsTest job ∷ ls) (job-numbered job) (job-accepted .1 v)
+      ∙ pass-skip (rowTest (g .speeds)) (holdsTest job ∷ ls) (row-test (g .speeds) .1 h)
+      ∙ pass-skip (holdsTest job) ls (valid-holds v)
+      ∙ pass-skip (lengthTest (separatorsNeeded job) (length s)) [] (length-passes (separatorsNeeded job) (length s) (r .separators)) ∙ unfold firstRefusal in refl
+
+  halving-held : (number (Halving g s) ≡ 18) ↔ (Halvable (g .speeds) × Ready g s × Held g)
+  halving-held = (
+    λ e.
+        let a = tests .0 e in
+        let b = accepted (a .0) in
+        let r : Ready g s = record { job = job-none (jobBy g) (b .valid); separators = b .lists .0 } in
+        (b .rows .0, r, set-exactly c g (job-long g (r .job)) .0 (not-false-is (held (jobBy g)) (a .1))),
+    λ (h, r, w). tests .1 (row-none h r, ap not (set-exactly c g (job-long g (r .job)) .1 w)),
+  )
+    where
+      c : ℕ
+      c = startupOf (editionBy g)
+
+      tests : (number (Halving g s) ≡ 18) ↔ ((refusal (jobBy g) halvingBefore ≡ 0) × (not (held (jobBy g)) ≡ false))
+      tests =
+          unfold refusal callTests jobTests startupTest speedsTest weightsTest processorsTest tasksTest rowTest holdsTest lengthTest freeTest in
+          exactly-at (callTests (jobBy g) halvingBefore) [] 18 (not (held (jobBy g))) (14 ∷ fromTwo) (call-numbered (jobBy g) halvingBefore) tt tt tt
+          (halving-number (jobBy g) s)
+
+  -- Separators that break a hold, where all else passes.
+  breaks : (Keeping g (front (jobBy g) s) → ⊥) → isPartition (jobBy g) (front (jobBy g) s) ≡ false
+  breaks h =
+      is-false (isPartition (jobBy g) (front (jobBy g) s))
+      (λ t. h (keeping (startupOf (editionBy g)) g (front (jobBy g) s) (partition-test (jobBy g) (front (jobBy g) s) .0 t .kept)))
+
+  measured : Ready g s → (Keeping g (front (jobBy g) s) → ⊥) → number (Measure g s) ≡ 11
+  unfolding refusal callTests jobTests partitionTest
+  measured r h =
+      measure-number (jobBy g) s
+      ∙ refused-first (callTests (jobBy g) (listInputs (jobBy g) (length s))) (partitionTest (jobBy g) s) [] (call-numbered (jobBy g) (listInputs (jobBy g) (length s))) (list-ready .1 r) (breaks h)
+
+  written : (plan : List ℕ) → Ready g s → planNeeded (jobBy g) ≤ length plan → (Keeping g (front (jobBy g) s) → ⊥) → number (WritePlan g s plan) ≡ 11
+  unfolding refusal callTests jobTests partitionTest lengthTest
+  written plan r l h =
+      let job = jobBy g in
+      let lists = callTests job (listInputs job (length s)) in
+      write-plan-number job s (length plan)
+      ∙ first-refusal-append lists (lengthTest (planNeeded job) (length plan) ∷ partitionTest job s ∷ []) (call-numbered job (listInputs job (length s))) (list-ready .1 r)
+      ∙ refused-first (lengthTest (planNeeded job) (length plan) ∷ []) (partitionTest job s) [] (numbered-cons (omega arith) numbered-nil)
+      (pass-skip (lengthTest (planNeeded job) (length plan)) [] (length-passes (planNeeded job) (length plan) l) ∙ unfold firstRefusal in refl) (breaks h)
