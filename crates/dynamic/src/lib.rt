@@ -62,13 +62,16 @@ fn begin(first: usize, start: Pointer) -> Pointer
     requires { ⌜ start .moves + first < 2 ^ 32 + start .at ⌝ }
     ensures { λ r. ⌜ Begun first (start .at) (start .moves) (r .at) (r .moves) ⌝ }
 {
-    let mut at = start.at;
-    let mut moves = start.moves;
-    while at < first {
-        at += 1;
-        moves += 1;
+    let mut place = start.at;
+    let mut counted = start.moves;
+    while place < first {
+        place += 1;
+        counted += 1;
     }
-    Pointer { at, moves }
+    Pointer {
+        at: place,
+        moves: counted,
+    }
 }
 
 // Inner. The pointer moves on to the crossing of i in the row after row p, which begins at `before`; it is at or past where j begins. At i at the
