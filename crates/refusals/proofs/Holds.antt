@@ -10,24 +10,17 @@ use native.Mathlib.Decide.{decLe}
 use native.Mathlib.Numerals.{add-one}
 use lib.Dec.{T, leb, eqb, ltb, leb→le, le→leb, ltb→lt, lt→ltb}
 use lib.ListN.{length, getD, take}
-use lib.Seq.{length-take-le, take-all, getD-take}
+use lib.Seq.{length-take-le, getD-take}
 use borrow.Author.Tests.{eq-eqb, ne-eqb, not-true, not-false, lt-ltb, le-ltb, le-leb, lt-leb}
 use Rattle.chain.specs.Limits.{maxProcessors}
 use Rattle.chain.specs.Lists.{sumTo, all, eachOf}
 use Rattle.chain.specs.Job.{Job, jobOf, tasks, processors, Valid, holdOf, held, enough}
 use Rattle.chain.specs.Refusal.{processorsTest, lengthTest, holdsTest, enoughTest, freeTest, firstRefusal, jobTests}
+use Rattle.chain.proofs.Cut.{cut-long, long-cut, holds-long, hold-at}
 use Rattle.chain.proofs.Tests.{T-true, and-left, same-test}
 use Rattle.chain.proofs.Indices.{all-at, all-of}
 use Rattle.chain.proofs.Refusals.{pass-head, job-numbered, accepted-passes, job-accepted}
 use Rattle.refusals.proofs.Steps.{fails, passes, passed-all}
-
--- A list is long enough when its cut is.
-pub cut-long : (n : ℕ) (hs : List ℕ) → n ≤ length (take n hs) → n ≤ length hs
-cut-long n hs h =
-    elim (decLe n (length hs)) [ yes k ↦ k | no k ↦ subst (λ (l : List ℕ). n ≤ length l) (take-all n hs (omega arith)) h ]
-
-pub long-cut : (n : ℕ) (hs : List ℕ) → n ≤ length hs → n ≤ length (take n hs)
-long-cut n hs h = omega (arith, length-take-le n hs h)
 
 -- Every entry is 0, or one is not.
 zeros : (xs : List ℕ) → ((p : ℕ) → p < length xs → getD xs p 0 ≡ 0) → eachOf (λ h. eqb h 0) xs ≡ true
@@ -61,14 +54,6 @@ module _ (c : ℕ) (es hs ws : List ℕ) where
       (λ t. le→leb (length es) (length (take (length es) hs)) (long-cut (length es) hs (leb→le (length es) (length hs) t)))
       (λ t. le→leb (length es) (length hs) (cut-long (length es) hs (leb→le (length es) (length (take (length es) hs)) t))))
 
-  -- Every processor has its hold in the list.
-  pub holds-long : Valid job → length es ≤ length hs
-  holds-long v = cut-long (length es) hs (v .holds-given)
-
-  pub hold-at : (p : ℕ) → p < length es → getD hs p 0 ≡ holdOf job p
-  unfolding holdOf
-  hold-at p h = sym (getD-take (length es) hs p 0 h)
-
   -- No hold is set, or one is.
   pub none-set : Valid job → ((p : ℕ) → p < length es → getD hs p 0 ≡ 0) → false ≡ held job
   unfolding held
@@ -76,7 +61,7 @@ module _ (c : ℕ) (es hs ws : List ℕ) where
     where
       at-cut : (p : ℕ) → p < length (take (length es) hs) → getD (take (length es) hs) p 0 ≡ 0
       at-cut p k =
-          let l : p < length es = omega (arith, length-take-le (length es) hs (holds-long v)) in
+          let l : p < length es = omega (arith, length-take-le (length es) hs (holds-long c es hs ws v)) in
           getD-take (length es) hs p 0 l ∙ h p l
 
   pub one-set : (p : ℕ) → p < length es → getD hs p 0 ≢ 0 → true ≡ held job
@@ -89,7 +74,7 @@ module _ (c : ℕ) (es hs ws : List ℕ) where
   one-free p k e =
       sym (ap (λ (t : Bool). not (t && ltb (sumTo (holdOf job) (processors job)) (tasks job)))
       (same-test (all (λ p. ltb 0 (holdOf job p)) (processors job)) false
-      (λ t. let l : 0 < holdOf job p = ltb→lt 0 (holdOf job p) (all-at (λ p. ltb 0 (holdOf job p)) (processors job) t p k) in omega (arith, hold-at p k))
+      (λ t. let l : 0 < holdOf job p = ltb→lt 0 (holdOf job p) (all-at (λ p. ltb 0 (holdOf job p)) (processors job) t p k) in omega (arith, hold-at c es hs ws p k))
       (λ x. absurd x)))
 
   pub all-decide : ((p : ℕ) → p < length es → 0 < holdOf job p) → {sum : ℕ} → sum ≡ sumTo (holdOf job) (length es) → leb (length ws) sum ≡ enough job

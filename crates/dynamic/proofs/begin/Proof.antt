@@ -7,19 +7,19 @@ use Rattle.dynamic.proofs.begin.Statement.{statement}
 use Rattle.dynamic.proofs.begin.Tie as tie
 
 abbrev Inv-loop : tie.InvT-loop
-Inv-loop first at₀ moves₀ at moves = Nearing first at₀ moves₀ at moves
+Inv-loop first place₀ counted₀ place counted = Nearing first place₀ counted₀ place counted
 
 abbrev μ-loop : tie.MeasureT-loop
-μ-loop first at₀ moves₀ at moves = first - at
+μ-loop first place₀ counted₀ place counted = first - place
 
 loop-holds : tie.Need-loop-holds Inv-loop μ-loop
 loop-holds c = nearing-start _ _ _
 
-add-at : tie.Need-add-at Inv-loop μ-loop
-add-at c = omega arith
+add-place : tie.Need-add-place Inv-loop μ-loop
+add-place c = omega arith
 
-add-moves : tie.Need-add-moves Inv-loop μ-loop
-add-moves c = omega (arith, c .before .loop .inv .carried)
+add-counted : tie.Need-add-counted Inv-loop μ-loop
+add-counted c = omega (arith, c .before .loop .inv .carried)
 
 loop-less : tie.Need-loop-less Inv-loop μ-loop
 loop-less c = omega arith
@@ -32,4 +32,4 @@ returns c = nearing-stop (c .before .loop .inv) (omega arith)
 
 pub begin-spec : {M : Type 1} → statement M
 begin-spec =
-    tie.close (tie.spec Inv-loop μ-loop loop-holds add-at add-moves loop-less loop-again returns)
+    tie.close (tie.spec Inv-loop μ-loop loop-holds add-place add-counted loop-less loop-again returns)

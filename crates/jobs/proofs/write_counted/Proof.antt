@@ -8,7 +8,7 @@ use Rattle.chain.specs.Job.{editionOf, Job, jobOf}
 use Rattle.chain.specs.Refusal.{refusal}
 use Rattle.refusals.specs.Inputs.{writeInputs}
 use Rattle.refusals.proofs.Accepted.{accepted}
-use Rattle.refusals.proofs.Holds.{holds-long}
+use Rattle.chain.proofs.Cut.{holds-long}
 use Rattle.jobs.proofs.Writing.{given-holds, write-refused, write-both}
 use borrow.Author.Needs.{needs}
 use Rattle.jobs.proofs.write_counted.Statement.{statement}

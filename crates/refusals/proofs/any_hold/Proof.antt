@@ -4,7 +4,8 @@ use Prim.Native.Nat.{ℕ, _-_, _≤_, _<_}
 use mathlib.Core.Path.{_≡_}
 use native.Mathlib.Omega.{arith}
 use lib.ListN.{length, getD}
-use Rattle.refusals.proofs.Holds.{holds-long, none-set, one-set, zero-more}
+use Rattle.chain.proofs.Cut.{holds-long}
+use Rattle.refusals.proofs.Holds.{none-set, one-set, zero-more}
 use Rattle.refusals.proofs.any_hold.Statement.{statement}
 use Rattle.refusals.proofs.any_hold.Tie as tie
 

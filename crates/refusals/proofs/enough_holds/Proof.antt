@@ -7,7 +7,8 @@ use lib.ListN.{length, getD}
 use Rattle.chain.specs.Limits.{maxProcessors}
 use Rattle.chain.specs.Lists.{sumTo}
 use Rattle.chain.specs.Job.{Job, jobOf, holdOf}
-use Rattle.refusals.proofs.Holds.{holds-long, hold-at, one-free, all-decide, limited-more, sum-none, sum-more}
+use Rattle.chain.proofs.Cut.{holds-long, hold-at}
+use Rattle.refusals.proofs.Holds.{one-free, all-decide, limited-more, sum-none, sum-more}
 use Rattle.refusals.proofs.enough_holds.Statement.{statement}
 use Rattle.refusals.proofs.enough_holds.Tie as tie
 
