@@ -7,47 +7,54 @@ use mathlib.Core.List.{List, [], _∷_, _++_, map, append-assoc, append-nil, Lis
 use mathlib.Core.Logic.{_≢_, _↔_, _⊎_, inl, inr}
 use native.Mathlib.Omega.{arith}
 use native.Mathlib.Decide.{decLe, ℕ-discrete}
-use lib.Dec.{T, eqb, leb, ltb, eqb→eq, leb→le, le→leb, ltb→lt, lt→ltb}
+use lib.Dec.{T, eqb, leb, ltb, leb→le, le→leb, ltb→lt, lt→ltb}
 use lib.ListN.{length, getD, take, replicate}
-use lib.Seq.{length-take-le, take-all, getD-take}
-use borrow.Author.Tests.{eq-eqb, ne-eqb, lt-leb}
+use lib.Seq.{length-take-le, getD-take}
+use borrow.Author.Tests.{eq-eqb, ne-eqb}
 use Rattle.bound.specs.declared.Bound.{Bound}
-use Rattle.bound.specs.Order.{le, pick}
+use Rattle.bound.specs.Order.{le, pick, greater}
 use Rattle.chain.specs.Lists.{sumTo, all, eachOf}
-use Rattle.chain.specs.Job.{Edition, startupOf, Job, jobOf, freeJob, Valid, tasks, processors, last, speedOf, holdOf, held, enough, partOf, partLoad, totalWeight, heaviest, fastest, slowest, partBound, keeps, within, offer, at, Partition, allKept, boundAt, bottleneckTo, bottleneck, ideal, widest}
+use Rattle.chain.specs.Job.{startupOf, Job, jobOf, freeJob, Valid, tasks, processors, last, speedOf, holdOf, held, enough, partOf, partLoad, totalWeight, heaviest, fastest, slowest, partBound, keeps, within, at, allKept, boundAt, bottleneckTo, bottleneck, ideal, widest}
 use Rattle.chain.specs.Heuristic.{heuristic}
 use Rattle.chain.specs.Halving.{Halvable}
 use Rattle.chain.specs.Bisection.{firstEnds}
 use Rattle.chain.specs.Plan.{onward, those, partitions, difference}
-use Rattle.chain.specs.Refusal.{Test, test, methodTest, startupTest, speedsTest, weightsTest, processorsTest, tasksTest, rowTest, lengthTest, holdsTest, enoughTest, freeTest, boundTest, isPartition, partitionTest, planLengthTest, joinedTest, trueTest, firstRefusal, jobTests, Inputs, nothing, withMethod, withRow, lending, separatorsNeeded, measureInputs, halvingInputs, callTests, refusal}
+use Rattle.chain.specs.Refusal.{Test, test, methodTest, startupTest, speedsTest, weightsTest, processorsTest, tasksTest, rowTest, lengthTest, holdsTest, enoughTest, freeTest, boundTest, isPartition, partitionTest, planLengthTest, joinedTest, trueTest, firstRefusal, jobTests, Inputs, nothing, withMethod, withRow, lending, separatorsNeeded, callTests, refusal}
 use Rattle.chain.proofs.Cut.{cut-long, long-cut, holds-long, hold-at}
-use Rattle.chain.proofs.Tests.{T-of, T-true, T-false, and-left, and-right, and-both, same-test}
+use Rattle.chain.proofs.Tests.{T-of, T-true, and-left, and-right, and-both}
 use Rattle.chain.proofs.Sums.{sum-same-below}
 use Rattle.chain.proofs.Indices.{all-at, all-of}
 use Rattle.chain.proofs.Parts.{Proper, valid-proper}
 use Rattle.chain.proofs.Within.{Free, free-keeps, keeps-cases, keeps-limited, within-keeps, offer-part}
 use Rattle.chain.proofs.Table.{start-unlimited}
 use Rattle.chain.proofs.Enough.{partition-enough, enough-exactly}
-use Rattle.chain.proofs.Refusals.{Numbered, numbered-nil, numbered-cons, numbered-append, numbered-map, pass-skip, first-refusal-append, first-refusal-before, first-refusal-same, refused-first, append-accepted, numbersIn, oneOf, given-number, numbers-append, numbers-more, job-numbered, call-numbered, job-accepted, valid-holds, partition-test}
+use Rattle.chain.proofs.Refusals.{Numbered, numbered-nil, numbered-cons, numbered-append, numbered-map, pass-head, pass-skip, first-refusal-append, first-refusal-before, first-refusal-same, refused-first, append-accepted, numbersIn, oneOf, given-number, numbers-append, numbers-more, job-numbered, call-numbered, job-accepted, valid-holds, partition-test}
 use Rattle.chain.proofs.Halving.{row-test}
 use Rattle.fields.specs.Field.{Bytes}
-use Rattle.refusals.specs.Inputs.{planNeeded, scratchNeeded, listInputs, probeInputs, heuristicInputs, freeBy, planInputs, writePlanInputs}
+use Rattle.refusals.specs.Inputs.{planNeeded, scratchNeeded, listInputs, freeBy, planInputs}
+use Rattle.refusals.specs.Answers.{alone, writtenSaid}
 use Rattle.refusals.proofs.Accepted.{accepted}
-use Rattle.refusals.proofs.Holds.{one-set, some-processor}
+use Rattle.refusals.proofs.Holds.{one-set, one-free, some-processor}
 use Rattle.jobs.specs.JobFile.{processorKind, taskKind, noHold, recordBytes, recordsBytes, editionBytes, jobBytes}
-use Rattle.jobs.specs.Parse.{byteAt, isKind, blank, startupIn, speedsOf, holdsOf, weightsOf, jobIn, fileTests, fileRefusal}
+use Rattle.jobs.specs.Parse.{byteAt, isKind, blank, editionIn, startupIn, speedsOf, holdsOf, weightsOf, jobIn, fileTests, fileRefusal}
+use Rattle.jobs.specs.Answers.{writeAnswer, writeBytes}
 use Rattle.jobs.proofs.Calls.{file-numbered, valid-lists}
 use Rattle.jobs.proofs.Promises.{fromTwo, file-in}
 use Rattle.jobs.proofs.Reading.{holds-length}
 use Rattle.jobs.proofs.RoundTrip.{free-read, accepted-valid}
+use Rattle.calls.specs.Answers.{measuredSaid, probedSaid, measureAnswer, probeAnswer, probeWrites, heuristicAnswer, heuristicWrites, halvingAnswer, halvingWrites}
 use Rattle.calls.proofs.Promises.{measure-number, heuristic-number, halving-number, probe-number}
 use Rattle.planfile.specs.PlanFile.{planRecord, planBytesTo, planBytes, TruePlan}
+use Rattle.planfile.specs.Answers.{writePlanAnswer, writePlanBytes}
 use Rattle.planfile.proofs.Promises.{write-plan-number}
-use Rattle.planner.specs.Answers.{planRefusal, planWrites}
+use Rattle.grading.specs.Answers.{gradedSaid, gradeAnswer}
+use Rattle.planner.specs.Answers.{plannedSaid, planRefusal, planAnswer, planWrites, ScratchAfter}
 use Rattle.planner.specs.HostCall.{holdTests, hostFileTests, hostTests, hostAnswer}
 use Rattle.planner.proofs.Promises.{plan-number}
-use Rattle.refusals.specs.Answers.{Said}
-use Rattle.demands.specs.Call.{ByLists, editionBy, jobBy, listsIn, Call, TestJob, ReadJob, WriteJob, Measure, Probe, Heuristic, Halving, Plan, WritePlan, Grade, ListJob, PlanJob, GradePlan, said, Leaves}
+use Rattle.texts.specs.Text.{refusalLine}
+use Rattle.listing.specs.Listing.{listingBy, listingOf, listedTests, listedRefusal, intake, listing}
+use Rattle.listing.proofs.Listings.{listed-whole}
+use Rattle.demands.specs.Call.{ByLists, editionBy, jobBy, listsIn, Call, TestJob, ReadJob, WriteJob, Measure, Probe, Heuristic, Halving, Plan, WritePlan, Grade, ListJob, PlanJob, GradePlan}
 use Rattle.demands.specs.Demands.{number, Accepts, front, HostLeft}
 use Rattle.demands.specs.Limit.{processorsIn}
 use Rattle.demands.specs.Editions.{Same}
@@ -55,6 +62,7 @@ use Rattle.demands.specs.Holds.{Held, Short, Indivisible, Ready, PlanRea
 use Rattle.demands.proofs.Demands.{planning, demand-three, lists-job}
 use Rattle.demands.proofs.Grades.{grades}
 use Rattle.demands.proofs.Halvings.{not-one}
+use Rattle.demands.proofs.Limit.{file-length, one-head}
 use Rattle.demands.proofs.Trials.{trials}
 
 -- A number is given exactly where the tests before its own pass and its own fails, if no other test has that number: those before and those
@@ -476,3 +484,463 @@ module _ (g : ByLists) (s : List ℕ) where
       ∙ first-refusal-append lists (lengthTest (planNeeded job) (length plan) ∷ partitionTest job s ∷ []) (call-numbered job (listInputs job (length s))) (list-ready .1 r)
       ∙ refused-first (lengthTest (planNeeded job) (length plan) ∷ []) (partitionTest job s) [] (numbered-cons (omega arith) numbered-nil)
       (pass-skip (lengthTest (planNeeded job) (length plan)) [] (length-passes (planNeeded job) (length plan) l) ∙ unfold firstRefusal in refl) (breaks h)
+
+-- The C call.
+module _ (file : List ℕ) (m : ℕ) (plan : List ℕ) where
+  abbrev lists : ByLists
+  lists = listsIn file
+
+  host-ready : (firstRefusal (hostBefore file m (length plan)) ≡ 0) ↔ HostReady file m plan
+  unfolding hostBefore room fileRefusal
+  host-ready = (
+    λ z.
+        let a = append-accepted (methodTest m ∷ []) (fileTests file ++ room file m (length plan) ∷ []) one z in
+        let b = append-accepted (fileTests file) (room file m (length plan) ∷ []) (file-numbered file) (a .1) in
+        let k = method-range (a .0) in
+        record { low = k .0; high = k .1; read = b .0; room = long-enough (planNeeded (jobIn file)) (length plan) (b .1) },
+    λ r.
+        pass-skip (methodTest m) (fileTests file ++ room file m (length plan) ∷ []) (method-passes m (r .low) (r .high))
+        ∙ first-refusal-append (fileTests file) (room file m (length plan) ∷ []) (file-numbered file) (r .read)
+        ∙ pass-skip (room file m (length plan)) [] (length-passes (planNeeded (jobIn file)) (length plan) (r .room)) ∙ unfold firstRefusal in refl,
+  )
+    where
+      one : Numbered (methodTest m ∷ [])
+      one = unfold methodTest in numbered-cons (omega arith) numbered-nil
+
+      method-range : firstRefusal (methodTest m ∷ []) ≡ 0 → (1 ≤ m) × (m ≤ 4)
+      method-range z =
+          let t : T (leb 1 m && leb m 4) = unfold methodTest in pass-head (methodTest m) [] (omega arith) z in
+          (leb→le 1 m (and-left (leb 1 m) (leb m 4) t), leb→le m 4 (and-right (leb 1 m) (leb m 4) t))
+
+      long-enough : (needed given : ℕ) → firstRefusal (lengthTest needed given ∷ []) ≡ 0 → needed ≤ given
+      long-enough needed given z = unfold lengthTest in leb→le needed given (pass-head (lengthTest needed given) [] (omega arith) z)
+
+  host-is : number (PlanJob file m plan) ≡ firstRefusal (hostBefore file m (length plan) ++ enoughTest (jobIn file) ∷ map freeTest (freeBy m (jobIn file)))
+  unfolding hostAnswer
+  host-is = ap firstRefusal (host-tests file m (length plan))
+
+  host-seventeen : (number (PlanJob file m plan) ≡ 17) ↔ ((firstRefusal (hostBefore file m (length plan)) ≡ 0) × (enough (jobIn file) ≡ false))
+  host-seventeen =
+      seventeen (jobIn file) m (hostBefore file m (length plan)) (host-numbered file m (length plan)) (host-in file m (length plan)) host-is
+
+  host-eighteen : (number (PlanJob file m plan) ≡ 18)
+      ↔ ((firstRefusal (hostBefore file m (length plan)) ≡ 0) × (enough (jobIn file) ≡ true) × (m ≡ 4) × (held (jobIn file) ≡ true))
+  host-eighteen = eighteen (jobIn file) m (hostBefore file m (length plan)) (host-numbered file m (length plan)) (host-in file m (length plan)) host-is
+
+  file-proper : HostReady file m plan → Proper (jobBy lists)
+  file-proper r = subst Proper (sym (lists-job file)) (valid-proper (accepted-valid file (r .read)))
+
+  host-short : RefusesShort (PlanJob file m plan) lists (HostReady file m plan)
+  host-short =
+      refuses-short (PlanJob file m plan) lists (HostReady file m plan) file-proper (
+        λ e. let a = host-seventeen .0 e in (host-ready .0 (a .0), ap enough (lists-job file) ∙ a .1),
+        λ (r, e). host-seventeen .1 (host-ready .1 r, sym (ap enough (lists-job file)) ∙ e),
+      )
+
+  host-held : (number (PlanJob file m plan) ≡ 18) ↔ (HostReady file m plan × (Short lists → ⊥) × (m ≡ 4) × Held lists)
+  host-held = (
+    λ e. let a = host-eighteen .0 e in (host-ready .0 (a .0), not-short (startupIn file) lists .0 (a .1), a .2, set-exactly (startupIn file) lists long .0 (a .3)),
+    λ (r, h, f, w). host-eighteen .1 (host-ready .1 r, not-short (startupIn file) lists .1 h, f, set-exactly (startupIn file) lists long .1 w),
+  )
+    where
+      long : length (speedsOf file) ≤ length (holdsOf file)
+      long = omega (arith, holds-length file)
+
+-- The listing of an accepted file whose holds fall short.
+list-short : (file : List ℕ) → fileRefusal file ≡ 0 → Short (listsIn file) → listing file ≡ refusalLine 17
+unfolding listedRefusal listedTests listingOf listingBy enoughTest intake
+list-short file e s =
+    let v = accepted-valid file e in
+    let l = file-length file e in
+    sym (listed-whole file (omega (arith, l, one-head (editionIn file), v .tasks-limit, v .processors-limit)))
+    ∙ ap (λ (n : ℕ). listingOf n file) (refused-first (fileTests file) (enoughTest (jobIn file)) [] (file-numbered file) (unfold fileRefusal in e) (short-exactly (startupIn file) (listsIn file) .1 s))
+
+-- What is left keeps the holds: of an accepted plan, of the C call, of a trial and of a plan file that is graded.
+planned : (m : ℕ) (g : ByLists) (s t : List ℕ) → Accepts (Plan m g s t) → Keeping g (front (jobBy g) (planWrites (jobBy g) m s t))
+planned m g s t e =
+    keeping (startupOf (editionBy g)) g (front (jobBy g) (planWrites (jobBy g) m s t)) (demand-three .planned m g s t e .best .partition .kept)
+
+host : (file plan : List ℕ) (m : ℕ) → Accepts (PlanJob file m plan) → (s : List ℕ) × HostLeft file plan m s × Keeping (listsIn file) s
+host file plan m e =
+    let h = demand-three .host file plan m e in
+    (h .0, h .1, keeping (startupIn file) (listsIn file) (h .0) (h .1 .best .partition .kept))
+
+tried : (g : ByLists) (B : Bound) (s : List ℕ) → Accepts (Probe g B s) → Keeping g (front (jobBy g) (probeWrites (jobBy g) B s))
+tried g B s e =
+    let left = front (jobBy g) (probeWrites (jobBy g) B s) in
+    keeping (startupOf (editionBy g)) g left
+    (λ p h. within-keeps (jobBy g) p (at left p) (at left (suc p)) B (trials .trial g B s e .begins (processors (jobBy g)) (omega arith) .each p h))
+
+graded : (g : ByLists) (plan : List ℕ) → Bytes plan → Accepts (Grade g plan) → (told : TruePlan (jobBy g) plan) × Keeping g (told .separators)
+graded g plan b e =
+    let told = grades .graded g plan b e .told in
+    (told, keeping (startupOf (editionBy g)) g (told .separators) (told .division .kept))
+
+-- A list of holds that is too short.
+few : (g : ByLists) → (number (TestJob g) ≡ 9) ↔ ((firstRefusal (jobTests (jobBy g)) ≡ 0) × (length (g .holds) < length (g .speeds)))
+few g = (λ e. let a = tests .0 e in (a .0, short (a .1)), λ (z, h). tests .1 (z, is-short h))
+  where
+    n : ℕ
+    n = length (g .speeds)
+
+    cut : ℕ
+    cut = length (take n (g .holds))
+
+    tests : (number (TestJob g) ≡ 9) ↔ ((firstRefusal (jobTests (jobBy g)) ≡ 0) × (leb n cut ≡ false))
+    tests =
+        unfold refusal callTests jobTests startupTest speedsTest weightsTest processorsTest tasksTest holdsTest lengthTest in
+        exactly-at (jobTests (jobBy g)) [] 9 (leb n cut) (16 ∷ 5 ∷ 6 ∷ 7 ∷ 8 ∷ []) (job-numbered (jobBy g)) tt tt tt refl
+
+    short : leb n cut ≡ false → length (g .holds) < n
+    short e =
+        elim (decLe n (length (g .holds))) [
+          | yes h ↦ absurd (not-both (T-true (leb n cut) (le→leb n cut (long-cut n (g .holds) h))) e)
+          | no h ↦ omega arith
+        ]
+
+    is-short : length (g .holds) < n → leb n cut ≡ false
+    is-short h = is-false (leb n cut) (λ t. let l : n ≤ length (g .holds) = cut-long n (g .holds) (leb→le n cut t) in omega arith)
+
+-- Entries behind the first P make no other job.
+module _ (g : ByLists) (hs ks : List ℕ) (same : take (length (g .speeds)) hs ≡ take (length (g .speeds)) ks) where
+  same-job : jobBy (holding hs g) ≡ jobBy (holding ks g)
+  same-job = ap (λ (l : List ℕ). record { startup = startupOf (editionBy g); weights = g .weights; speeds = g .speeds; holds = l }) same
+
+  same-left : (L : Job → Type 0) → L (jobBy (holding hs g)) ↔ L (jobBy (holding ks g))
+  same-left L = (subst L same-job, subst L (sym same-job))
+
+behind : (hs ks : List ℕ) (call : Call) → take (processorsIn call) hs ≡ take (processorsIn call) ks → Same (callHolding hs call) (callHolding ks call)
+behind hs ks (TestJob g) e =
+    record { says = ap (λ (job : Job). alone (refusal job nothing)) (same-job g hs ks e); leaves = λ left. (λ x. x, λ x. x) }
+behind hs ks (ReadJob file es l ws) e = record { says = refl; leaves = λ left. (λ x. x, λ x. x) }
+behind hs ks (WriteJob g file) e =
+    record {
+      says = ap (λ (job : Job). writtenSaid (writeAnswer (editionBy g) job (length file))) (same-job g hs ks e);
+      leaves = λ left. same-left g hs ks e (λ (job : Job). left ≡ writeBytes (editionBy g) job file ∷ []);
+    }
+behind hs ks (Measure g s) e =
+    record { says = ap (λ (job : Job). measuredSaid (measureAnswer job s)) (same-job g hs ks e); leaves = λ left. (λ x. x, λ x. x) }
+behind hs ks (Probe g B s) e =
+    record {
+      says = ap (λ (job : Job). probedSaid (probeAnswer job B s)) (same-job g hs ks e);
+      leaves = λ left. same-left g hs ks e (λ (job : Job). left ≡ probeWrites job B s ∷ []);
+    }
+behind hs ks (Heuristic g s) e =
+    record {
+      says = ap (λ (job : Job). measuredSaid (heuristicAnswer job s)) (same-job g hs ks e);
+      leaves = λ left. same-left g hs ks e (λ (job : Job). left ≡ heuristicWrites job s ∷ []);
+    }
+behind hs ks (Halving g s) e =
+    record {
+      says = ap (λ (job : Job). measuredSaid (halvingAnswer job s)) (same-job g hs ks e);
+      leaves = λ left. same-left g hs ks e (λ (job : Job). left ≡ halvingWrites job s ∷ []);
+    }
+behind hs ks (Plan m g s t) e =
+    record {
+      says = ap (λ (job : Job). plannedSaid (planAnswer (editionBy g) job m s t)) (same-job g hs ks e);
+      leaves = λ left.
+          same-left g hs ks e
+          (λ (job : Job). (t′ : List ℕ) × ScratchAfter (planRefusal job m (length s) (length t)) job t t′ × (left ≡ planWrites job m s t ∷ t′ ∷ []));
+    }
+behind hs ks (WritePlan g s plan) e =
+    record {
+      says = ap (λ (job : Job). writtenSaid (writePlanAnswer job s (length plan))) (same-job g hs ks e);
+      leaves = λ left. same-left g hs ks e (λ (job : Job). left ≡ writePlanBytes job s plan ∷ []);
+    }
+behind hs ks (Grade g plan) e =
+    record { says = ap (λ (job : Job). gradedSaid (gradeAnswer job plan)) (same-job g hs ks e); leaves = λ left. (λ x. x, λ x. x) }
+behind hs ks (ListJob file out) e = record { says = refl; leaves = λ left. (λ x. x, λ x. x) }
+behind hs ks (PlanJob file m plan) e = record { says = refl; leaves = λ left. (λ x. x, λ x. x) }
+behind hs ks (GradePlan file plan grade) e = record { says = refl; leaves = λ left. (λ x. x, λ x. x) }
+
+-- Lists of nought: a list that begins so, and what is read from one.
+abbrev zeros : ℕ → List ℕ
+zeros n = replicate n 0
+
+take-noughts : (n : ℕ) (hs : List ℕ) → n ≤ length hs → ((p : ℕ) → p < n → getD hs p 0 ≡ 0) → take n hs ≡ zeros n
+take-noughts zero hs l h = refl
+take-noughts (suc n) [] l h = absurd (let z : ⊥ = omega arith in z)
+take-noughts (suc n) (x ∷ hs) l h = ap₂ (λ (y : ℕ) (ys : List ℕ). y ∷ ys) (h 0 (omega arith)) (take-noughts n hs (omega arith) (λ p k. h (suc p) (omega arith)))
+
+at-noughts : (n p : ℕ) → getD (zeros n) p 0 ≡ 0
+at-noughts zero p = refl
+at-noughts (suc n) zero = refl
+at-noughts (suc n) (suc p) = at-noughts n p
+
+each-noughts : (n : ℕ) → eachOf (λ h. eqb h 0) (zeros n) ≡ true
+unfolding eachOf
+each-noughts zero = refl
+each-noughts (suc n) = each-noughts n
+
+cut-noughts : (n : ℕ) → take n (zeros n) ≡ zeros n
+cut-noughts zero = refl
+cut-noughts (suc n) = ap (λ (l : List ℕ). 0 ∷ l) (cut-noughts n)
+
+-- Lists of tests that give the same number, whatever follows.
+record Alike (ts us : List Test) : Type 0 where
+  same : (vs : List Test) → firstRefusal (ts ++ vs) ≡ firstRefusal (us ++ vs)
+
+alike-then : {ts us : List Test} → Alike ts us → (ws : List Test) → Alike (ts ++ ws) (us ++ ws)
+alike-then {ts} {us} h ws =
+    record { same = λ vs. ap firstRefusal (append-assoc ts ws vs) ∙ h .same (ws ++ vs) ∙ sym (ap firstRefusal (append-assoc us ws vs)) }
+
+alike-trans : {ts us ws : List Test} → Alike ts us → Alike us ws → Alike ts ws
+alike-trans h k = record { same = λ vs. h .same vs ∙ k .same vs }
+
+alike-sym : {ts us : List Test} → Alike ts us → Alike us ts
+alike-sym h = record { same = λ vs. sym (h .same vs) }
+
+alike-end : {ts us : List Test} → Alike ts us → firstRefusal ts ≡ firstRefusal us
+alike-end {ts} {us} h = sym (ap firstRefusal (append-nil ts)) ∙ h .same [] ∙ ap firstRefusal (append-nil us)
+
+-- A test that passes makes no difference, nor does one of a job that is this one, nor any behind one that fails.
+alike-passed : (ts : List Test) (t : Test) (us : List Test) → T (t .passes) → Alike (ts ++ t ∷ us) (ts ++ us)
+alike-passed ts t us p =
+    record {
+      same = λ vs.
+          ap firstRefusal (append-assoc ts (t ∷ us) vs) ∙ first-refusal-same ts (t ∷ us ++ vs) (us ++ vs) (pass-skip t (us ++ vs) p)
+          ∙ sym (ap firstRefusal (append-assoc ts us vs));
+    }
+
+skip-jobs : (f : Job → Test) {job : Job} (js : List Job) (vs : List Test) → ((j : Job) → List·Memᴰ j js → j ≡ job) → T ((f job) .passes)
+    → firstRefusal (map f js ++ vs) ≡ firstRefusal vs
+skip-jobs f [] vs h p = refl
+skip-jobs f (j ∷ js) vs h p =
+    pass-skip (f j) (map f js ++ vs) (subst (λ (k : Job). T ((f k) .passes)) (sym (h j (List·Memᴰ·head refl))) p)
+    ∙ skip-jobs f js vs (λ k m. h k (List·Memᴰ·tail m)) p
+
+alike-jobs : (ts : List Test) (f : Job → Test) {job : Job} (js : List Job) → ((j : Job) → List·Memᴰ j js → j ≡ job) → T ((f job) .passes)
+    → Alike (ts ++ map f js) ts
+alike-jobs ts f js h p =
+    record { same = λ vs. ap firstRefusal (append-assoc ts (map f js) vs) ∙ first-refusal-same ts (map f js ++ vs) vs (skip-jobs f js vs h p) }
+
+alike-failed : (ts us : List Test) → firstRefusal ts ≢ 0 → Alike (ts ++ us) ts
+alike-failed ts us h =
+    record { same = λ vs. ap firstRefusal (append-assoc ts us vs) ∙ first-refusal-before ts (us ++ vs) h ∙ sym (first-refusal-before ts vs h) }
+
+-- Records without holds.
+same-records : (kind : ℕ) (f g : ℕ → ℕ) (vs : List ℕ) → ((i : ℕ) → f i ≡ g i) → recordsBytes kind f vs ≡ recordsBytes kind g vs
+unfolding recordsBytes
+same-records kind f g [] h = refl
+same-records kind f g (v ∷ vs) h =
+    ap₂ (λ (a : ℕ) (l : List ℕ). recordBytes kind a v ++ l) (h 0) (same-records kind (λ i. f (suc i)) (λ i. g (suc i)) vs (λ i. h (suc i)))
+
+-- All lists of separators, where each keeps the holds.
+those-all : (f : List ℕ → Bool) → ((s : List ℕ) → f s ≡ true) → (ss : List (List ℕ)) → those f ss ≡ ss
+unfolding those
+those-all f h [] = refl
+those-all f h (s ∷ ss) = ap₂ (λ (b : Bool) (l : List (List ℕ)). cond b (s ∷ l) l) (h s) (those-all f h ss)
+
+module _ (g : ByLists) (none : Unheld g) where
+  abbrev free-row : Job
+  free-row = jobBy g
+
+  noughts : take (length (g .speeds)) (g .holds) ≡ zeros (length (g .speeds))
+  noughts = take-noughts (length (g .speeds)) (g .holds) (none .given) (none .none)
+
+  one : jobBy g ≡ freeJob (startupOf (editionBy g)) (g .speeds) (g .weights)
+  one =
+      ap (λ (l : List ℕ). record { startup = startupOf (editionBy g); weights = g .weights; speeds = g .speeds; holds = l })
+      (noughts ∙ sym (cut-noughts (length (g .speeds))))
+
+  free : Free free-row
+  unfolding holdOf
+  free = record { none = λ p. ap (λ (l : List ℕ). getD l p 0) noughts ∙ at-noughts (length (g .speeds)) p }
+
+  no-hold : held free-row ≡ false
+  unfolding held
+  no-hold = ap (λ (l : List ℕ). not (eachOf (λ h. eqb h 0) l)) noughts ∙ ap not (each-noughts (length (g .speeds)))
+
+  kept : (p a b : ℕ) → keeps free-row p a b ≡ true
+  kept p a b = T-true (keeps free-row p a b) (free-keeps free p a b)
+
+  all-kept : (s : List ℕ) → allKept free-row s ≡ true
+  unfolding allKept
+  all-kept s = T-true _ (all-of (λ p. keeps free-row p (at s p) (at s (suc p))) (processors free-row) (λ p h. free-keeps free p (at s p) (at s (suc p))))
+
+  is-enough : 1 ≤ processors free-row → enough free-row ≡ true
+  is-enough h = sym (one-free (startupOf (editionBy g)) (g .speeds) (g .holds) (g .weights) 0 h (none .none 0 h))
+
+  holds-pass : T ((holdsTest free-row) .passes)
+  unfolding holdsTest lengthTest
+  holds-pass = le→leb (length (g .speeds)) (length (take (length (g .speeds)) (g .holds))) (long-cut (length (g .speeds)) (g .holds) (none .given))
+
+  -- The numbers are those of before: where there is a processor the new tests pass, else the job is refused before them.
+  numbers : (inputs : Inputs) → ((j : Job) → List·Memᴰ j (inputs .keeping) → j ≡ free-row) → ((j : Job) → List·Memᴰ j (inputs .free) → j ≡ free-row)
+      → refusal free-row inputs ≡ firstRefusal (testsBefore free-row inputs)
+  unfolding refusal callTests testsBefore
+  numbers inputs x y =
+      alike-end (alike-then (alike-then (alike-then (alike-then (alike-then front-alike bs) ns) ds) js) ts)
+    where
+      ms : List Test
+      ms = map methodTest (inputs .methods)
+
+      hd : List Test
+      hd = ms ++ jobTests free-row
+
+      rs : List Test
+      rs = hd ++ map rowTest (inputs .rows)
+
+      ls : List Test
+      ls = map (λ l. lengthTest (l .needed) (l .given)) (inputs .lists)
+
+      ks : List Test
+      ks = map enoughTest (inputs .keeping)
+
+      fs : List Test
+      fs = map freeTest (inputs .free)
+
+      bs : List Test
+      bs = map boundTest (inputs .bounds)
+
+      ns : List Test
+      ns = map planLengthTest (inputs .plans)
+
+      ds : List Test
+      ds = map (partitionTest free-row) (inputs .divisions)
+
+      js : List Test
+      js = map (joinedTest free-row) (inputs .plans)
+
+      ts : List Test
+      ts = map (trueTest free-row) (inputs .plans)
+
+      passing : 1 ≤ processors free-row → Alike (((rs ++ (holdsTest free-row ∷ ls)) ++ ks) ++ fs) (rs ++ ls)
+      passing h =
+          alike-trans (alike-jobs ((rs ++ (holdsTest free-row ∷ ls)) ++ ks) freeTest (inputs .free) y (unfold freeTest in T-of (ap not no-hold)))
+          (alike-trans (alike-jobs (rs ++ (holdsTest free-row ∷ ls)) enoughTest (inputs .keeping) x (unfold enoughTest in T-of (is-enough h)))
+          (alike-passed rs (holdsTest free-row) ls holds-pass))
+
+      failing : firstRefusal hd ≢ 0 → Alike (((rs ++ (holdsTest free-row ∷ ls)) ++ ks) ++ fs) (rs ++ ls)
+      failing h =
+          let row = alike-failed hd (map rowTest (inputs .rows)) h in
+          alike-trans (alike-then (alike-then (alike-then row (holdsTest free-row ∷ ls)) ks) fs)
+          (alike-trans (alike-then (alike-then (alike-failed hd (holdsTest free-row ∷ ls) h) ks) fs)
+          (alike-trans (alike-then (alike-failed hd ks h) fs)
+          (alike-trans (alike-failed hd fs h) (alike-sym (alike-trans (alike-then row ls) (alike-failed hd ls h))))))
+
+      refused : (processors free-row ≡ 0) → firstRefusal hd ≢ 0
+      refused z e =
+          let a = append-accepted ms (jobTests free-row) (unfold methodTest in numbered-map methodTest (λ m. omega arith) (inputs .methods)) e in
+          omega (arith, some-processor free-row (a .1))
+
+      front-alike : Alike (((rs ++ (holdsTest free-row ∷ ls)) ++ ks) ++ fs) (rs ++ ls)
+      front-alike = elim (decLe 1 (processors free-row)) [ yes h ↦ passing h | no h ↦ failing (refused (omega arith)) ]
+
+  unlimited : Unlimited free-row
+  unfolding within firstEnds difference isPartition partitions jobBytes
+  unlimited =
+      record {
+        shares = λ p a b B. ap (λ (k : Bool). le (partBound free-row p a b) B && k) (kept p a b) ∙ and-true (le (partBound free-row p a b) B);
+        offers = λ p a b. offer-part free-row p a b (free-keeps free p a b);
+        begins = λ p i. start-unlimited free-row p i (free .none p);
+        divisions = λ s.
+            ap (λ (k : Bool). eqb (length s) (suc (processors free-row)) && eqb (at s 0) 0 && all (λ p. leb (at s p) (at s (suc p))) (processors free-row) && eqb (at s (processors free-row)) (tasks free-row) && k) (all-kept s)
+            ∙ and-true _;
+        every = those-all (allKept free-row) all-kept (map (λ s. 0 ∷ s) (onward (tasks free-row) (last free-row) 0));
+        high = ap (λ (b : Bool). pick b (widest free-row) (bottleneck free-row (heuristic free-row))) no-hold;
+        width =
+            ap (λ (b : Bool). (cond b (totalWeight free-row) (heaviest free-row) + free-row .startup) * (fastest free-row * fastest free-row) / slowest free-row) no-hold;
+        enough-holds = is-enough;
+        free = no-hold;
+        numbers = numbers;
+        bytes = λ edition.
+            ap (λ (l : List ℕ). editionBytes edition ++ (l ++ recordsBytes taskKind noHold (g .weights)))
+            (same-records processorKind (holdOf free-row) noHold (g .speeds) (free .none));
+      }
+
+-- A file whose bytes 2 and 3 are zero.
+blank-file : (file : List ℕ) → BlankHolds file → BlankFile file
+unfolding blank
+blank-file file z =
+    record {
+      unheld =
+          record {
+            given = omega (arith, holds-length file);
+            none = λ p h.
+                sym (getD-take n (holdsOf file) p 0 h) ∙ ap (λ (job : Job). getD (job .holds) p 0) read ∙ ap (λ (l : List ℕ). getD l p 0) (cut-noughts n)
+                ∙ at-noughts n p;
+          };
+      job = read;
+      form = λ i. form i (isKind processorKind file i) (eqb (byteAt file i 1) 0) (eq-eqb (byteAt file i 2) 0 (z .second i)) (eq-eqb (byteAt file i 3) 0 (z .third i));
+    }
+  where
+    n : ℕ
+    n = length (speedsOf file)
+
+    read : jobIn file ≡ freeJob (startupIn file) (speedsOf file) (weightsOf file)
+    read = free-read file (record { second = z .second; third = z .third })
+
+    form : (i : ℕ) (k b : Bool) {c d : Bool} → c ≡ true → d ≡ true → (b && (k || (c && d))) ≡ (b && c && d)
+    form i true true e f = sym (ap₂ (λ (c d : Bool). c && d) e f)
+    form i false true e f = refl
+    form i k false e f = refl
+
+-- Jobs that differ by their holds.
+module _ (c : ℕ) (es hs ks ws : List ℕ) where
+  abbrev job : Job
+  job = jobOf c es hs ws
+
+  abbrev other : Job
+  other = jobOf c es ks ws
+
+  same-bounds : (s : List ℕ) (p : ℕ) → boundAt job s p ≡ boundAt other s p
+  unfolding boundAt partBound partLoad partOf speedOf
+  same-bounds s p = refl
+
+  same-bottleneck : (s : List ℕ) (p : ℕ) → bottleneckTo job s p ≡ bottleneckTo other s p
+  unfolding bottleneckTo
+  same-bottleneck s zero = same-bounds s 0
+  same-bottleneck s (suc p) = ap₂ greater (same-bottleneck s p) (same-bounds s (suc p))
+
+  same-record : (s : List ℕ) (p : ℕ) → planRecord job s p ≡ planRecord other s p
+  unfolding planRecord partLoad partOf speedOf
+  same-record s p = refl
+
+  same-file : (s : List ℕ) (p : ℕ) → planBytesTo job s p ≡ planBytesTo other s p
+  unfolding planBytesTo
+  same-file s zero = refl
+  same-file s (suc p) = ap₂ (λ (k l : List ℕ). k ++ l) (same-file s p) (same-record s p)
+
+  regardless-of : Regardless job other
+  unfolding ideal partLoad partOf bottleneck planBytes
+  regardless-of =
+      record {
+        ideals = refl;
+        loads = λ a b. refl;
+        bottlenecks = λ s. same-bottleneck s (length es - 1);
+        files = λ s. same-file s (length es);
+      }
+
+regardless : (hs : List ℕ) (g : ByLists) → Regardless (jobBy g) (jobBy (holding hs g))
+regardless hs g = regardless-of (startupOf (editionBy g)) (g .speeds) (g .holds) hs (g .weights)
+
+-- A hold of N or more.
+ample : (g : ByLists) (p a b : ℕ) → p < length (g .speeds) → length (g .weights) ≤ getD (g .holds) p 0 → b ≤ length (g .weights) → T (keeps (jobBy g) p a b)
+ample g p a b h l k = keeps-limited (jobBy g) p a b (omega (arith, at-hold (startupOf (editionBy g)) g p h))
+
+pub holdings : Holdings
+holdings =
+    record {
+      few = few;
+      behind = behind;
+      plan-short = plan-short;
+      trial-short = λ g B s. trial-short g s B;
+      host-short = host-short;
+      list-short = list-short;
+      plan-held = plan-held;
+      host-held = host-held;
+      quick-held = quick-held;
+      halving-held = halving-held;
+      planned = planned;
+      host = host;
+      tried = tried;
+      measured = measured;
+      written = written;
+      graded = graded;
+      unlimited = unlimited;
+      one = one;
+      blank-file = blank-file;
+      regardless = regardless;
+      ample = ample;
+    }

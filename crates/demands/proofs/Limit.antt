@@ -193,7 +193,7 @@ kept limit call c k z =
     (tested call ∙ ap firstRefusal (sym same) ∙ z, alike-by limit call same)
 
 -- An accepted file has the records of its job and no byte more.
-file-length : (file : List ℕ) → fileRefusal file ≡ 0
+pub file-length : (file : List ℕ) → fileRefusal file ≡ 0
     → length file ≡ 8 * (headRecords (editionIn file) + (length (speedsOf file) + length (weightsOf file)))
 file-length file e =
     let r = file-early file e in
@@ -202,7 +202,7 @@ file-length file e =
     let t : headRecords (editionIn file) + (length (speedsOf file) + length (weightsOf file)) ≡ length file / 8 = c .together in
     omega (arith, m, t)
 
-one-head : (edition : Edition) → headRecords edition ≤ 1
+pub one-head : (edition : Edition) → headRecords edition ≤ 1
 unfolding headRecords
 one-head First = omega arith
 one-head (Second c) = omega arith

@@ -1,7 +1,7 @@
 -- What the holds of the machines change and what they do not, over the answers of the calls and over what they leave. Scope, section 18.
 use Prim.Native.Nat.{ℕ, suc, _+_, _-_, _*_, _/_, _≤_, _<_}
 use mathlib.Core.Path.{_≡_}
-use mathlib.Core.Bool.{Bool, true, false, _&&_}
+use mathlib.Core.Bool.{true, false, _&&_}
 use mathlib.Core.List.{List, [], _∷_, _++_, map, List·Memᴰ}
 use mathlib.Core.Logic.{_≢_, _↔_}
 use lib.Dec.{T, eqb, leb}
@@ -23,6 +23,8 @@ use Rattle.jobs.specs.Parse.{byteAt, blank, startupIn, speedsOf, weightsOf, job
 use Rattle.calls.specs.Answers.{probeWrites}
 use Rattle.planfile.specs.PlanFile.{planBytes, TruePlan}
 use Rattle.planner.specs.Answers.{planWrites}
+use Rattle.texts.specs.Text.{refusalLine}
+use Rattle.listing.specs.Listing.{listing}
 use Rattle.demands.specs.Call.{ByLists, byLists, editionBy, jobBy, listsIn, Call, TestJob, ReadJob, WriteJob, Measure, Probe, Heuristic, Halving, Plan, WritePlan, Grade, ListJob, PlanJob, GradePlan}
 use Rattle.demands.specs.Demands.{number, Accepts, front, HostLeft}
 use Rattle.demands.specs.Limit.{processorsIn}
@@ -119,7 +121,7 @@ pub record Unlimited (job : Job) : Type 0 where
   pub high : (firstEnds job) .high ≡ bottleneck job (heuristic job)
   pub width : difference job ≡ (heaviest job + job .startup) * (fastest job * fastest job) / slowest job
   -- 17 and 18 are not given, nor is 9 for the list of holds: of a call that divides this job, or takes it without holds,
-  pub enough-holds : enough job ≡ true
+  pub enough-holds : 1 ≤ processors job → enough job ≡ true
   pub free : held job ≡ false
   pub numbers : (inputs : Inputs) → ((j : Job) → List·Memᴰ j (inputs .keeping) → j ≡ job) → ((j : Job) → List·Memᴰ j (inputs .free) → j ≡ job)
       → refusal job inputs ≡ firstRefusal (testsBefore job inputs)
@@ -149,10 +151,11 @@ pub record Holdings : Type 0 where
   -- Scope 18.4: "A list of holds with fewer than P entries is refused with 9; a longer one is cut to P, and the entries behind are not looked at."
   pub few : (g : ByLists) → (number (TestJob g) ≡ 9) ↔ ((firstRefusal (jobTests (jobBy g)) ≡ 0) × (length (g .holds) < length (g .speeds)))
   pub behind : (hs ks : List ℕ) (call : Call) → take (processorsIn call) hs ≡ take (processorsIn call) ks → Same (callHolding hs call) (callHolding ks call)
-  -- Scope 18.18: "in the trial, the four methods, the C call that plans and the listing" (the listing: its own definition).
+  -- Scope 18.18: "in the trial, the four methods, the C call that plans and the listing"
   pub plan-short : (m : ℕ) (g : ByLists) (s t : List ℕ) → RefusesShort (Plan m g s t) g (PlanReady m g s t)
   pub trial-short : (g : ByLists) (B : Bound) (s : List ℕ) → RefusesShort (Probe g B s) g (Ready g s)
   pub host-short : (file : List ℕ) (m : ℕ) (plan : List ℕ) → RefusesShort (PlanJob file m plan) (listsIn file) (HostReady file m plan)
+  pub list-short : (file : List ℕ) → fileRefusal file ≡ 0 → Short (listsIn file) → listing file ≡ refusalLine 17
   -- Scope 18.20: "18 is given, after 17, for method 4 or either quick plan on a job with holds; the quick plans do not make test 17."
   pub plan-held : (m : ℕ) (g : ByLists) (s t : List ℕ) → (number (Plan m g s t) ≡ 18) ↔ (PlanReady m g s t × (Short g → ⊥) × (m ≡ 4) × Held g)
   pub host-held : (file : List ℕ) (m : ℕ) (plan : List ℕ)
