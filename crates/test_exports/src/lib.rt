@@ -182,13 +182,14 @@ pub extern "C" fn exported_test_job(
     second: bool,
     startup: u32,
     speeds: &[u32],
+    holds: &[u16],
     weights: &[u32],
 ) -> u32
     ensures { λ r.
-        let call = TestJob (byLists second startup (now (speeds .entry)) (now (weights .entry))) in
+        let call = TestJob (byLists second startup (now (speeds .entry)) (now (holds .entry)) (now (weights .entry))) in
         ⌜ r ≡ number call ⌝ }
 {
-    test_job(second, startup, speeds, weights)
+    test_job(second, startup, speeds, holds, weights)
 }
 
 // The answer: the edition, c, P, N.
@@ -196,20 +197,21 @@ pub extern "C" fn exported_test_job(
 pub extern "C" fn exported_read_job(
     file: &[u8],
     speeds: &mut [u32],
+    holds: &mut [u16],
     weights: &mut [u32],
     answer: &mut [u64],
 ) -> u32
     ensures number { λ r.
-        let call = ReadJob (now (file .entry)) (now (speeds .entry)) (now (weights .entry)) in
+        let call = ReadJob (now (file .entry)) (now (speeds .entry)) (now (holds .entry)) (now (weights .entry)) in
         ⌜ r ≡ number call ⌝ }
     ensures left { λ _.
-        let call = ReadJob (now (file .entry)) (now (speeds .entry)) (now (weights .entry)) in
-        ⌜ Leaves call (now (speeds .exit) ∷ now (weights .exit) ∷ []) ⌝ }
+        let call = ReadJob (now (file .entry)) (now (speeds .entry)) (now (holds .entry)) (now (weights .entry)) in
+        ⌜ Leaves call (now (speeds .exit) ∷ now (holds .exit) ∷ now (weights .exit) ∷ []) ⌝ }
     ensures answer { λ _.
-        let call = ReadJob (now (file .entry)) (now (speeds .entry)) (now (weights .entry)) in
+        let call = ReadJob (now (file .entry)) (now (speeds .entry)) (now (holds .entry)) (now (weights .entry)) in
         ⌜ now (answer .exit) ≡ saidPut (said call) (now (answer .entry)) ⌝ }
 {
-    let read = read_job(file, speeds, weights);
+    let read = read_job(file, speeds, holds, weights);
     put_read(answer, read)
 }
 
@@ -219,21 +221,22 @@ pub extern "C" fn exported_write_job(
     second: bool,
     startup: u32,
     speeds: &[u32],
+    holds: &[u16],
     weights: &[u32],
     file: &mut [u8],
     answer: &mut [u64],
 ) -> u32
     ensures number { λ r.
-        let call = WriteJob (byLists second startup (now (speeds .entry)) (now (weights .entry))) (now (file .entry)) in
+        let call = WriteJob (byLists second startup (now (speeds .entry)) (now (holds .entry)) (now (weights .entry))) (now (file .entry)) in
         ⌜ r ≡ number call ⌝ }
     ensures left { λ _.
-        let call = WriteJob (byLists second startup (now (speeds .entry)) (now (weights .entry))) (now (file .entry)) in
+        let call = WriteJob (byLists second startup (now (speeds .entry)) (now (holds .entry)) (now (weights .entry))) (now (file .entry)) in
         ⌜ Leaves call (now (file .exit) ∷ []) ⌝ }
     ensures answer { λ _.
-        let call = WriteJob (byLists second startup (now (speeds .entry)) (now (weights .entry))) (now (file .entry)) in
+        let call = WriteJob (byLists second startup (now (speeds .entry)) (now (holds .entry)) (now (weights .entry))) (now (file .entry)) in
         ⌜ now (answer .exit) ≡ saidPut (said call) (now (answer .entry)) ⌝ }
 {
-    let written = write_job(second, startup, speeds, weights, file);
+    let written = write_job(second, startup, speeds, holds, weights, file);
     put_written(answer, written)
 }
 
@@ -260,18 +263,19 @@ pub extern "C" fn exported_measure(
     second: bool,
     startup: u32,
     speeds: &[u32],
+    holds: &[u16],
     weights: &[u32],
     separators: &[u32],
     answer: &mut [u64],
 ) -> u32
     ensures number { λ r.
-        let call = Measure (byLists second startup (now (speeds .entry)) (now (weights .entry))) (now (separators .entry)) in
+        let call = Measure (byLists second startup (now (speeds .entry)) (now (holds .entry)) (now (weights .entry))) (now (separators .entry)) in
         ⌜ r ≡ number call ⌝ }
     ensures answer { λ _.
-        let call = Measure (byLists second startup (now (speeds .entry)) (now (weights .entry))) (now (separators .entry)) in
+        let call = Measure (byLists second startup (now (speeds .entry)) (now (holds .entry)) (now (weights .entry))) (now (separators .entry)) in
         ⌜ now (answer .exit) ≡ saidPut (said call) (now (answer .entry)) ⌝ }
 {
-    let measured = measure(second, startup, speeds, weights, separators);
+    let measured = measure(second, startup, speeds, holds, weights, separators);
     put_measured(answer, measured)
 }
 
@@ -281,6 +285,7 @@ pub extern "C" fn exported_probe(
     second: bool,
     startup: u32,
     speeds: &[u32],
+    holds: &[u16],
     weights: &[u32],
     load: u64,
     speed: u64,
@@ -288,15 +293,15 @@ pub extern "C" fn exported_probe(
     answer: &mut [u64],
 ) -> u32
     ensures number { λ r.
-        let g = byLists second startup (now (speeds .entry)) (now (weights .entry)) in
+        let g = byLists second startup (now (speeds .entry)) (now (holds .entry)) (now (weights .entry)) in
         let call = Probe g (record { load = load; speed = speed }) (now (separators .entry)) in
         ⌜ r ≡ number call ⌝ }
     ensures left { λ _.
-        let g = byLists second startup (now (speeds .entry)) (now (weights .entry)) in
+        let g = byLists second startup (now (speeds .entry)) (now (holds .entry)) (now (weights .entry)) in
         let call = Probe g (record { load = load; speed = speed }) (now (separators .entry)) in
         ⌜ Leaves call (now (separators .exit) ∷ []) ⌝ }
     ensures answer { λ _.
-        let job = jobBy (byLists second startup (now (speeds .entry)) (now (weights .entry))) in
+        let job = jobBy (byLists second startup (now (speeds .entry)) (now (holds .entry)) (now (weights .entry))) in
         let answered = probeAnswer job (record { load = load; speed = speed }) (now (separators .entry)) in
         ⌜ now (answer .exit) ≡ probedPut answered (now (answer .entry)) ⌝ }
 {
@@ -304,6 +309,7 @@ pub extern "C" fn exported_probe(
         second,
         startup,
         speeds,
+        holds,
         weights,
         Bound { load, speed },
         separators,
@@ -317,21 +323,22 @@ pub extern "C" fn exported_heuristic(
     second: bool,
     startup: u32,
     speeds: &[u32],
+    holds: &[u16],
     weights: &[u32],
     separators: &mut [u32],
     answer: &mut [u64],
 ) -> u32
     ensures number { λ r.
-        let call = Heuristic (byLists second startup (now (speeds .entry)) (now (weights .entry))) (now (separators .entry)) in
+        let call = Heuristic (byLists second startup (now (speeds .entry)) (now (holds .entry)) (now (weights .entry))) (now (separators .entry)) in
         ⌜ r ≡ number call ⌝ }
     ensures left { λ _.
-        let call = Heuristic (byLists second startup (now (speeds .entry)) (now (weights .entry))) (now (separators .entry)) in
+        let call = Heuristic (byLists second startup (now (speeds .entry)) (now (holds .entry)) (now (weights .entry))) (now (separators .entry)) in
         ⌜ Leaves call (now (separators .exit) ∷ []) ⌝ }
     ensures answer { λ _.
-        let call = Heuristic (byLists second startup (now (speeds .entry)) (now (weights .entry))) (now (separators .entry)) in
+        let call = Heuristic (byLists second startup (now (speeds .entry)) (now (holds .entry)) (now (weights .entry))) (now (separators .entry)) in
         ⌜ now (answer .exit) ≡ saidPut (said call) (now (answer .entry)) ⌝ }
 {
-    let measured = heuristic(second, startup, speeds, weights, separators);
+    let measured = heuristic(second, startup, speeds, holds, weights, separators);
     put_measured(answer, measured)
 }
 
@@ -341,21 +348,22 @@ pub extern "C" fn exported_halving(
     second: bool,
     startup: u32,
     speeds: &[u32],
+    holds: &[u16],
     weights: &[u32],
     separators: &mut [u32],
     answer: &mut [u64],
 ) -> u32
     ensures number { λ r.
-        let call = Halving (byLists second startup (now (speeds .entry)) (now (weights .entry))) (now (separators .entry)) in
+        let call = Halving (byLists second startup (now (speeds .entry)) (now (holds .entry)) (now (weights .entry))) (now (separators .entry)) in
         ⌜ r ≡ number call ⌝ }
     ensures left { λ _.
-        let call = Halving (byLists second startup (now (speeds .entry)) (now (weights .entry))) (now (separators .entry)) in
+        let call = Halving (byLists second startup (now (speeds .entry)) (now (holds .entry)) (now (weights .entry))) (now (separators .entry)) in
         ⌜ Leaves call (now (separators .exit) ∷ []) ⌝ }
     ensures answer { λ _.
-        let call = Halving (byLists second startup (now (speeds .entry)) (now (weights .entry))) (now (separators .entry)) in
+        let call = Halving (byLists second startup (now (speeds .entry)) (now (holds .entry)) (now (weights .entry))) (now (separators .entry)) in
         ⌜ now (answer .exit) ≡ saidPut (said call) (now (answer .entry)) ⌝ }
 {
-    let measured = halving(second, startup, speeds, weights, separators);
+    let measured = halving(second, startup, speeds, holds, weights, separators);
     put_measured(answer, measured)
 }
 
@@ -366,19 +374,20 @@ pub extern "C" fn exported_plan(
     second: bool,
     startup: u32,
     speeds: &[u32],
+    holds: &[u16],
     weights: &[u32],
     separators: &mut [u32],
     scratch: &mut [u32],
     answer: &mut [u64],
 ) -> u32
     ensures number { λ r.
-        let call = Plan method (byLists second startup (now (speeds .entry)) (now (weights .entry))) (now (separators .entry)) (now (scratch .entry)) in
+        let call = Plan method (byLists second startup (now (speeds .entry)) (now (holds .entry)) (now (weights .entry))) (now (separators .entry)) (now (scratch .entry)) in
         ⌜ r ≡ number call ⌝ }
     ensures left { λ _.
-        let call = Plan method (byLists second startup (now (speeds .entry)) (now (weights .entry))) (now (separators .entry)) (now (scratch .entry)) in
+        let call = Plan method (byLists second startup (now (speeds .entry)) (now (holds .entry)) (now (weights .entry))) (now (separators .entry)) (now (scratch .entry)) in
         ⌜ Leaves call (now (separators .exit) ∷ now (scratch .exit) ∷ []) ⌝ }
     ensures answer { λ _.
-        let call = Plan method (byLists second startup (now (speeds .entry)) (now (weights .entry))) (now (separators .entry)) (now (scratch .entry)) in
+        let call = Plan method (byLists second startup (now (speeds .entry)) (now (holds .entry)) (now (weights .entry))) (now (separators .entry)) (now (scratch .entry)) in
         ⌜ now (answer .exit) ≡ saidPut (said call) (now (answer .entry)) ⌝ }
 {
     let planned = plan(
@@ -386,6 +395,7 @@ pub extern "C" fn exported_plan(
         second,
         startup,
         speeds,
+        holds,
         weights,
         separators,
         scratch,
@@ -399,22 +409,23 @@ pub extern "C" fn exported_write_plan(
     second: bool,
     startup: u32,
     speeds: &[u32],
+    holds: &[u16],
     weights: &[u32],
     separators: &[u32],
     plan: &mut [u8],
     answer: &mut [u64],
 ) -> u32
     ensures number { λ r.
-        let call = WritePlan (byLists second startup (now (speeds .entry)) (now (weights .entry))) (now (separators .entry)) (now (plan .entry)) in
+        let call = WritePlan (byLists second startup (now (speeds .entry)) (now (holds .entry)) (now (weights .entry))) (now (separators .entry)) (now (plan .entry)) in
         ⌜ r ≡ number call ⌝ }
     ensures left { λ _.
-        let call = WritePlan (byLists second startup (now (speeds .entry)) (now (weights .entry))) (now (separators .entry)) (now (plan .entry)) in
+        let call = WritePlan (byLists second startup (now (speeds .entry)) (now (holds .entry)) (now (weights .entry))) (now (separators .entry)) (now (plan .entry)) in
         ⌜ Leaves call (now (plan .exit) ∷ []) ⌝ }
     ensures answer { λ _.
-        let call = WritePlan (byLists second startup (now (speeds .entry)) (now (weights .entry))) (now (separators .entry)) (now (plan .entry)) in
+        let call = WritePlan (byLists second startup (now (speeds .entry)) (now (holds .entry)) (now (weights .entry))) (now (separators .entry)) (now (plan .entry)) in
         ⌜ now (answer .exit) ≡ saidPut (said call) (now (answer .entry)) ⌝ }
 {
-    let written = write_plan(second, startup, speeds, weights, separators, plan);
+    let written = write_plan(second, startup, speeds, holds, weights, separators, plan);
     put_written(answer, written)
 }
 
@@ -437,18 +448,19 @@ pub extern "C" fn exported_grade(
     second: bool,
     startup: u32,
     speeds: &[u32],
+    holds: &[u16],
     weights: &[u32],
     plan: &[u8],
     answer: &mut [u64],
 ) -> u32
     ensures number { λ r.
-        let call = Grade (byLists second startup (now (speeds .entry)) (now (weights .entry))) (now (plan .entry)) in
+        let call = Grade (byLists second startup (now (speeds .entry)) (now (holds .entry)) (now (weights .entry))) (now (plan .entry)) in
         ⌜ r ≡ number call ⌝ }
     ensures answer { λ _.
-        let call = Grade (byLists second startup (now (speeds .entry)) (now (weights .entry))) (now (plan .entry)) in
+        let call = Grade (byLists second startup (now (speeds .entry)) (now (holds .entry)) (now (weights .entry))) (now (plan .entry)) in
         ⌜ now (answer .exit) ≡ saidPut (said call) (now (answer .entry)) ⌝ }
 {
-    let graded = grade(second, startup, speeds, weights, plan);
+    let graded = grade(second, startup, speeds, holds, weights, plan);
     put_graded(answer, graded)
 }
 

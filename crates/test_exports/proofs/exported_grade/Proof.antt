@@ -19,7 +19,7 @@ same-length c = search needs
 
 returns : tie.Need-returns
 returns c =
-    let a = c .before .before .before .before .before .before .before .before .before .args in
+    let a = c .before .before .before .before .before .before .before .before .before .before .args in
     let r = c .before .before .before .before .grade .ensures in
     let p = c .before .before .put-graded .ensures in
     (p .0 ∙ ap (λ (w : Graded). (gradedSaid w) .number) r, p .1 ∙ ap (λ (w : Graded). saidPut (gradedSaid w) (a .answer .now)) r)

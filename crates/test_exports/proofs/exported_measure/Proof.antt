@@ -19,7 +19,7 @@ same-length c = search needs
 
 returns : tie.Need-returns
 returns c =
-    let a = c .before .before .before .before .before .before .before .before .before .args in
+    let a = c .before .before .before .before .before .before .before .before .before .before .args in
     let r = c .before .before .before .before .measure .ensures in
     let p = c .before .before .put-measured .ensures in
     (p .0 ∙ ap (λ (w : Measured). (measuredSaid w) .number) r, p .1 ∙ ap (λ (w : Measured). saidPut (measuredSaid w) (a .answer .now)) r)

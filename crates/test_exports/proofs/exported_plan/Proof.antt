@@ -33,10 +33,10 @@ leaves m g s t {t′ = t′} e h = (t′, h, ap (λ (l : List ℕ). l ∷ t′ �
 
 returns : tie.Need-returns
 returns c =
-    let a = c .before .before .before .before .before .before .before .before .before .before .before .before .before .before .before .before .args in
+    let a = c .before .before .before .before .before .before .before .before .before .before .before .before .before .before .before .before .before .args in
     let r = c .before .before .before .before .before .before .before .before .plan .ensures in
     let p = c .before .before .put-planned .ensures in
-    (p .0 ∙ ap (λ (w : Planned). (plannedSaid w) .number) (r .0), (leaves (a .method) (byLists (a .second) (a .startup) (a .speeds .now) (a .weights .now)) (a .separators .now) (a .scratch .now) (r .1 .0) (r .1 .1), p .1 ∙ ap (λ (w : Planned). saidPut (plannedSaid w) (a .answer .now)) (r .0)))
+    (p .0 ∙ ap (λ (w : Planned). (plannedSaid w) .number) (r .0), (leaves (a .method) (byLists (a .second) (a .startup) (a .speeds .now) (a .holds .now) (a .weights .now)) (a .separators .now) (a .scratch .now) (r .1 .0) (r .1 .1), p .1 ∙ ap (λ (w : Planned). saidPut (plannedSaid w) (a .answer .now)) (r .0)))
 
 pub exported-plan-spec : {M : Type 1} → statement M
 exported-plan-spec =

@@ -1,7 +1,7 @@
 -- `exported_read_job` meets its contract: number, lists and figures are those of `read_job`.
 -- Assumes nothing.
 use Prim.Native.Nat.{ℕ}
-use mathlib.Core.Path.{ap, ap₂, _∙_}
+use mathlib.Core.Path.{_≡_, ap, ap₂, _∙_}
 use mathlib.Core.List.{List, [], _∷_}
 use Rattle.jobs.specs.declared.JobRead.{JobRead}
 use Rattle.jobs.specs.Answers.{readSaid}
@@ -25,14 +25,21 @@ same-length-2 c = search needs
 same-length-3 : tie.Need-same-length-3
 same-length-3 c = search needs
 
+same-length-4 : tie.Need-same-length-4
+same-length-4 c = search needs
+
+-- Three lists as they are left.
+lists : {a b c x y z : List ℕ} → a ≡ x → b ≡ y → c ≡ z → a ∷ b ∷ c ∷ [] ≡ x ∷ y ∷ z ∷ []
+lists {c = c} {x = x} {y = y} e f g = ap₂ (λ (l k : List ℕ). l ∷ k ∷ c ∷ []) e f ∙ ap (λ (l : List ℕ). x ∷ y ∷ l ∷ []) g
+
 returns : tie.Need-returns
 returns c =
-    let a = c .before .before .before .before .before .before .before .before .before .before .before .before .before .before .before .args in
-    let r = c .before .before .before .before .before .before .before .before .read-job .ensures in
+    let a = c .before .before .before .before .before .before .before .before .before .before .before .before .before .before .before .before .before .before .before .args in
+    let r = c .before .before .before .before .before .before .before .before .before .before .read-job .ensures in
     let p = c .before .before .put-read .ensures in
-    (p .0 ∙ ap (λ (w : JobRead). (readSaid w) .number) (r .0), (ap₂ (λ (l k : List ℕ). l ∷ k ∷ []) (r .1 .0) (r .1 .1), p .1 ∙ ap (λ (w : JobRead). saidPut (readSaid w) (a .answer .now)) (r .0)))
+    (p .0 ∙ ap (λ (w : JobRead). (readSaid w) .number) (r .0), (lists (r .1 .0) (r .1 .1 .0) (r .1 .1 .1), p .1 ∙ ap (λ (w : JobRead). saidPut (readSaid w) (a .answer .now)) (r .0)))
 
 pub exported-read-job-spec : {M : Type 1} → statement M
 exported-read-job-spec =
     tie.close
-    (tie.spec read-job-requires put-read-requires same-length same-length-2 same-length-3 returns)
+    (tie.spec read-job-requires put-read-requires same-length same-length-2 same-length-3 same-length-4 returns)
