@@ -6,13 +6,16 @@ use mathlib.Core.List.{List, [], _∷_, _++_, List·Memᴰ}
 use mathlib.Core.Logic.{_≢_, _↔_}
 use native.Mathlib.Omega.{arith}
 use native.Mathlib.Nat.{le-refl}
+use lib.Dec.{T}
 use lib.ListN.{length, take, drop, length-append}
 use lib.Seq.{take-take}
 use Rattle.chain.specs.declared.Method.{Method}
-use Rattle.chain.specs.Job.{processors, tasks}
-use Rattle.chain.specs.Refusal.{lengthTest, FirstFailing, separatorsNeeded}
-use Rattle.chain.proofs.Refusals.{job-accepted, gives, given-number}
-use Rattle.refusals.specs.Inputs.{scratchNeeded}
+use Rattle.chain.specs.declared.Method.the-variants.{Table, Bidding, Bisection, Nicol}
+use Rattle.chain.specs.Job.{Job, processors, tasks, enough}
+use Rattle.chain.specs.Plan.{takes}
+use Rattle.chain.specs.Refusal.{lengthTest, holdsTest, enoughTest, freeTest, FirstFailing, separatorsNeeded, refusal}
+use Rattle.chain.proofs.Refusals.{pass-head, pass-skip, job-accepted, valid-holds, append-accepted, gives, given-number}
+use Rattle.refusals.specs.Inputs.{scratchLists, scratchNeeded, planLists, methodInputs}
 use Rattle.refusals.specs.Methods.{numberOf}
 use Rattle.refusals.specs.declared.Chosen.{Chosen}
 use Rattle.refusals.specs.declared.Written.{Written}
@@ -20,28 +23,48 @@ use Rattle.refusals.specs.Answers.{saidBy, writtenSaid, lentAfter}
 use Rattle.refusals.proofs.Answering.{number-of, written-said, written-all}
 use Rattle.refusals.proofs.Lent.{lent-refused, lent-front}
 use Rattle.refusals.proofs.Methods.{known-passes, number-chosen}
-use Rattle.refusals.proofs.Tests.{length-enough, heuristic-list, plan-scratch, plan-known}
+use Rattle.refusals.proofs.Steps.{passed-all}
+use Rattle.refusals.proofs.Tests.{length-enough, all-holds, separators-list, plan-holds, method-free, method-other, plan-known}
 use Rattle.parts.proofs.Front.{taken}
-use Rattle.jobs.specs.Parse.{editionIn, jobIn, fileRefusal}
+use Rattle.jobs.specs.Parse.{editionIn, jobIn, fileTests, fileRefusal}
+use Rattle.jobs.proofs.Calls.{file-numbered}
 use Rattle.jobs.proofs.RoundTrip.{accepted-valid}
 use Rattle.planner.specs.declared.Planned.the-variants.{Accepted}
 use Rattle.planner.specs.Answers.{planRefusal, planFigures, plannedOf, chosenAnswer, planAnswer, planWrites}
 use Rattle.planner.proofs.Promises.{accepted-separators}
-use Rattle.listing.specs.Listing.{planLine, methodLine, listingOf, intake, listing}
+use Rattle.listing.specs.Listing.{planLine, methodLine, listingOf, listedTests, listedRefusal, intake, listing}
 use Rattle.listing.specs.Answers.{listTests, listRefusal, listAnswer, listWrites}
 
--- A job that was read is planned by every method, with lists that are long enough:
-module _ (file : List ℕ) (read : fileRefusal file ≡ 0) (method : Method) (s t : List ℕ) (seps : separatorsNeeded (jobIn file) ≤ length s)
-    (work : scratchNeeded (jobIn file) ≤ length t) where
+-- Nothing is refused by a method that takes the job, past the lists and the holds.
+method-passes : (job : Job) (method : Method) (s t : ℕ) → T (takes method job) → 0 ≡ refusal job (planLists job s t)
+    → 0 ≡ refusal job (methodInputs job (numberOf method) s t)
+unfolding takes numberOf freeTest
+method-passes job Table s t h e = method-other job 1 s t e refl refl (λ z. omega arith)
+method-passes job Bidding s t h e = method-other job 2 s t e refl refl (λ z. omega arith)
+method-passes job Bisection s t h e = method-other job 3 s t e refl refl (λ z. omega arith)
+method-passes job Nicol s t h e = method-free job 4 s t e refl refl refl (sym (pass-skip (freeTest job) [] h ∙ passed-all))
+
+-- A file that is listed is read, and the holds of its job are enough.
+pub listed-accepted : (file : List ℕ) → listedRefusal file ≡ 0 → (fileRefusal file ≡ 0) × T (enough (jobIn file))
+unfolding listedRefusal listedTests fileRefusal enoughTest
+listed-accepted file e =
+    let a = append-accepted (fileTests file) (enoughTest (jobIn file) ∷ []) (file-numbered file) e in
+    (a .0, pass-head (enoughTest (jobIn file)) [] (omega arith) (a .1))
+
+-- Its job is planned by every method that takes it, with lists that are long enough:
+module _ (file : List ℕ) (listed : listedRefusal file ≡ 0) (method : Method) (taken : T (takes method (jobIn file))) (s t : List ℕ)
+    (seps : separatorsNeeded (jobIn file) ≤ length s) (work : scratchNeeded (jobIn file) ≤ length t) where
   -- planning refuses nothing,
   pub read-planned : planRefusal (jobIn file) (numberOf method) (length s) (length t) ≡ 0
-  unfolding planRefusal
+  unfolding planRefusal enoughTest
   read-planned =
       let job = jobIn file in
-      let valid = job-accepted .1 (accepted-valid file read) in
-      let list = heuristic-list job (length s) (sym valid) refl (length-enough (processors job + 1) (length s) (omega arith)) in
-      sym (plan-known job (numberOf method) (length s) (length t) (known-passes (numberOf method) (number-chosen method))
-      (plan-scratch job (length s) (length t) list refl (length-enough (5 * (tasks job + 1)) (length t) (omega arith))))
+      let ok = listed-accepted file listed in
+      let valid = accepted-valid file (ok .0) in
+      let all = all-holds job (sym (job-accepted .1 valid)) refl (sym (pass-skip (holdsTest job) [] (valid-holds valid) ∙ passed-all)) in
+      let list = separators-list job (length s) all refl (length-enough (processors job + 1) (length s) (omega arith)) in
+      let lists = plan-holds job (length s) (length t) list refl (length-enough (scratchLists * (tasks job + 1)) (length t) (omega arith)) refl (sym (pass-skip (enoughTest job) [] (ok .1) ∙ passed-all)) in
+      sym (plan-known job (numberOf method) (length s) (length t) (known-passes (numberOf method) (number-chosen method)) (method-passes job method (length s) (length t) taken lists))
 
   -- the call answers with the figures of the method's line,
   pub read-accepted : planAnswer (editionIn file) (jobIn file) (numberOf method) s t ≡ Accepted (planFigures (editionIn file) method (jobIn file))
@@ -60,7 +83,7 @@ module _ (file : List ℕ) (read : fileRefusal file ≡ 0) (method : Method) (s 
 -- Scope 9.6: "judges a longer file by those bytes": what comes behind them is without effect.
 pub listing-taken : (file : List ℕ) → listing (take intake file) ≡ listing file
 unfolding listing
-listing-taken file = ap (λ (l : List ℕ). listingOf (fileRefusal l) l) (take-take intake intake file (le-refl intake))
+listing-taken file = ap (λ (l : List ℕ). listingOf (listedRefusal l) l) (take-take intake intake file (le-refl intake))
 
 -- The call: 0 or 9; that of the first test that fails; a refusal leaves the buffer as it was.
 module _ (file out : List ℕ) where

@@ -2,12 +2,15 @@
 // with. What stands in it is a definition, `listing`, and `list` puts exactly these bytes.
 ghost use Prim.Native.Nat.{_+_, _*_, _≤_, _<_};
 ghost use mathlib.Core.Path.{_≡_};
+ghost use mathlib.Core.List.{[], _∷_};
+ghost use lib.Dec.{T};
 ghost use lib.ListN.{length};
-ghost use Rattle.chain.specs.Job.{editionOf, Job, jobOf, Valid, processors};
-ghost use Rattle.jobs.specs.Parse.{fileRefusal};
+ghost use Rattle.chain.specs.Job.{editionOf, Job, jobOf, Valid, processors, enough};
+ghost use Rattle.chain.specs.Refusal.{enoughTest, firstRefusal};
+ghost use Rattle.planner.specs.Answers.{Tested};
 ghost use Rattle.listing.specs.Listing as says;
 ghost use Rattle.texts.specs.Room.{fieldRoom, Put};
-ghost use Rattle.listing.specs.Listing.{fields, countsLine, figuresText, planLine, methodLine, jobListing, listingOf};
+ghost use Rattle.listing.specs.Listing.{fields, countsLine, figuresText, planLine, methodLine, lastLine, jobListing, listingBy, listingOf, listedRefusal};
 ghost use Rattle.listing.specs.Room.{figuresRoom, planRoom, countsRoom, listingRoom};
 ghost use Rattle.listing.specs.Answers.{listAnswer, listWrites};
 use chain::Method;
@@ -23,7 +26,9 @@ use refusals::MAX_PROCESSORS;
 use refusals::MAX_TASKS;
 use refusals::RECORD;
 use refusals::Written;
+use refusals::any_hold;
 use refusals::method_number;
+use refusals::test_enough;
 use refusals::test_length;
 use texts::FIELD_ROOM;
 use texts::put_field;
@@ -89,19 +94,20 @@ fn put_plan_line(
     put_text(b"\n", next, out)
 }
 
-// Inner. Plans by the method and puts its line. A job within the limits is planned: nothing is refused here.
+// Inner. Plans by the method and puts its line. A job that has been tested is planned: nothing is refused here.
 fn list_method(
     method: Method,
     second: bool,
     startup: u32,
     speeds: &[u32],
+    holds: &[u16],
     weights: &[u32],
     at: usize,
     out: &mut [u8],
 ) -> usize
     ghost { Job }
-    requires { λ job. ⌜ jobOf startup (now speeds) (now weights) ≡ job ⌝ }
-    requires { λ job. ⌜ Valid job ⌝ }
+    requires { λ job. ⌜ jobOf startup (now speeds) (now holds) (now weights) ≡ job ⌝ }
+    requires { λ job. ⌜ Tested method job ⌝ }
     requires { λ job. ⌜ at + planRoom (processors job + 1) ≤ length (now out) ⌝ }
     ensures { λ job r. ⌜ Put (methodLine (editionOf second startup) method job) at (now (out .entry)) (now (out .exit)) r ⌝ }
     ensures { λ job r. ⌜ r ≤ at + planRoom (processors job + 1) ⌝ }
@@ -113,6 +119,7 @@ fn list_method(
         second,
         startup,
         speeds,
+        holds,
         weights,
         &mut separators,
         &mut scratch,
@@ -121,10 +128,48 @@ fn list_method(
     put_plan_line(method_number(method), figures, &separators[..used], at, out)
 }
 
-// Inner. Puts the first line: the job's counts and its total weight.
-fn put_counts_line(startup: u32, speeds: &[u32], weights: &[u32], out: &mut [u8]) -> usize
+// Inner. Puts the line of method 4, which a job with holds has none of.
+fn list_last(
+    second: bool,
+    startup: u32,
+    speeds: &[u32],
+    holds: &[u16],
+    weights: &[u32],
+    at: usize,
+    out: &mut [u8],
+) -> usize
     ghost { Job }
-    requires { λ job. ⌜ jobOf startup (now speeds) (now weights) ≡ job ⌝ }
+    requires { λ job. ⌜ jobOf startup (now speeds) (now holds) (now weights) ≡ job ⌝ }
+    requires { λ job. ⌜ Valid job × T (enough job) ⌝ }
+    requires { λ job. ⌜ at + planRoom (processors job + 1) ≤ length (now out) ⌝ }
+    ensures { λ job r. ⌜ Put (lastLine (editionOf second startup) job) at (now (out .entry)) (now (out .exit)) r ⌝ }
+    ensures { λ job r. ⌜ r ≤ at + planRoom (processors job + 1) ⌝ }
+{
+    if any_hold(startup, speeds, holds, weights) {
+        return at;
+    }
+    list_method(
+        Method::Nicol,
+        second,
+        startup,
+        speeds,
+        holds,
+        weights,
+        at,
+        out,
+    )
+}
+
+// Inner. Puts the first line: the job's counts and its total weight.
+fn put_counts_line(
+    startup: u32,
+    speeds: &[u32],
+    holds: &[u16],
+    weights: &[u32],
+    out: &mut [u8],
+) -> usize
+    ghost { Job }
+    requires { λ job. ⌜ jobOf startup (now speeds) (now holds) (now weights) ≡ job ⌝ }
     requires { λ job. ⌜ Valid job ⌝ }
     requires { λ job. ⌜ countsRoom ≤ length (now out) ⌝ }
     ensures { λ job r. ⌜ Put (countsLine job) 0 (now (out .entry)) (now (out .exit)) r ⌝ }
@@ -137,28 +182,79 @@ fn put_counts_line(startup: u32, speeds: &[u32], weights: &[u32], out: &mut [u8]
     put_text(b"\n", next, out)
 }
 
-// Inner. Puts the listing of a job within the limits.
-fn list_job(second: bool, startup: u32, speeds: &[u32], weights: &[u32], out: &mut [u8]) -> usize
+// Inner. Puts the listing of a job within the limits, whose holds are enough.
+fn list_job(
+    second: bool,
+    startup: u32,
+    speeds: &[u32],
+    holds: &[u16],
+    weights: &[u32],
+    out: &mut [u8],
+) -> usize
     ghost { Job }
-    requires { λ job. ⌜ jobOf startup (now speeds) (now weights) ≡ job ⌝ }
-    requires { λ job. ⌜ Valid job ⌝ }
+    requires { λ job. ⌜ jobOf startup (now speeds) (now holds) (now weights) ≡ job ⌝ }
+    requires { λ job. ⌜ Valid job × T (enough job) ⌝ }
     requires { λ job. ⌜ listingRoom ≤ length (now out) ⌝ }
     ensures { λ job r. ⌜ Put (jobListing (editionOf second startup) job) 0 (now (out .entry)) (now (out .exit)) r ⌝ }
     ensures { λ job r. ⌜ r ≤ listingRoom ⌝ }
 {
-    let mut next = put_counts_line(startup, speeds, weights, out);
-    next = list_method(Method::Table, second, startup, speeds, weights, next, out);
-    next = list_method(Method::Bidding, second, startup, speeds, weights, next, out);
+    let mut next = put_counts_line(startup, speeds, holds, weights, out);
+    next = list_method(
+        Method::Table,
+        second,
+        startup,
+        speeds,
+        holds,
+        weights,
+        next,
+        out,
+    );
+    next = list_method(
+        Method::Bidding,
+        second,
+        startup,
+        speeds,
+        holds,
+        weights,
+        next,
+        out,
+    );
     next = list_method(
         Method::Bisection,
         second,
         startup,
         speeds,
+        holds,
         weights,
         next,
         out,
     );
-    list_method(Method::Nicol, second, startup, speeds, weights, next, out)
+    list_last(second, startup, speeds, holds, weights, next, out)
+}
+
+// Inner. Puts the listing of a job that was read, or the line of refusal 17.
+fn list_read(
+    second: bool,
+    startup: u32,
+    speeds: &[u32],
+    holds: &[u16],
+    weights: &[u32],
+    out: &mut [u8],
+) -> usize
+    ghost { Job }
+    requires { λ job. ⌜ jobOf startup (now speeds) (now holds) (now weights) ≡ job ⌝ }
+    requires { λ job. ⌜ Valid job ⌝ }
+    requires { λ job. ⌜ listingRoom ≤ length (now out) ⌝ }
+    ensures { λ job r.
+        let number = firstRefusal (enoughTest job ∷ []) in
+        ⌜ Put (listingBy number (editionOf second startup) job) 0 (now (out .entry)) (now (out .exit)) r ⌝ }
+    ensures { λ job r. ⌜ r ≤ listingRoom ⌝ }
+{
+    let kept = test_enough(startup, speeds, holds, weights);
+    if kept != 0 {
+        return put_refusal_line(kept, out);
+    }
+    list_job(second, startup, speeds, holds, weights, out)
 }
 
 // Inner. Puts the listing of a job file, or the line of its refusal.
@@ -166,22 +262,24 @@ fn list_file(file: &[u8], out: &mut [u8]) -> usize
     requires { ⌜ listingRoom ≤ length (now out) ⌝ }
     ensures { λ r.
         let bytes = now (file .entry) in
-        ⌜ Put (listingOf (fileRefusal bytes) bytes) 0 (now (out .entry)) (now (out .exit)) r ⌝ }
+        ⌜ Put (listingOf (listedRefusal bytes) bytes) 0 (now (out .entry)) (now (out .exit)) r ⌝ }
     ensures { λ r. ⌜ r ≤ listingRoom ⌝ }
 {
     let mut speeds = [0u32; MAX_PROCESSORS];
+    let mut holds = [0u16; MAX_PROCESSORS];
     let mut weights = [0u32; MAX_TASKS];
-    let read = read_job(file, &mut speeds, &mut weights);
+    let read = read_job(file, &mut speeds, &mut holds, &mut weights);
     match read {
         JobRead::Read {
             second,
             startup,
             processors,
             tasks,
-        } => list_job(
+        } => list_read(
             second,
             startup,
             &speeds[..processors],
+            &holds[..processors],
             &weights[..tasks],
             out,
         ),

@@ -21,8 +21,9 @@ slice-aggregate-plan-in-2 c = search needs
 plan-in-requires : tie.Need-plan-in-requires
 unfolding maxProcessors maxTasks
 plan-in-requires c κs =
-    let v = c .before .before .before .before .before .pre .0 in
-    (v, (omega (arith, v .processors-limit), omega (arith, v .tasks-limit)))
+    let t = c .before .before .before .before .before .before .pre .0 in
+    let v = t .valid in
+    (t, (omega (arith, v .processors-limit), omega (arith, v .tasks-limit)))
 
 add-used : tie.Need-add-used
 add-used c = search needs
@@ -32,20 +33,20 @@ method-number-requires c κs = search needs
 
 array-share-prefix-separators : tie.Need-array-share-prefix-separators
 unfolding maxProcessors
-array-share-prefix-separators c = let v = c .before .before .before .before .before .before .before .before .before .pre .0 in omega (arith, v .processors-limit)
+array-share-prefix-separators c = let v = c .before .before .before .before .before .before .before .before .before .before .pre .0 .valid in omega (arith, v .processors-limit)
 
 slice-aggregate-put-plan-line : tie.Need-slice-aggregate-put-plan-line
 unfolding maxProcessors
 slice-aggregate-put-plan-line c =
-    let v = c .before .before .before .before .before .before .before .before .before .before .pre .0 in
-    sym (length-take-le _ (c .before .before .before .before .plan-in .last .1 .1 .1 .1 .1 .0) (omega (arith, v .processors-limit)))
+    let v = c .before .before .before .before .before .before .before .before .before .before .before .pre .0 .valid in
+    sym (length-take-le _ (c .before .before .before .before .plan-in .last .1 .1 .1 .1 .1 .1 .0) (omega (arith, v .processors-limit)))
 
 put-plan-line-requires : tie.Need-put-plan-line-requires
 unfolding maxProcessors
 put-plan-line-requires c κs =
-    let s = c .before .before .before .before .before .before .before .before .before .before .before in
-    let v = s .pre .0 in
-    let t = length-take-le (length (s .args .speeds .now) + 1) (c .before .before .before .before .before .plan-in .last .1 .1 .1 .1 .1 .0) (omega (arith, v .processors-limit)) in
+    let s = c .before .before .before .before .before .before .before .before .before .before .before .before in
+    let v = s .pre .0 .valid in
+    let t = length-take-le (length (s .args .speeds .now) + 1) (c .before .before .before .before .before .plan-in .last .1 .1 .1 .1 .1 .1 .0) (omega (arith, v .processors-limit)) in
     omega arith
 
 same-length : tie.Need-same-length
@@ -54,11 +55,11 @@ same-length c = search needs
 returns : tie.Need-returns
 unfolding maxProcessors
 returns c =
-    let s = c .before .before .before .before .before .before .before .before .before .before .before .before .before .before in
-    let v = s .pre .0 in
+    let s = c .before .before .before .before .before .before .before .before .before .before .before .before .before .before .before in
+    let v = s .pre .0 .valid in
     let p = c .before .before .before .before .before .before .before .before .plan-in in
     let l = c .before .before .put-plan-line .ensures in
-    let t = length-take-le (length (s .args .speeds .now) + 1) (p .last .1 .1 .1 .1 .1 .0) (omega (arith, v .processors-limit)) in
+    let t = length-take-le (length (s .args .speeds .now) + 1) (p .last .1 .1 .1 .1 .1 .1 .0) (omega (arith, v .processors-limit)) in
     (method-put (editionOf (s .args .second) (s .args .startup)) (s .args .method) v _ (c .before .before .before .before .before .method-number .ensures) (p .ensures .0) (p .ensures .1 .0) (l .0), omega arith)
 
 pub list-method-spec : {M : Type 1} → statement M

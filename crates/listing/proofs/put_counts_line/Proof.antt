@@ -12,7 +12,7 @@ use Rattle.listing.proofs.put_counts_line.Statement.{statement}
 use Rattle.listing.proofs.put_counts_line.Tie as tie
 
 total-requires : tie.Need-total-requires
-total-requires c κs = lt-of-le-of-lt (total-weight-limit (c .before .before .before .pre .0)) (omega (arith, loads-fit))
+total-requires c κs = lt-of-le-of-lt (total-weight-limit (c .before .before .before .before .pre .0)) (omega (arith, loads-fit))
 
 slice-aggregate-put-labelled : tie.Need-slice-aggregate-put-labelled
 slice-aggregate-put-labelled c = search needs
