@@ -189,7 +189,7 @@ fn value_at(
     Bound::lesser(here, part)
 }
 
-// Inner. Fills the row after row p, whose processor has this hold; the pointer starts at 0. The speed is read once, before the stores.
+// Inner. Fills the row after row p; the pointer starts at 0. Speed and hold are read once, before the stores.
 fn fill_row(
     startup: u32,
     speeds: &[u32],
@@ -199,7 +199,6 @@ fn fill_row(
     before: usize,
     row: usize,
     p: usize,
-    hold: usize,
     start: Pointer,
 ) -> Pointer
     ghost { Job }
@@ -207,10 +206,10 @@ fn fill_row(
     requires { λ job. ⌜ RowReady job (now scratch) before p ⌝ }
     requires { λ job. ⌜ Places (suc (tasks job)) before row (length (now scratch)) ⌝ }
     requires { λ job. ⌜ (start .at ≡ 0) × (start .moves + tasks job < 2 ^ 32) ⌝ }
-    requires { λ job. ⌜ hold ≡ holdOf job (suc p) ⌝ }
     ensures { λ job r. ⌜ Filled job (now (scratch .entry)) (now (scratch .exit)) row p (start .moves) (r .moves) ⌝ }
 {
     let speed = speeds[p + 1];
+    let hold = hold_of(startup, speeds, holds, weights, p + 1);
     let mut pointer = start;
     let mut i = 0;
     while i <= weights.len() {
@@ -245,54 +244,6 @@ fn fill_row(
         i += 1;
     }
     pointer
-}
-
-// Inner. Fills the row after row p. Without a hold the loop is compiled for 0, and j begins at 0.
-fn next_row(
-    startup: u32,
-    speeds: &[u32],
-    holds: &[u16],
-    weights: &[u32],
-    scratch: &mut [u32],
-    before: usize,
-    row: usize,
-    p: usize,
-    start: Pointer,
-) -> Pointer
-    ghost { Job }
-    requires { λ job. ⌜ jobOf startup (now speeds) (now holds) (now weights) ≡ job ⌝ }
-    requires { λ job. ⌜ RowReady job (now scratch) before p ⌝ }
-    requires { λ job. ⌜ Places (suc (tasks job)) before row (length (now scratch)) ⌝ }
-    requires { λ job. ⌜ (start .at ≡ 0) × (start .moves + tasks job < 2 ^ 32) ⌝ }
-    ensures { λ job r. ⌜ Filled job (now (scratch .entry)) (now (scratch .exit)) row p (start .moves) (r .moves) ⌝ }
-{
-    let hold = hold_of(startup, speeds, holds, weights, p + 1);
-    if hold == 0 {
-        return fill_row(
-            startup,
-            speeds,
-            holds,
-            weights,
-            scratch,
-            before,
-            row,
-            p,
-            0,
-            start,
-        );
-    }
-    fill_row(
-        startup,
-        speeds,
-        holds,
-        weights,
-        scratch,
-        before,
-        row,
-        p,
-        hold,
-        start,
-    )
 }
 
 // Inner. What the table enters for the first i tasks on processor 0: none, 1/0, where it does not hold them.
@@ -362,7 +313,7 @@ pub fn table_in(
     first_row(startup, speeds, holds, weights, scratch, row);
     while p + 1 < speeds.len() {
         pointer.at = 0;
-        pointer = next_row(
+        pointer = fill_row(
             startup,
             speeds,
             holds,

@@ -1,4 +1,4 @@
--- The listings of the worked jobs, computed. Scope, sections 11 and 17.
+-- The listings of the worked jobs, computed. Scope, sections 11, 17 and 18.
 -- Assumes nothing.
 use Prim.Native.Nat.{ℕ}
 use Prim.Native.String.{String}

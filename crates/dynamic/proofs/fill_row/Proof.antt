@@ -1,10 +1,11 @@
 -- `fill_row` meets its contract: the loop keeps `Filling`.
 -- Assumes nothing.
 use Prim.Native.Nat.{suc, _+_, _-_, _≤_}
-use mathlib.Core.Path.{_≡_, refl}
+use mathlib.Core.Path.{_≡_, refl, ap, _∙_}
 use native.Mathlib.Omega.{arith}
+use native.Mathlib.Numerals.{add-one}
 use lib.ListN.{length, getD}
-use Rattle.chain.specs.Job.{Job, jobOf, speedOf}
+use Rattle.chain.specs.Job.{Job, jobOf, speedOf, holdOf}
 use Rattle.chain.specs.Dynamic.{crossing}
 use Rattle.chain.proofs.Ranges.{index-fits}
 use Rattle.dynamic.specs.Rows.{RowReady}
@@ -29,15 +30,23 @@ mul-speed c = omega (arith, c .before .before .before .before .pre .0 .next)
 shared-slice-read-speed : tie.Need-shared-slice-read-speed Inv-loop μ-loop
 shared-slice-read-speed c = omega (arith, c .before .before .before .before .before .pre .0 .next)
 
+add-hold-of : tie.Need-add-hold-of Inv-loop μ-loop
+add-hold-of c = omega (arith, c .before .before .before .before .before .pre .0 .next)
+
+hold-of-requires : tie.Need-hold-of-requires Inv-loop μ-loop
+hold-of-requires c κs =
+    let s = c .before .before .before .before .before in
+    (s .pre .0 .ready .valid, omega (arith, s .pre .0 .next))
+
 loop-holds : tie.Need-loop-holds Inv-loop μ-loop
 loop-holds c =
-    let s = c .before .before .before .before .before in
-    filling-start (s .args .scratch .now) (s .args .row) (s .args .p) (s .pre .1 .1 .0 .0)
+    let s = c .before .before .before .before .before .before in
+    filling-start (s .args .scratch .now) (s .args .row) (s .args .p) (s .pre .1 .1 .0)
 
 -- What each turn starts from.
 module _ (c : tie.At-loop Inv-loop μ-loop) where
   abbrev start : tie.Start Inv-loop μ-loop
-  start = c .before .before .before .before .before .before
+  start = c .before .before .before .before .before .before .before
 
   abbrev job : Job
   job = jobOf (start .args .startup) (start .args .speeds .now) (start .args .holds .now) (start .args .weights .now)
@@ -48,6 +57,9 @@ module _ (c : tie.At-loop Inv-loop μ-loop) where
   speed-is : getD (start .args .speeds .now) (start .args .p + 1) 0 ≡ speedOf job (suc (start .args .p))
   speed-is = next-speed job (start .args .p) (start .args .p + 1) refl (omega arith) (start .pre .0 .next)
 
+  hold-is : c .before .hold-of .result ≡ holdOf job (suc (start .args .p))
+  hold-is = c .before .hold-of .ensures .0 ∙ ap (holdOf job) (add-one (start .args .p))
+
   pointer-le : c .loop .pointer .at ≤ crossing job (start .args .p) (c .loop .i)
   pointer-le = omega (arith, c .loop .inv .pointer, passed-le (start .pre .0 .ready .valid) (start .args .p) (c .loop .i))
 
@@ -55,12 +67,12 @@ advance-requires : tie.Need-advance-requires Inv-loop μ-loop
 advance-requires c κs =
     let l = c .before .before in
     let s = start l in
-    (still-ready l, ((speed-is l, s .pre .1 .1 .1), (omega arith, pointer-le l, omega (arith, l .loop .inv .carried, s .pre .1 .1 .0 .1))))
+    (still-ready l, ((speed-is l, hold-is l), (omega arith, pointer-le l, omega (arith, l .loop .inv .carried, s .pre .1 .1 .1))))
 
 value-at-requires : tie.Need-value-at-requires Inv-loop μ-loop
 value-at-requires c κs =
     let l = c .before .before .before .before in
-    (still-ready l, ((speed-is l, start l .pre .1 .1 .1), (omega arith, c .before .advance .ensures .arrived)))
+    (still-ready l, ((speed-is l, hold-is l), (omega arith, c .before .advance .ensures .arrived)))
 
 put-requires : tie.Need-put-requires Inv-loop μ-loop
 put-requires c κs =
@@ -96,6 +108,8 @@ fill-row-spec =
     add-speed
     mul-speed
     shared-slice-read-speed
+    add-hold-of
+    hold-of-requires
     loop-holds
     advance-requires
     value-at-requires

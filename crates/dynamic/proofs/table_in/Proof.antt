@@ -34,8 +34,8 @@ loop-holds c =
 add-loop : tie.Need-add-loop Inv-loop μ-loop
 add-loop c = omega arith
 
-next-row-requires : tie.Need-next-row-requires Inv-loop μ-loop
-next-row-requires c κs =
+fill-row-requires : tie.Need-fill-row-requires Inv-loop μ-loop
+fill-row-requires c κs =
     let l = c .before .before in
     (tabling-row (l .loop .inv) (omega arith), (l .loop .inv .places, (omega arith, omega (arith, l .loop .inv .carried, moves-fit (l .loop .inv .ready .valid) (l .loop .p) (l .loop .inv .below)))))
 
@@ -46,7 +46,7 @@ loop-less : tie.Need-loop-less Inv-loop μ-loop
 loop-less c = omega arith
 
 loop-again : tie.Need-loop-again Inv-loop μ-loop
-loop-again c = tabling-turn (c .before .before .before .before .before .loop .inv) (omega arith) (c .before .before .next-row .ensures) (omega arith) (omega arith)
+loop-again c = tabling-turn (c .before .before .before .before .before .loop .inv) (omega arith) (c .before .before .fill-row .ensures) (omega arith) (omega arith)
 
 entry-requires : tie.Need-entry-requires Inv-loop μ-loop
 entry-requires c κs =
@@ -70,7 +70,7 @@ table-in-spec =
     first-row-requires
     loop-holds
     add-loop
-    next-row-requires
+    fill-row-requires
     add-p
     loop-less
     loop-again
