@@ -12,9 +12,9 @@ use lib.ListN.{length, getD, take, replicate}
 use lib.Seq.{length-take-le, getD-take}
 use borrow.Author.Tests.{eq-eqb, ne-eqb}
 use Rattle.bound.specs.declared.Bound.{Bound}
-use Rattle.bound.specs.Order.{le, pick, greater}
+use Rattle.bound.specs.Order.{le, pick, greater, _≼_}
 use Rattle.chain.specs.Lists.{sumTo, all, eachOf}
-use Rattle.chain.specs.Job.{startupOf, Job, jobOf, freeJob, Valid, tasks, processors, last, speedOf, holdOf, held, enough, partOf, partLoad, totalWeight, heaviest, fastest, slowest, partBound, keeps, within, at, allKept, boundAt, bottleneckTo, bottleneck, ideal, widest}
+use Rattle.chain.specs.Job.{startupOf, Job, jobOf, freeJob, Valid, tasks, processors, last, speedOf, holdOf, held, enough, partOf, partLoad, totalWeight, heaviest, fastest, slowest, partBound, keeps, within, at, Partition, allKept, boundAt, bottleneckTo, bottleneck, ideal, widest}
 use Rattle.chain.specs.Heuristic.{heuristic}
 use Rattle.chain.specs.Halving.{Halvable}
 use Rattle.chain.specs.Bisection.{firstEnds}
@@ -25,7 +25,7 @@ use Rattle.chain.proofs.Tests.{T-of, T-true, and-left, and-right, and-both}
 use Rattle.chain.proofs.Sums.{sum-same-below}
 use Rattle.chain.proofs.Indices.{all-at, all-of}
 use Rattle.chain.proofs.Parts.{Proper, valid-proper}
-use Rattle.chain.proofs.Within.{Free, free-keeps, keeps-cases, keeps-limited, within-keeps, offer-part}
+use Rattle.chain.proofs.Within.{Free, free-keeps, keeps-cases, keeps-unlimited, keeps-limited, within-keeps, offer-part}
 use Rattle.chain.proofs.Table.{start-unlimited}
 use Rattle.chain.proofs.Enough.{partition-enough, enough-exactly}
 use Rattle.chain.proofs.Refusals.{Numbered, numbered-nil, numbered-cons, numbered-append, numbered-map, pass-head, pass-skip, first-refusal-append, first-refusal-before, first-refusal-same, refused-first, append-accepted, numbersIn, oneOf, given-number, numbers-append, numbers-more, job-numbered, call-numbered, job-accepted, valid-holds, partition-test}
@@ -58,7 +58,7 @@ use Rattle.demands.specs.Call.{ByLists, editionBy, jobBy, listsIn, Call,
 use Rattle.demands.specs.Demands.{number, Accepts, front, HostLeft}
 use Rattle.demands.specs.Limit.{processorsIn}
 use Rattle.demands.specs.Editions.{Same}
-use Rattle.demands.specs.Holds.{Held, Short, Indivisible, Ready, PlanReady, HostReady, RefusesShort, Keeping, holding, callHolding, Unheld, testsBefore, Unlimited, BlankHolds, BlankFile, Regardless, Holdings}
+use Rattle.demands.specs.Holds.{Held, Short, Indivisible, Ready, PlanReady, HostReady, RefusesShort, Dividing, Keeping, holding, callHolding, Unheld, testsBefore, Unlimited, BlankHolds, BlankFile, Regardless, Holdings}
 use Rattle.demands.proofs.Demands.{planning, demand-three, lists-job}
 use Rattle.demands.proofs.Grades.{grades}
 use Rattle.demands.proofs.Halvings.{not-one}
@@ -555,6 +555,27 @@ list-short file e s =
     sym (listed-whole file (omega (arith, l, one-head (editionIn file), v .tasks-limit, v .processors-limit)))
     ∙ ap (λ (n : ℕ). listingOf n file) (refused-first (fileTests file) (enoughTest (jobIn file)) [] (file-numbered file) (unfold fileRefusal in e) (short-exactly (startupIn file) (listsIn file) .1 s))
 
+-- A division is P + 1 separators that keep the holds.
+division : (g : ByLists) (s : List ℕ) → Partition (jobBy g) s ↔ (Dividing g s × Keeping g s)
+division g s = (
+  λ w. (record { count = w .count; first = w .first; grows = w .grows; end = w .end }, keeping c g s (w .kept)),
+  λ (d, k). record { count = d .count; first = d .first; grows = d .grows; end = d .end; kept = each k },
+)
+  where
+    c : ℕ
+    c = startupOf (editionBy g)
+
+    each : Keeping g s → (p : ℕ) → p < length (g .speeds) → T (keeps (jobBy g) p (at s p) (at s (suc p)))
+    each k p h =
+        elim (ℕ-discrete (getD (g .holds) p 0) 0) [
+          | yes e ↦ keeps-unlimited (jobBy g) p (at s p) (at s (suc p)) (sym (at-hold c g p h) ∙ e)
+          | no n ↦ keeps-limited (jobBy g) p (at s p) (at s (suc p)) (omega (arith, at-hold c g p h, k p h n))
+        ]
+
+least : (m : ℕ) (g : ByLists) (s t : List ℕ) → Accepts (Plan m g s t) → (u : List ℕ) → Dividing g u → Keeping g u
+    → bottleneck (jobBy g) (front (jobBy g) (planWrites (jobBy g) m s t)) ≼ bottleneck (jobBy g) u
+least m g s t e u d k = demand-three .planned m g s t e .best .least u (division g u .1 (d, k))
+
 -- What is left keeps the holds: of an accepted plan, of the C call, of a trial and of a plan file that is graded.
 planned : (m : ℕ) (g : ByLists) (s t : List ℕ) → Accepts (Plan m g s t) → Keeping g (front (jobBy g) (planWrites (jobBy g) m s t))
 planned m g s t e =
@@ -932,12 +953,14 @@ holdings =
       host-held = host-held;
       quick-held = quick-held;
       halving-held = halving-held;
+      division = division;
       planned = planned;
       host = host;
       tried = tried;
       measured = measured;
       written = written;
       graded = graded;
+      least = least;
       unlimited = unlimited;
       one = one;
       blank-file = blank-file;

@@ -7,7 +7,7 @@ use mathlib.Core.Logic.{_≢_, _↔_}
 use lib.Dec.{T, eqb, leb}
 use lib.ListN.{length, getD, take}
 use Rattle.bound.specs.declared.Bound.{Bound}
-use Rattle.bound.specs.Order.{le}
+use Rattle.bound.specs.Order.{le, _≼_}
 use Rattle.chain.specs.Lists.{sumTo, all}
 use Rattle.chain.specs.Job.{Edition, startupOf, Job, freeJob, tasks, processors, last, held, enough, partLoad, heaviest, fastest, slowest, partBound, keeps, within, offer, at, Partition, bottleneck, ideal}
 use Rattle.chain.specs.Heuristic.{heuristic}
@@ -69,6 +69,13 @@ pub record RefusesShort (call : Call) (g : ByLists) (Before : Type 0) : Type 0 w
   pub short : (number call ≡ 17) ↔ (Before × Short g)
   -- Scope 18.19: "That is exactly where no division keeps the holds."
   pub none : (number call ≡ 17) ↔ (Before × Indivisible (jobBy g))
+
+-- P + 1 separators, whatever the holds are. Scope 1.9: "A division is P + 1 separators, s0 = 0 ≤ s1 ≤ … ≤ sP = N."
+pub record Dividing (g : ByLists) (s : List ℕ) : Type 0 where
+  pub count : length s ≡ suc (length (g .speeds))
+  pub first : at s 0 ≡ 0
+  pub grows : (p : ℕ) → p < length (g .speeds) → at s p ≤ at s (suc p)
+  pub end : at s (length (g .speeds)) ≡ length (g .weights)
 
 -- The separators keep the holds. Scope 18.6: "where the hold of a machine is not 0, its share has at most as many tiles as the hold"
 abbrev pub Keeping : ByLists → List ℕ → Type 0
@@ -162,7 +169,8 @@ pub record Holdings : Type 0 where
       → (number (PlanJob file m plan) ≡ 18) ↔ (HostReady file m plan × (Short (listsIn file) → ⊥) × (m ≡ 4) × Held (listsIn file))
   pub quick-held : (g : ByLists) (s : List ℕ) → (number (Heuristic g s) ≡ 18) ↔ (Ready g s × Held g)
   pub halving-held : (g : ByLists) (s : List ℕ) → (number (Halving g s) ≡ 18) ↔ (Halvable (g .speeds) × Ready g s × Held g)
-  -- Scope 18.6: "A division keeps every hold". Those that an accepted plan and the C call leave,
+  -- Scope 18.6: "A division keeps every hold". So do the divisions that an accepted plan and the C call leave,
+  pub division : (g : ByLists) (s : List ℕ) → Partition (jobBy g) s ↔ (Dividing g s × Keeping g s)
   pub planned : (m : ℕ) (g : ByLists) (s t : List ℕ) → Accepts (Plan m g s t) → Keeping g (front (jobBy g) (planWrites (jobBy g) m s t))
   pub host : (file plan : List ℕ) (m : ℕ) → Accepts (PlanJob file m plan) → (s : List ℕ) × HostLeft file plan m s × Keeping (listsIn file) s
   -- and what a trial leaves, whether it fits or fails. Scope 18.8: "So in a trial a share also stops at the hold, and so does what the last machine
@@ -174,6 +182,9 @@ pub record Holdings : Type 0 where
   pub written : (g : ByLists) (s plan : List ℕ) → Ready g s → planRecordSize * length (g .speeds) ≤ length plan → (Keeping g (front (jobBy g) s) → ⊥)
       → number (WritePlan g s plan) ≡ 11
   pub graded : (g : ByLists) (plan : List ℕ) → Bytes plan → Accepts (Grade g plan) → (told : TruePlan (jobBy g) plan) × Keeping g (told .separators)
+  -- Scope 18.24: "No division that keeps the holds has a smaller bottleneck than the plan."
+  pub least : (m : ℕ) (g : ByLists) (s t : List ℕ) → Accepts (Plan m g s t) → (u : List ℕ) → Dividing g u → Keeping g u
+      → bottleneck (jobBy g) (front (jobBy g) (planWrites (jobBy g) m s t)) ≼ bottleneck (jobBy g) u
   -- Scope 18.25: "A job without holds, all of them 0, is answered as before there were holds: the same separators, bounds, counts, allowances, numbers
   -- and bytes." All lists of nought are one job.
   pub unlimited : (g : ByLists) → Unheld g → Unlimited (jobBy g)
