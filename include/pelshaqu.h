@@ -75,7 +75,7 @@ extern "C" {
  *
  * No division of the job has a smaller bottleneck (the greatest load / speed of a machine), and of all best divisions this is
  * the one whose separators are furthest along. In a division a machine whose hold is not 0 takes at most so many tiles. The call
- * needs no memory but at most 51 KB of stack (some 3 KB more where the dynamic linker binds memset during the call, as it may at
+ * needs no memory but at most 52 KB of stack (some 3 KB more where the dynamic linker binds memset during the call, as it may at
  * its first use in a process), keeps no state and may run in several threads at once. A pointer may be NULL where its length is 0.
  * The job's bytes and the plan's must not overlap.
  */
@@ -99,7 +99,7 @@ uint32_t plan_job(const uint8_t *job, size_t job_len, uint32_t method, uint8_t *
  *   13  a load or a speed of the plan file is untrue
  *
  * A plan need not have the separators that plan_job gives to be best. What plan_job fills is graded best. The call needs no memory
- * but at most 18 KB of stack (and what binding memset takes, as above), keeps no state and may run in several threads at once. A
+ * but at most 19 KB of stack (and what binding memset takes, as above), keeps no state and may run in several threads at once. A
  * pointer may be NULL where its length is 0. The grade's buffer must not overlap the job's bytes or the plan's.
  */
 uint32_t grade_plan(const uint8_t *job, size_t job_len, const uint8_t *plan, size_t plan_len, uint8_t *grade, size_t grade_len);
