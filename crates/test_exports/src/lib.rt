@@ -381,13 +381,16 @@ pub extern "C" fn exported_plan(
     answer: &mut [u64],
 ) -> u32
     ensures number { λ r.
-        let call = Plan method (byLists second startup (now (speeds .entry)) (now (holds .entry)) (now (weights .entry))) (now (separators .entry)) (now (scratch .entry)) in
+        let g = byLists second startup (now (speeds .entry)) (now (holds .entry)) (now (weights .entry)) in
+        let call = Plan method g (now (separators .entry)) (now (scratch .entry)) in
         ⌜ r ≡ number call ⌝ }
     ensures left { λ _.
-        let call = Plan method (byLists second startup (now (speeds .entry)) (now (holds .entry)) (now (weights .entry))) (now (separators .entry)) (now (scratch .entry)) in
+        let g = byLists second startup (now (speeds .entry)) (now (holds .entry)) (now (weights .entry)) in
+        let call = Plan method g (now (separators .entry)) (now (scratch .entry)) in
         ⌜ Leaves call (now (separators .exit) ∷ now (scratch .exit) ∷ []) ⌝ }
     ensures answer { λ _.
-        let call = Plan method (byLists second startup (now (speeds .entry)) (now (holds .entry)) (now (weights .entry))) (now (separators .entry)) (now (scratch .entry)) in
+        let g = byLists second startup (now (speeds .entry)) (now (holds .entry)) (now (weights .entry)) in
+        let call = Plan method g (now (separators .entry)) (now (scratch .entry)) in
         ⌜ now (answer .exit) ≡ saidPut (said call) (now (answer .entry)) ⌝ }
 {
     let planned = plan(
@@ -416,13 +419,16 @@ pub extern "C" fn exported_write_plan(
     answer: &mut [u64],
 ) -> u32
     ensures number { λ r.
-        let call = WritePlan (byLists second startup (now (speeds .entry)) (now (holds .entry)) (now (weights .entry))) (now (separators .entry)) (now (plan .entry)) in
+        let g = byLists second startup (now (speeds .entry)) (now (holds .entry)) (now (weights .entry)) in
+        let call = WritePlan g (now (separators .entry)) (now (plan .entry)) in
         ⌜ r ≡ number call ⌝ }
     ensures left { λ _.
-        let call = WritePlan (byLists second startup (now (speeds .entry)) (now (holds .entry)) (now (weights .entry))) (now (separators .entry)) (now (plan .entry)) in
+        let g = byLists second startup (now (speeds .entry)) (now (holds .entry)) (now (weights .entry)) in
+        let call = WritePlan g (now (separators .entry)) (now (plan .entry)) in
         ⌜ Leaves call (now (plan .exit) ∷ []) ⌝ }
     ensures answer { λ _.
-        let call = WritePlan (byLists second startup (now (speeds .entry)) (now (holds .entry)) (now (weights .entry))) (now (separators .entry)) (now (plan .entry)) in
+        let g = byLists second startup (now (speeds .entry)) (now (holds .entry)) (now (weights .entry)) in
+        let call = WritePlan g (now (separators .entry)) (now (plan .entry)) in
         ⌜ now (answer .exit) ≡ saidPut (said call) (now (answer .entry)) ⌝ }
 {
     let written = write_plan(second, startup, speeds, holds, weights, separators, plan);
