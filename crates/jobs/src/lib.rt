@@ -335,7 +335,9 @@ fn read_tested(
 ) -> JobRead
     requires { ⌜ Counted (now file) second startup processors tasks ⌝ }
     ensures { λ r.
-        ⌜ Reads (now (file .entry)) (now (speeds .entry)) (now (holds .entry)) (now (weights .entry)) r (now (speeds .exit)) (now (holds .exit)) (now (weights .exit)) ⌝ }
+        let bytes = now (file .entry) in
+        let es = now (speeds .entry) in
+        ⌜ Reads bytes es (now (holds .entry)) (now (weights .entry)) r (now (speeds .exit)) (now (holds .exit)) (now (weights .exit)) ⌝ }
 {
     let found = test_counts(processors, tasks);
     if found != 0 {
