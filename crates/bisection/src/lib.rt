@@ -3,6 +3,7 @@ ghost use Prim.Native.Nat.{suc, _<_};
 ghost use mathlib.Core.Path.{_≡_};
 ghost use lib.ListN.{length};
 ghost use Rattle.chain.specs.Ranges.{Small, Lendable};
+ghost use Rattle.chain.specs.Job as counts;
 ghost use Rattle.chain.specs.Job.{Job, jobOf, processors, ideal, widest};
 ghost use Rattle.chain.specs.Bisection.{firstEnds, nextEnds};
 ghost use Rattle.chain.specs.Plan.{BisectionEnds};
@@ -14,12 +15,12 @@ use chain::Ends;
 use chain::Outcome;
 use heuristic::heuristic_in;
 use parts::Found;
+use parts::any_hold;
 use parts::ideal_of;
 use parts::measure_in;
 use parts::slowest_of;
 use parts::wide;
 use probe::probe_in;
-use refusals::any_hold;
 
 // Inner. One round of bisection: a trial at half the sum of the ends. A fit brings the high end to that partition's bottleneck,
 // a failure brings the low end to the next bid.
@@ -29,6 +30,7 @@ fn next_ends(
     holds: &[u16],
     weights: &[u32],
     sums: &[u32],
+    held: bool,
     low: Bound,
     high: Bound,
     separators: &mut [u32],
@@ -38,11 +40,21 @@ fn next_ends(
     requires { λ job. ⌜ ReadyKept job (now sums) ⌝ }
     requires { λ job. ⌜ processors job < length (now separators) ⌝ }
     requires { λ job. ⌜ Small low × Small high ⌝ }
+    requires { λ job. ⌜ held ≡ counts.held job ⌝ }
     ensures { λ job r. ⌜ r ≡ nextEnds job (record { low = low; high = high }) ⌝ }
     ensures { λ job r. ⌜ KeptFrom (suc (processors job)) (now (separators .entry)) (now (separators .exit)) ⌝ }
 {
     let middle = Bound::midpoint(low, high);
-    let answer = probe_in(startup, speeds, holds, weights, sums, middle, separators);
+    let answer = probe_in(
+        startup,
+        speeds,
+        holds,
+        weights,
+        sums,
+        held,
+        middle,
+        separators,
+    );
     match answer {
         Outcome::Fits(visited) => {
             let least = measure_in(startup, speeds, holds, weights, sums, separators);
@@ -73,16 +85,18 @@ fn first_high(
     holds: &[u16],
     weights: &[u32],
     sums: &[u32],
+    held: bool,
     separators: &mut [u32],
 ) -> Bound
     ghost { Job }
     requires { λ job. ⌜ jobOf startup (now speeds) (now holds) (now weights) ≡ job ⌝ }
     requires { λ job. ⌜ Ready job (now sums) ⌝ }
     requires { λ job. ⌜ processors job < length (now separators) ⌝ }
+    requires { λ job. ⌜ held ≡ counts.held job ⌝ }
     ensures { λ job r. ⌜ r ≡ firstEnds job .high ⌝ }
     ensures { λ job r. ⌜ KeptFrom (suc (processors job)) (now (separators .entry)) (now (separators .exit)) ⌝ }
 {
-    if any_hold(startup, speeds, holds, weights) {
+    if held {
         return widest_of(startup, speeds, holds, weights, sums);
     }
     heuristic_in(startup, speeds, holds, weights, sums, separators);
@@ -96,6 +110,7 @@ fn bisect(
     holds: &[u16],
     weights: &[u32],
     sums: &[u32],
+    held: bool,
     next: Bound,
     separators: &mut [u32],
 ) -> Found
@@ -104,18 +119,29 @@ fn bisect(
     requires { λ job. ⌜ ReadyKept job (now sums) ⌝ }
     requires { λ job. ⌜ processors job < length (now separators) ⌝ }
     requires { λ job. ⌜ Rejected job (ideal job) next ⌝ }
+    requires { λ job. ⌜ held ≡ counts.held job ⌝ }
     ensures { λ job r. ⌜ BisectionEnds job (r .count) (r .bound) ⌝ }
     ensures { λ job r. ⌜ Lendable (r .bound) ⌝ }
     ensures { λ job r. ⌜ KeptFrom (suc (processors job)) (now (separators .entry)) (now (separators .exit)) ⌝ }
 {
     let mut low = next;
-    let mut high = first_high(startup, speeds, holds, weights, sums, separators);
+    let mut high = first_high(startup, speeds, holds, weights, sums, held, separators);
     let mut rounds = 0u32;
     let found = loop {
         if Bound::at_most(high, low) {
             break low;
         }
-        let ends = next_ends(startup, speeds, holds, weights, sums, low, high, separators);
+        let ends = next_ends(
+            startup,
+            speeds,
+            holds,
+            weights,
+            sums,
+            held,
+            low,
+            high,
+            separators,
+        );
         low = ends.low;
         high = ends.high;
         rounds += 1;
@@ -143,10 +169,29 @@ pub fn bisection_in(
     ensures { λ job r. ⌜ Lendable (r .bound) ⌝ }
     ensures { λ job r. ⌜ KeptFrom (suc (processors job)) (now (separators .entry)) (now (separators .exit)) ⌝ }
 {
+    let held = any_hold(startup, speeds, holds, weights);
     let bound = ideal_of(startup, speeds, holds, weights, sums);
-    let answer = probe_in(startup, speeds, holds, weights, sums, bound, separators);
+    let answer = probe_in(
+        startup,
+        speeds,
+        holds,
+        weights,
+        sums,
+        held,
+        bound,
+        separators,
+    );
     match answer {
         Outcome::Fits(visited) => Found { bound, count: 1 },
-        Outcome::Fails(next) => bisect(startup, speeds, holds, weights, sums, next, separators),
+        Outcome::Fails(next) => bisect(
+            startup,
+            speeds,
+            holds,
+            weights,
+            sums,
+            held,
+            next,
+            separators,
+        ),
     }
 }

@@ -19,6 +19,7 @@ use bound::Bound;
 use chain::Outcome;
 use halving::halving_in;
 use heuristic::heuristic_in;
+use parts::any_hold;
 use parts::measure_in;
 use parts::prefix_sums;
 use probe::walked_in;
@@ -120,7 +121,17 @@ fn probe_tested(
 {
     let mut sums = [0u32; MAX_TASKS + 1];
     prefix_sums(weights, &mut sums);
-    walked_in(startup, speeds, holds, weights, &sums, bound, separators)
+    let held = any_hold(startup, speeds, holds, weights);
+    walked_in(
+        startup,
+        speeds,
+        holds,
+        weights,
+        &sums,
+        held,
+        bound,
+        separators,
+    )
 }
 
 // Inner. The probe at a lent bound with the start-up work that counts.

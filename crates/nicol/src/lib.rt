@@ -66,7 +66,7 @@ fn trial_at(
 ) -> bool
     ghost { Job }
     requires { λ job. ⌜ jobOf startup (now speeds) (now holds) (now weights) ≡ job ⌝ }
-    requires { λ job. ⌜ Ready job (now sums) ⌝ }
+    requires { λ job. ⌜ ReadyFree job (now sums) ⌝ }
     requires { λ job. ⌜ processors job < length (now separators) ⌝ }
     requires { λ job. ⌜ (p < processors job) × (a ≤ j) × (j ≤ tasks job) ⌝ }
     ensures { λ job r. ⌜ r ≡ fitsAt job p a j ⌝ }
@@ -79,6 +79,7 @@ fn trial_at(
         holds,
         weights,
         sums,
+        false,
         bound,
         first_point(),
         separators,
@@ -103,7 +104,7 @@ fn fits_at(
 ) -> bool
     ghost { Job }
     requires { λ job. ⌜ jobOf startup (now speeds) (now holds) (now weights) ≡ job ⌝ }
-    requires { λ job. ⌜ Ready job (now sums) ⌝ }
+    requires { λ job. ⌜ ReadyFree job (now sums) ⌝ }
     requires { λ job. ⌜ processors job < length (now separators) ⌝ }
     requires { λ job. ⌜ (p < processors job) × (a ≤ j) × (j ≤ tasks job) ⌝ }
     ensures { λ job r. ⌜ r ≡ fitsAt job p a j ⌝ }

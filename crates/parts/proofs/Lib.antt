@@ -3,3 +3,4 @@ pub mod Laws
 pub mod Search
 pub mod Measure
 pub mod Slowest
+pub mod Held

@@ -7,7 +7,7 @@ ghost use lib.ListN.{length, getD, take, drop};
 ghost use Rattle.bound.specs.Order.{over};
 ghost use Rattle.chain.specs.Lists.{sum};
 ghost use Rattle.chain.specs.Ranges.{Narrow};
-ghost use Rattle.chain.specs.Job.{Job, jobOf, processors, Valid, holdOf, keeps, slowestOf, ideal, Partition, boundAt, bottleneck};
+ghost use Rattle.chain.specs.Job.{Job, jobOf, processors, Valid, holdOf, held, keeps, slowestOf, ideal, Partition, boundAt, bottleneck};
 ghost use Rattle.parts.specs.Prefix.{prefixes, weightBetween, loadBetween, Loadable, Ready};
 ghost use Rattle.parts.specs.Rising.{Rising, near, Spanned, LastAtMost};
 use bound::Bound;
@@ -195,6 +195,24 @@ pub fn keeps_hold(
         return true;
     }
     b - a <= hold
+}
+
+// Inner. Whether some hold is set. It reads them all, so that several are looked at at once.
+pub fn any_hold(startup: u32, speeds: &[u32], holds: &[u16], weights: &[u32]) -> bool
+    ghost { Job }
+    requires { λ job. ⌜ jobOf startup (now speeds) (now holds) (now weights) ≡ job ⌝ }
+    requires { λ job. ⌜ Valid job ⌝ }
+    ensures { λ job r. ⌜ r ≡ held job ⌝ }
+{
+    let mut any = false;
+    let mut p = 0;
+    while p < speeds.len() {
+        if holds[p] != 0 {
+            any = true;
+        }
+        p += 1;
+    }
+    any
 }
 
 // Inner. The bound of processor p's part.

@@ -7,9 +7,9 @@ ghost use Rattle.chain.specs.Lists.{greatestOf, digits};
 ghost use Rattle.chain.specs.Job.{editionOf, Job, jobOf, Valid};
 ghost use Rattle.chain.specs.Plan.{breadth, difference, allowance};
 use chain::Method;
+use parts::any_hold;
 use parts::slowest_of;
 use parts::wide;
-use refusals::any_hold;
 
 // The greatest of a list, 0 of none.
 fn greatest_of(values: &[u32]) -> u32

@@ -29,6 +29,7 @@ pub use host::plan_job;
 use imbalance::imbalance_of;
 use nicol::nicol_in;
 use parts::Found;
+use parts::any_hold;
 use parts::measure_in;
 use parts::prefix_sums;
 use parts::wide;
@@ -106,7 +107,17 @@ fn close_walk(
     requires { λ job. ⌜ Lendable bound ⌝ }
     ensures { λ job _. ⌜ now (separators .exit) ≡ planOf job ++ drop (suc (processors job)) (now (separators .entry)) ⌝ }
 {
-    probe_in(startup, speeds, holds, weights, sums, bound, separators);
+    let held = any_hold(startup, speeds, holds, weights);
+    probe_in(
+        startup,
+        speeds,
+        holds,
+        weights,
+        sums,
+        held,
+        bound,
+        separators,
+    );
 }
 
 // Inner. The closing walk, and the figures of the plan.

@@ -14,9 +14,9 @@ use lib.ListN.{getD}
 use Rattle.bound.specs.declared.Bound.{Bound}
 use Rattle.bound.specs.Order.{_≼_, _≺_}
 use Rattle.bound.proofs.Order.{open-le, make-le, le-or-lt}
-use Rattle.chain.specs.Job.{Job, Valid, tasks, processors, speedOf, holdOf, partLoad, partBound, keeps}
+use Rattle.chain.specs.Job.{Job, Valid, tasks, processors, speedOf, holdOf, held, partLoad, partBound, keeps}
 use Rattle.chain.specs.Probe.{reach}
-use Rattle.chain.proofs.Within.{keeps-cases, keeps-unlimited, keeps-limited, within-of, past-of, past-keeps}
+use Rattle.chain.proofs.Within.{free-of, keeps-cases, keeps-unlimited, keeps-limited, within-of, past-of, past-keeps}
 use Rattle.chain.proofs.Parts.{load-le, load-some, load-right, part-empty}
 use Rattle.chain.proofs.Walk.{reach-unique}
 use Rattle.chain.specs.Ranges.{Lendable}
@@ -152,3 +152,7 @@ kept-reach job p a b B w =
         over n =
             not-T (keeps job p a (suc (a + holdOf job p)))
             (λ t. elim (keeps-cases job p a (suc (a + holdOf job p)) t) [ inl e ↦ n e | inr l ↦ let z : ⊥ = omega arith in z ])
+
+-- Without holds it is the end by the bound itself.
+pub free-reach : (job : Job) (p a b : ℕ) (B : Bound) → T (not (held job)) → EndsBy job p a B b → b ≡ reach job p a B
+free-reach job p a b B f w = kept-free-is (holdOf job p) a b (free-of f .none p) ∙ kept-reach job p a b B w

@@ -5,9 +5,10 @@ ghost use mathlib.Core.Path.{_≡_};
 ghost use mathlib.Core.List.{_++_};
 ghost use lib.ListN.{length, getD, drop};
 ghost use Rattle.chain.specs.Ranges.{Lendable, Narrow};
+ghost use Rattle.chain.specs.Job as counts;
 ghost use Rattle.chain.specs.Job.{Job, jobOf, tasks, processors, offer};
 ghost use Rattle.chain.specs.Probe.{reach, walk, walked, probe};
-ghost use Rattle.parts.specs.Prefix.{Ready};
+ghost use Rattle.parts.specs.Prefix.{Ready, ReadyFree};
 ghost use Rattle.parts.specs.Rising.{Rising, LastAtMost};
 ghost use Rattle.probe.specs.Walk.{EndsBy, keptEnd, filled, begun, firstPoint, Reached};
 use bound::Bound;
@@ -185,6 +186,69 @@ pub fn rest_of(
     part_bound(startup, speeds[p], sums, a, weights.len())
 }
 
+// Inner. The same three of a job without holds, which ask for none: how far processor p's part from a on goes,
+pub fn free_end(
+    startup: u32,
+    speeds: &[u32],
+    holds: &[u16],
+    weights: &[u32],
+    sums: &[u32],
+    p: usize,
+    a: usize,
+    bound: Bound,
+    hint: usize,
+) -> usize
+    ghost { Job }
+    requires { λ job. ⌜ jobOf startup (now speeds) (now holds) (now weights) ≡ job ⌝ }
+    requires { λ job. ⌜ ReadyFree job (now sums) ⌝ }
+    requires { λ job. ⌜ Lendable bound ⌝ }
+    requires { λ job. ⌜ (p < processors job) × (a ≤ tasks job) ⌝ }
+    ensures { λ job r. ⌜ r ≡ reach job p a bound ⌝ }
+{
+    bound_end(startup, speeds, holds, weights, sums, p, a, bound, hint)
+}
+
+// its bid for one more task,
+pub fn free_bid(
+    startup: u32,
+    speeds: &[u32],
+    holds: &[u16],
+    weights: &[u32],
+    sums: &[u32],
+    p: usize,
+    a: usize,
+    end: usize,
+) -> Bound
+    ghost { Job }
+    requires { λ job. ⌜ jobOf startup (now speeds) (now holds) (now weights) ≡ job ⌝ }
+    requires { λ job. ⌜ ReadyFree job (now sums) ⌝ }
+    requires { λ job. ⌜ (p < processors job) × (a ≤ end) × (end < tasks job) ⌝ }
+    ensures { λ job r. ⌜ r ≡ offer job p a (suc end) ⌝ }
+    ensures { λ job r. ⌜ Narrow r ⌝ }
+{
+    started_bound(startup, speeds[p], sums, a, end + 1)
+}
+
+// and the bound of all that remains.
+pub fn free_rest(
+    startup: u32,
+    speeds: &[u32],
+    holds: &[u16],
+    weights: &[u32],
+    sums: &[u32],
+    p: usize,
+    a: usize,
+) -> Bound
+    ghost { Job }
+    requires { λ job. ⌜ jobOf startup (now speeds) (now holds) (now weights) ≡ job ⌝ }
+    requires { λ job. ⌜ ReadyFree job (now sums) ⌝ }
+    requires { λ job. ⌜ (p < processors job) × (a ≤ tasks job) ⌝ }
+    ensures { λ job r. ⌜ r ≡ offer job p a (tasks job) ⌝ }
+    ensures { λ job r. ⌜ Narrow r ⌝ }
+{
+    part_bound(startup, speeds[p], sums, a, weights.len())
+}
+
 // Where a walk stands: before the part of a processor, with that part's start and the least bid of the processors before it.
 pub struct Point {
     pub processor: usize,
@@ -207,7 +271,7 @@ pub fn fill(xs: &mut [u32], from: usize, to: usize, value: u32)
 // Inner. The probe at the bound from a point on that its walk has reached: writes the separators of the processors that it comes to,
 // whether it fits or not, and answers. Once every task is placed the walk ends; the separators that are left, all N, are not written. What
 // the list holds from the point on is a hint, most often the walk before.
-pub fn walk_from(
+fn walk_held(
     startup: u32,
     speeds: &[u32],
     holds: &[u16],
@@ -257,6 +321,103 @@ pub fn walk_from(
     Outcome::Fails(Bound::lesser(best, rest))
 }
 
+// Inner. The same of a job without holds: a loop of its own, which asks for none.
+fn walk_free(
+    startup: u32,
+    speeds: &[u32],
+    holds: &[u16],
+    weights: &[u32],
+    sums: &[u32],
+    bound: Bound,
+    point: Point,
+    separators: &mut [u32],
+) -> Outcome
+    ghost { Job }
+    requires { λ job. ⌜ jobOf startup (now speeds) (now holds) (now weights) ≡ job ⌝ }
+    requires { λ job. ⌜ ReadyFree job (now sums) ⌝ }
+    requires { λ job. ⌜ Lendable bound ⌝ }
+    requires { λ job. ⌜ processors job < length (now separators) ⌝ }
+    requires { λ job. ⌜ Reached job bound (now separators) point ⌝ }
+    ensures { λ job r. ⌜ r ≡ probe job bound ⌝ }
+    ensures { λ job r. ⌜ now (separators .exit) ≡ begun job bound (now (separators .entry)) ⌝ }
+{
+    let count = speeds.len();
+    let last = count - 1;
+    let n = weights.len();
+    let mut best = point.least;
+    let mut a = point.start;
+    let mut p = point.processor;
+    if n <= a {
+        return Outcome::Fits(p);
+    }
+    while p < last {
+        let hint = index(separators[p + 1]);
+        separators[p] = narrow(a);
+        let end = free_end(startup, speeds, holds, weights, sums, p, a, bound, hint);
+        if n <= end {
+            return Outcome::Fits(p + 1);
+        }
+        best = Bound::lesser(
+            best,
+            free_bid(startup, speeds, holds, weights, sums, p, a, end),
+        );
+        a = end;
+        p += 1;
+    }
+    separators[p] = narrow(a);
+    let rest = free_rest(startup, speeds, holds, weights, sums, p, a);
+    if Bound::at_most(rest, bound) {
+        return Outcome::Fits(count);
+    }
+    Outcome::Fails(Bound::lesser(best, rest))
+}
+
+// Inner. The same, whether a hold is set or not.
+pub fn walk_from(
+    startup: u32,
+    speeds: &[u32],
+    holds: &[u16],
+    weights: &[u32],
+    sums: &[u32],
+    held: bool,
+    bound: Bound,
+    point: Point,
+    separators: &mut [u32],
+) -> Outcome
+    ghost { Job }
+    requires { λ job. ⌜ jobOf startup (now speeds) (now holds) (now weights) ≡ job ⌝ }
+    requires { λ job. ⌜ Ready job (now sums) ⌝ }
+    requires { λ job. ⌜ Lendable bound ⌝ }
+    requires { λ job. ⌜ processors job < length (now separators) ⌝ }
+    requires { λ job. ⌜ Reached job bound (now separators) point ⌝ }
+    requires { λ job. ⌜ held ≡ counts.held job ⌝ }
+    ensures { λ job r. ⌜ r ≡ probe job bound ⌝ }
+    ensures { λ job r. ⌜ now (separators .exit) ≡ begun job bound (now (separators .entry)) ⌝ }
+{
+    if held {
+        return walk_held(
+            startup,
+            speeds,
+            holds,
+            weights,
+            sums,
+            bound,
+            point,
+            separators,
+        );
+    }
+    walk_free(
+        startup,
+        speeds,
+        holds,
+        weights,
+        sums,
+        bound,
+        point,
+        separators,
+    )
+}
+
 // Inner. Every walk begins here.
 pub fn first_point() -> Point
     ensures { λ r. ⌜ r ≡ firstPoint ⌝ }
@@ -275,6 +436,7 @@ pub fn probe_in(
     holds: &[u16],
     weights: &[u32],
     sums: &[u32],
+    held: bool,
     bound: Bound,
     separators: &mut [u32],
 ) -> Outcome
@@ -283,6 +445,7 @@ pub fn probe_in(
     requires { λ job. ⌜ Ready job (now sums) ⌝ }
     requires { λ job. ⌜ Lendable bound ⌝ }
     requires { λ job. ⌜ processors job < length (now separators) ⌝ }
+    requires { λ job. ⌜ held ≡ counts.held job ⌝ }
     ensures { λ job r. ⌜ r ≡ probe job bound ⌝ }
     ensures { λ job r. ⌜ now (separators .exit) ≡ walk job bound ++ drop (suc (processors job)) (now (separators .entry)) ⌝ }
 {
@@ -295,6 +458,7 @@ pub fn probe_in(
         holds,
         weights,
         sums,
+        held,
         bound,
         first,
         separators,
@@ -319,6 +483,7 @@ pub fn walked_in(
     holds: &[u16],
     weights: &[u32],
     sums: &[u32],
+    held: bool,
     bound: Bound,
     separators: &mut [u32],
 ) -> Outcome
@@ -327,10 +492,20 @@ pub fn walked_in(
     requires { λ job. ⌜ Ready job (now sums) ⌝ }
     requires { λ job. ⌜ Lendable bound ⌝ }
     requires { λ job. ⌜ processors job < length (now separators) ⌝ }
+    requires { λ job. ⌜ held ≡ counts.held job ⌝ }
     ensures { λ job r. ⌜ r ≡ probe job bound ⌝ }
     ensures { λ job r. ⌜ now (separators .exit) ≡ walked job bound ++ drop (suc (processors job)) (now (separators .entry)) ⌝ }
 {
-    let answer = probe_in(startup, speeds, holds, weights, sums, bound, separators);
+    let answer = probe_in(
+        startup,
+        speeds,
+        holds,
+        weights,
+        sums,
+        held,
+        bound,
+        separators,
+    );
     match answer {
         Outcome::Fits(visited) => Outcome::Fits(visited),
         Outcome::Fails(next) => {

@@ -22,24 +22,6 @@ use Rattle.chain.proofs.Indices.{all-at, all-of}
 use Rattle.chain.proofs.Refusals.{pass-head, job-numbered, accepted-passes, job-accepted}
 use Rattle.refusals.proofs.Steps.{fails, passes, passed-all}
 
--- Every entry is 0, or one is not.
-zeros : (xs : List ℕ) → ((p : ℕ) → p < length xs → getD xs p 0 ≡ 0) → eachOf (λ h. eqb h 0) xs ≡ true
-unfolding eachOf
-zeros [] h = refl
-zeros (x ∷ xs) h =
-    ap₂ (λ (s t : Bool). s && t) (eq-eqb x 0 (h 0 (omega arith))) (zeros xs (λ p k. h (suc p) (omega arith)))
-
-no-zeros : (xs : List ℕ) (p : ℕ) → getD xs p 0 ≢ 0 → eachOf (λ h. eqb h 0) xs ≡ false
-unfolding eachOf
-no-zeros [] p h = absurd (h refl)
-no-zeros (x ∷ xs) zero h = ap (λ (t : Bool). t && eachOf (λ h. eqb h 0) xs) (ne-eqb x 0 h)
-no-zeros (x ∷ xs) (suc p) h =
-    ap (λ (t : Bool). eqb x 0 && t) (no-zeros xs p h) ∙ out (eqb x 0)
-  where
-    out : (t : Bool) → (t && false) ≡ false
-    out true = refl
-    out false = refl
-
 module _ (c : ℕ) (es hs ws : List ℕ) where
   abbrev job : Job
   job = jobOf c es hs ws
@@ -53,20 +35,6 @@ module _ (c : ℕ) (es hs ws : List ℕ) where
       (same-test (leb (length es) (length hs)) (leb (length es) (length (take (length es) hs)))
       (λ t. le→leb (length es) (length (take (length es) hs)) (long-cut (length es) hs (leb→le (length es) (length hs) t)))
       (λ t. le→leb (length es) (length hs) (cut-long (length es) hs (leb→le (length es) (length (take (length es) hs)) t))))
-
-  -- No hold is set, or one is.
-  pub none-set : Valid job → ((p : ℕ) → p < length es → getD hs p 0 ≡ 0) → false ≡ held job
-  unfolding held
-  none-set v h = sym (ap not (zeros (take (length es) hs) at-cut))
-    where
-      at-cut : (p : ℕ) → p < length (take (length es) hs) → getD (take (length es) hs) p 0 ≡ 0
-      at-cut p k =
-          let l : p < length es = omega (arith, length-take-le (length es) hs (holds-long c es hs ws v)) in
-          getD-take (length es) hs p 0 l ∙ h p l
-
-  pub one-set : (p : ℕ) → p < length es → getD hs p 0 ≢ 0 → true ≡ held job
-  unfolding held
-  one-set p k h = sym (ap not (no-zeros (take (length es) hs) p (λ e. h (sym (getD-take (length es) hs p 0 k) ∙ e))))
 
   -- One processor has no limit, or all together decide.
   pub one-free : (p : ℕ) → p < length es → getD hs p 0 ≡ 0 → true ≡ enough job
@@ -91,11 +59,7 @@ module _ (c : ℕ) (es hs ws : List ℕ) where
             | no k ↦ lt-leb (length ws) n (omega arith) ∙ sym (ap not (lt-ltb n (length ws) (omega arith)))
           ]
 
--- One hold more that is 0; one that is not, and the sum with it.
-pub zero-more : (hs : List ℕ) (p : ℕ) → ((k : ℕ) → k < p → getD hs k 0 ≡ 0) → getD hs p 0 ≡ 0 → (k : ℕ) → k < p + 1 → getD hs k 0 ≡ 0
-zero-more hs p h e k m =
-    elim (decLe (suc k) p) [ yes x ↦ h k x | no x ↦ subst (λ (i : ℕ). getD hs i 0 ≡ 0) (let z : p ≡ k = omega arith in z) e ]
-
+-- One hold more that is not 0, and the sum with it.
 pub limited-more : (job : Job) (p : ℕ) → ((k : ℕ) → k < p → 0 < holdOf job k) → 0 < holdOf job p → (k : ℕ) → k < p + 1 → 0 < holdOf job k
 limited-more job p h e k m =
     elim (decLe (suc k) p) [ yes x ↦ h k x | no x ↦ subst (λ (i : ℕ). 0 < holdOf job i) (let z : p ≡ k = omega arith in z) e ]

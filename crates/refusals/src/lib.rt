@@ -15,6 +15,7 @@ ghost use Rattle.refusals.specs.Methods.{chosenOf, numberOf};
 ghost use Rattle.refusals.specs.Inputs.{headRecords, listInputs, probeInputs, heuristicInputs, planLists, methodInputs, writeInputs, writePlanInputs};
 use bound::Bound;
 use chain::Method;
+use parts::any_hold;
 use parts::index;
 use parts::keeps_hold;
 
@@ -161,23 +162,6 @@ pub fn test_job(second: bool, startup: u32, speeds: &[u32], holds: &[u16], weigh
         ⌜ r ≡ refusal job nothing ⌝ }
 {
     test_all_lists(effective(second, startup), speeds, holds, weights)
-}
-
-// Inner. Whether some hold is set.
-pub fn any_hold(startup: u32, speeds: &[u32], holds: &[u16], weights: &[u32]) -> bool
-    ghost { Job }
-    requires { λ job. ⌜ jobOf startup (now speeds) (now holds) (now weights) ≡ job ⌝ }
-    requires { λ job. ⌜ Valid job ⌝ }
-    ensures { λ job r. ⌜ r ≡ held job ⌝ }
-{
-    let mut p = 0;
-    while p < speeds.len() {
-        if holds[p] != 0 {
-            return true;
-        }
-        p += 1;
-    }
-    false
 }
 
 // Inner. Whether the holds are enough: some processor has none, or all together they hold the tasks.

@@ -11,10 +11,10 @@ use Rattle.bidding.proofs.parting.Statement.{statement}
 use Rattle.bidding.proofs.parting.Tie as tie
 
 abbrev Inv-loop : tie.InvT-loop
-Inv-loop startup speeds holds weights sums next separators last least₀ a₀ p₀ least a p = Scanned (jobOf startup speeds holds weights) next separators p a least
+Inv-loop startup speeds holds weights sums held next separators last least₀ a₀ p₀ least a p = Scanned (jobOf startup speeds holds weights) next separators p a least
 
 abbrev μ-loop : tie.MeasureT-loop
-μ-loop startup speeds holds weights sums next separators last least₀ a₀ p₀ least a p = last - p
+μ-loop startup speeds holds weights sums held next separators last least₀ a₀ p₀ least a p = last - p
 
 sub-last : tie.Need-sub-last Inv-loop μ-loop
 sub-last c = omega arith
@@ -29,32 +29,32 @@ mul-index : tie.Need-mul-index Inv-loop μ-loop
 mul-index c = omega arith
 
 shared-slice-read-index : tie.Need-shared-slice-read-index Inv-loop μ-loop
-shared-slice-read-index c = omega (arith, c .before .before .before .before .before .before .before .before .pre .1 .room)
+shared-slice-read-index c = omega (arith, c .before .before .before .before .before .before .before .before .pre .1 .0 .room)
 
 index-requires : tie.Need-index-requires Inv-loop μ-loop
 index-requires c κs = search needs
 
-bid-of-requires : tie.Need-bid-of-requires Inv-loop μ-loop
-bid-of-requires c κs =
+bid-at-requires : tie.Need-bid-at-requires Inv-loop μ-loop
+bid-at-requires c κs =
     let s = c .before .before .before .before .before .before .before .before .before in
-    let w = c .before .before .before .loop .inv (s .pre .1) in
-    (s .pre .0 .ready, (omega arith, end-after (s .pre .0 .ready .valid) (s .pre .0 .enough-holds) (s .pre .1) w (omega arith) (c .index .ensures), end-before (s .pre .0 .ready .valid) (s .pre .0 .enough-holds) (s .pre .1) w (omega arith) (c .index .ensures)))
+    let w = c .before .before .before .loop .inv (s .pre .1 .0) in
+    (s .pre .0 .ready, ((omega arith, end-after (s .pre .0 .ready .valid) (s .pre .0 .enough-holds) (s .pre .1 .0) w (omega arith) (c .index .ensures), end-before (s .pre .0 .ready .valid) (s .pre .0 .enough-holds) (s .pre .1 .0) w (omega arith) (c .index .ensures)), s .pre .1 .1))
 
 at-most-requires : tie.Need-at-most-requires Inv-loop μ-loop
 at-most-requires c κs =
     let s = c .before .before .before .before .before .before .before .before .before .before in
-    parting-products (s .pre .0 .ready .valid) (s .pre .0 .enough-holds) (s .pre .1) (c .bid-of .ensures .1)
+    parting-products (s .pre .0 .ready .valid) (s .pre .0 .enough-holds) (s .pre .1 .0) (c .bid-at .ensures .1)
 
 returns : tie.Need-returns Inv-loop μ-loop
 returns c =
     let s = c .before .before .before .before .before .before .before .before .before .before .before .before in
-    parted-reached (s .pre .0 .ready .valid) (s .pre .0 .enough-holds) (s .pre .1) (c .before .before .before .before .before .before .loop .inv (s .pre .1))
+    parted-reached (s .pre .0 .ready .valid) (s .pre .0 .enough-holds) (s .pre .1 .0) (c .before .before .before .before .before .before .loop .inv (s .pre .1 .0))
 
 lesser-requires : tie.Need-lesser-requires Inv-loop μ-loop
 lesser-requires c κs =
     let s = c .before .before .before .before .before .before .before .before .before .before .before .before in
-    let n = c .before .before .before .before .before .before .loop .inv (s .pre .1) .small in
-    let b = c .before .before .bid-of .ensures .1 in
+    let n = c .before .before .before .before .before .before .loop .inv (s .pre .1 .0) .small in
+    let b = c .before .before .bid-at .ensures .1 in
     search (narrow-products, n, b)
 
 add-p : tie.Need-add-p Inv-loop μ-loop
@@ -67,13 +67,13 @@ loop-again : tie.Need-loop-again Inv-loop μ-loop
 loop-again c =
     let s = c .before .before .before .before .before .before .before .before .before .before .before .before .before in
     λ f.
-    parted-turn (s .pre .0 .ready .valid) (s .pre .0 .enough-holds) f (c .before .before .before .before .before .before .before .loop .inv f) (omega arith) (c .before .before .before .before .index .ensures) (c .before .before .before .bid-of .ensures .0) (c .before .before .before .bid-of .ensures .1)
+    parted-turn (s .pre .0 .ready .valid) (s .pre .0 .enough-holds) f (c .before .before .before .before .before .before .before .loop .inv f) (omega arith) (c .before .before .before .before .index .ensures) (c .before .before .before .bid-at .ensures .0) (c .before .before .before .bid-at .ensures .1)
     (sym (c .before .before .at-most .ensures) ∙ c .before .if1 .left) (c .lesser .ensures)
 
 returns-2 : tie.Need-returns-2 Inv-loop μ-loop
 returns-2 c =
     let s = c .before .before .before .before .before .before .before in
-    parted-reached (s .pre .0 .ready .valid) (s .pre .0 .enough-holds) (s .pre .1) (c .before .loop .inv (s .pre .1))
+    parted-reached (s .pre .0 .ready .valid) (s .pre .0 .enough-holds) (s .pre .1 .0) (c .before .loop .inv (s .pre .1 .0))
 
 pub parting-spec : {M : Type 1} → statement M
 parting-spec =
@@ -87,7 +87,7 @@ parting-spec =
     mul-index
     shared-slice-read-index
     index-requires
-    bid-of-requires
+    bid-at-requires
     at-most-requires
     returns
     lesser-requires

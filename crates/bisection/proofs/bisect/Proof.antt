@@ -19,12 +19,12 @@ use Rattle.bisection.proofs.bisect.Statement.{statement}
 use Rattle.bisection.proofs.bisect.Tie as tie
 
 abbrev Inv-loop : tie.InvT-loop
-Inv-loop startup speeds holds weights sums separators₀ low₀ high₀ rounds₀ separators low high rounds =
+Inv-loop startup speeds holds weights sums held separators₀ low₀ high₀ rounds₀ separators low high rounds =
     Halved (jobOf startup speeds holds weights) low high rounds × KeptFrom (suc (length speeds)) separators₀ separators
     × (length speeds < length separators)
 
 abbrev μ-loop : tie.MeasureT-loop
-μ-loop startup speeds holds weights sums separators₀ low₀ high₀ rounds₀ separators low high rounds = digits (difference (jobOf startup speeds holds weights)) - rounds
+μ-loop startup speeds holds weights sums held separators₀ low₀ high₀ rounds₀ separators low high rounds = digits (difference (jobOf startup speeds holds weights)) - rounds
 
 -- The job that the lists make.
 abbrev job-at : tie.Start Inv-loop μ-loop → Job
@@ -36,7 +36,7 @@ first-high-requires c κs = search needs
 loop-holds : tie.Need-loop-holds Inv-loop μ-loop
 loop-holds c =
     let s = c .before .before .before .before .before .before .before .before .before in (
-      halved-start (s .pre .0 .ready .valid) (s .pre .0 .enough-holds) (s .pre .1 .1 .failed) (s .pre .1 .1 .bids) (c .before .before .first-high .ensures .0),
+      halved-start (s .pre .0 .ready .valid) (s .pre .0 .enough-holds) (s .pre .1 .1 .0 .failed) (s .pre .1 .1 .0 .bids) (c .before .before .first-high .ensures .0),
       kept-start (suc (length (s .args .speeds .now))) _,
       omega (arith, s .pre .1 .0, c .before .before .first-high .ensures .1 .same),
     )
@@ -48,7 +48,7 @@ next-ends-requires : tie.Need-next-ends-requires Inv-loop μ-loop
 next-ends-requires c κs =
     let s = c .before .before .before .before .before .before .before .before .before .before .before .before .before in
     let l = c .before .before .before .loop in
-    (s .pre .0, (l .inv .2, (l .inv .0 .low-small, l .inv .0 .high-small)))
+    (s .pre .0, (l .inv .2, ((l .inv .0 .low-small, l .inv .0 .high-small), s .pre .1 .1 .1)))
 
 add-rounds : tie.Need-add-rounds Inv-loop μ-loop
 add-rounds c = omega (arith, rounds-fit (c .before .before .before .before .before .before .before .before .loop .rounds) (c .before .before .before .before .before .before .before .before .before .before .before .before .before .before .before .before .before .before .pre .0 .ready .valid) (c .before .before .before .before .before .before .before .before .before .before .before .before .before .before .before .before .before .before .pre .0 .enough-holds) (c .before .before .before .before .before .before .before .before .loop .inv .0))
@@ -64,8 +64,8 @@ loop-again c =
       omega (arith, c .before .before .before .before .before .before .before .before .loop .inv .2, r .ensures .1 .same),
     )
 
-add-t19 : tie.Need-add-t19 Inv-loop μ-loop
-add-t19 c = omega (arith, rounds-fit (c .before .before .loop .rounds) (c .before .before .before .before .before .before .before .before .before .before .before .before .pre .0 .ready .valid) (c .before .before .before .before .before .before .before .before .before .before .before .before .pre .0 .enough-holds) (c .before .before .loop .inv .0))
+add-t20 : tie.Need-add-t20 Inv-loop μ-loop
+add-t20 c = omega (arith, rounds-fit (c .before .before .loop .rounds) (c .before .before .before .before .before .before .before .before .before .before .before .before .pre .0 .ready .valid) (c .before .before .before .before .before .before .before .before .before .before .before .before .pre .0 .enough-holds) (c .before .before .loop .inv .0))
 
 same-length : tie.Need-same-length Inv-loop μ-loop
 same-length c = kept-trans (c .before .before .before .before .before .first-high .ensures .1) (c .before .before .loop .inv .1) .same
@@ -91,6 +91,6 @@ bisect-spec =
     add-rounds
     loop-less
     loop-again
-    add-t19
+    add-t20
     same-length
     returns)

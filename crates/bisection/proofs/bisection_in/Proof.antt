@@ -22,13 +22,16 @@ use Rattle.bisection.proofs.bisection_in.Tie as tie
 abbrev job-at : tie.Start → Job
 job-at s = jobOf (s .args .startup) (s .args .speeds .now) (s .args .holds .now) (s .args .weights .now)
 
+any-hold-requires : tie.Need-any-hold-requires
+any-hold-requires c κs = search needs
+
 ideal-of-requires : tie.Need-ideal-of-requires
 ideal-of-requires c κs = search needs
 
 probe-in-requires : tie.Need-probe-in-requires
 probe-in-requires c κs =
-    let s = c .before .before .before .before .before .before .before in
-    (s .pre .0 .ready, (subst Lendable (sym (c .before .ideal-of .ensures)) (ideal-lendable (s .pre .0 .ready .valid)), s .pre .1))
+    let s = c .before .before .before .before .before .before .before .before in
+    (s .pre .0 .ready, (subst Lendable (sym (c .before .ideal-of .ensures)) (ideal-lendable (s .pre .0 .ready .valid)), (s .pre .1, c .before .before .any-hold .ensures)))
 
 enum-known-answer : tie.Need-enum-known-answer
 enum-known-answer c = search needs
@@ -38,7 +41,7 @@ enum-known-answer-2 c = search needs
 
 bisect-requires : tie.Need-bisect-requires
 bisect-requires c κs =
-    let s = c .before .before .before .before .before .before .before .before .before .before .before .before .before .before in
+    let s = c .before .before .before .before .before .before .before .before .before .before .before .before .before .before .before in
     let job : Job = job-at s in
     let v = s .pre .0 .ready .valid in
     let b = kept-start (suc (length (s .args .speeds .now))) (s .args .separators .now) in
@@ -48,10 +51,13 @@ bisect-requires c κs =
       s .pre .0,
       (
         omega (arith, s .pre .1, kept-written (walk job I) _ b (s .pre .1) (walk-count v I) (y .1) .same),
-        record {
-          failed = subst (λ (B : Bound). T (not (fits job B))) (c .before .before .before .before .before .before .before .before .ideal-of .ensures) (f .0);
-          bids = f .1 ∙ ap (nextBid job) (c .before .before .before .before .before .before .before .before .ideal-of .ensures);
-        },
+        (
+          record {
+            failed = subst (λ (B : Bound). T (not (fits job B))) (c .before .before .before .before .before .before .before .before .ideal-of .ensures) (f .0);
+            bids = f .1 ∙ ap (nextBid job) (c .before .before .before .before .before .before .before .before .ideal-of .ensures);
+          },
+          c .before .before .before .before .before .before .before .before .before .any-hold .ensures,
+        ),
       ),
     )
 
@@ -60,7 +66,7 @@ same-length c = search needs
 
 returns : tie.Need-returns
 returns c =
-    let s = c .before .before .before .before .before .before .before .before .before .before .before .before .before in
+    let s = c .before .before .before .before .before .before .before .before .before .before .before .before .before .before in
     let job : Job = job-at s in
     let v = s .pre .0 .ready .valid in
     let b = kept-start (suc (length (s .args .speeds .now))) (s .args .separators .now) in
@@ -75,7 +81,7 @@ same-length-2 c = search needs
 
 returns-2 : tie.Need-returns-2
 returns-2 c =
-    let s = c .before .before .before .before .before .before .before .before .before .before .before .before .before .before .before .before .before in
+    let s = c .before .before .before .before .before .before .before .before .before .before .before .before .before .before .before .before .before .before in
     let job : Job = job-at s in
     let v = s .pre .0 .ready .valid in
     let b = kept-start (suc (length (s .args .speeds .now))) (s .args .separators .now) in
@@ -87,6 +93,7 @@ pub bisection-in-spec : {M : Type 1} → statement M
 bisection-in-spec =
     tie.close
     (tie.spec
+    any-hold-requires
     ideal-of-requires
     probe-in-requires
     enum-known-answer

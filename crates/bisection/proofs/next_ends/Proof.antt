@@ -23,12 +23,12 @@ abbrev job-at : tie.Start → Job
 job-at s = jobOf (s .args .startup) (s .args .speeds .now) (s .args .holds .now) (s .args .weights .now)
 
 midpoint-requires : tie.Need-midpoint-requires
-midpoint-requires c κs = middle-products (c .before .before .before .before .before .pre .1 .1 .0) (c .before .before .before .before .before .pre .1 .1 .1)
+midpoint-requires c κs = middle-products (c .before .before .before .before .before .pre .1 .1 .0 .0) (c .before .before .before .before .before .pre .1 .1 .0 .1)
 
 probe-in-requires : tie.Need-probe-in-requires
 probe-in-requires c κs =
     let s = c .before .before .before .before .before .before .before in
-    (s .pre .0 .ready, (subst Lendable (sym (c .before .midpoint .ensures)) (middle-lendable (s .pre .1 .1 .0) (s .pre .1 .1 .1)), s .pre .1 .0))
+    (s .pre .0 .ready, (subst Lendable (sym (c .before .midpoint .ensures)) (middle-lendable (s .pre .1 .1 .0 .0) (s .pre .1 .1 .0 .1)), (s .pre .1 .0, s .pre .1 .1 .1)))
 
 enum-known-answer : tie.Need-enum-known-answer
 enum-known-answer c = search needs

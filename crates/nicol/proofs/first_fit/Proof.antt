@@ -43,7 +43,7 @@ fits-at-requires c κs =
     let v = s .pre .0 .ready .valid in
     let from = halving-from v (s .pre .0 .free) (s .pre .1 .1 .0) (s .pre .1 .1 .2) (l .inv .0) in
     let to = halving-to v (s .pre .0 .free) (s .pre .1 .1 .0) (s .pre .1 .1 .2) (l .inv .0) in (
-      s .pre .0 .ready,
+      s .pre .0,
       (
         omega (arith, l .inv .1 .same, s .pre .1 .0),
         (omega (arith, s .pre .1 .1 .0), omega (arith, from, s .pre .1 .1 .1), omega (arith, to)),

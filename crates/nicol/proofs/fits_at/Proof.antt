@@ -5,7 +5,7 @@ use mathlib.Core.Path.{_≡_, sym, ap, subst, _∙_}
 use borrow.Author.Needs.{needs}
 use Rattle.chain.specs.Job.{Job, jobOf}
 use Rattle.chain.specs.Nicol.{fitsAt}
-use Rattle.parts.specs.Prefix.{Ready}
+use Rattle.parts.specs.Prefix.{ReadyFree}
 use Rattle.nicol.proofs.fits_at.Statement.{statement}
 use Rattle.nicol.proofs.fits_at.Tie as tie
 
@@ -20,7 +20,7 @@ none c =
 trial-at-requires : tie.Need-trial-at-requires
 trial-at-requires c κs =
     let s = c .before .before .before .before .before .before .before in
-    (subst (λ (job : Job). Ready job (s .args .sums .now)) (none (c .before)) (s .pre .0), s .pre .1)
+    (subst (λ (job : Job). ReadyFree job (s .args .sums .now)) (none (c .before)) (s .pre .0), s .pre .1)
 
 same-length : tie.Need-same-length
 same-length c = search needs

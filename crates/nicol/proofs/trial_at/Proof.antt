@@ -1,7 +1,8 @@
 -- `trial_at` meets its contract, by what the trial answers.
 -- Assumes nothing.
 use mathlib.Core.Path.{sym, subst, _∙_}
-use Rattle.chain.specs.Job.{Job, jobOf}
+use Rattle.chain.specs.Job.{Job, jobOf, held}
+use Rattle.chain.proofs.Tests.{T-false}
 use Rattle.chain.proofs.Ranges.{small-lendable}
 use Rattle.probe.specs.Walk.{Reached}
 use Rattle.probe.proofs.Walked.{reached-first, begun-kept}
@@ -24,7 +25,8 @@ walk-from-requires : tie.Need-walk-from-requires
 walk-from-requires c κs =
     let s = c .before .before .before .before .before .before .before .before in
     let b = c .before .before .bound-to in
-    (s .pre .0, (small-lendable (b .ensures .1), (s .pre .1 .0, subst (Reached (job-at s) (b .result) _) (sym (c .before .first-point .ensures)) (reached-first (job-at s) (b .result) _))))
+    let r = subst (Reached (job-at s) (b .result) _) (sym (c .before .first-point .ensures)) (reached-first (job-at s) (b .result) _) in
+    (s .pre .0 .ready, (small-lendable (b .ensures .1), (s .pre .1 .0, (r, sym (T-false (held (job-at s)) (s .pre .0 .free))))))
 
 enum-known-answer : tie.Need-enum-known-answer
 enum-known-answer c = search needs
@@ -41,7 +43,7 @@ returns c =
     let b = c .before .before .before .before .before .before .before .before .bound-to in
     let y = c .before .before .before .before .before .walk-from .ensures in (
       told-fits (job-at s) (s .args .p) (s .args .a) (s .args .j) (b .ensures .0) (sym (y .0) ∙ c .before .answer .given .1),
-      begun-kept (s .pre .0 .valid) (b .result) (s .args .separators .now) (s .pre .1 .0) (y .1),
+      begun-kept (s .pre .0 .ready .valid) (b .result) (s .args .separators .now) (s .pre .1 .0) (y .1),
     )
 
 same-length-2 : tie.Need-same-length-2
@@ -53,7 +55,7 @@ returns-2 c =
     let b = c .before .before .before .before .before .before .before .before .bound-to in
     let y = c .before .before .before .before .before .walk-from .ensures in (
       told-fails (job-at s) (s .args .p) (s .args .a) (s .args .j) (b .ensures .0) (sym (y .0) ∙ c .before .answer2 .given .1),
-      begun-kept (s .pre .0 .valid) (b .result) (s .args .separators .now) (s .pre .1 .0) (y .1),
+      begun-kept (s .pre .0 .ready .valid) (b .result) (s .args .separators .now) (s .pre .1 .0) (y .1),
     )
 
 pub trial-at-spec : {M : Type 1} → statement M

@@ -1,14 +1,13 @@
 -- `bid_of` meets its contract: the bid's part goes one task further, or there is no bid.
 -- Assumes nothing.
 use Prim.Native.Nat.{_+_}
-use mathlib.Core.Path.{_≡_, refl}
+use mathlib.Core.Path.{_≡_}
 use native.Mathlib.Omega.{arith}
-use lib.ListN.{getD}
 use Rattle.chain.specs.Job.{Job, jobOf, partBound}
 use Rattle.chain.proofs.Ranges.{infinite-narrow}
 use Rattle.chain.proofs.Within.{offered, not-offered}
-use Rattle.parts.proofs.Laws.{loads-to, prefix-bound, started-some}
-use Rattle.probe.proofs.Bids.{one-more}
+use Rattle.parts.proofs.Laws.{loads-to}
+use Rattle.probe.proofs.Bids.{one-more, more-bound}
 use borrow.Author.Needs.{needs}
 use Rattle.probe.proofs.bid_of.Statement.{statement}
 use Rattle.probe.proofs.bid_of.Tie as tie
@@ -44,9 +43,7 @@ returns-2 c =
     let s = c .before .before .before .before .before .before .before .before in
     let job : Job = jobOf (s .args .startup) (s .args .speeds .now) (s .args .holds .now) (s .args .weights .now) in
     let e : c .started-bound .result ≡ partBound job (s .args .p) (s .args .a) (s .args .end + 1) =
-    prefix-bound (s .pre .0 .prefix) (s .args .p) (s .args .a) (s .args .end + 1) (s .pre .1 .0) (omega (arith, s .pre .1 .1)) (omega arith) refl
-    (started-some (job .startup) (s .args .sums .now) (getD (job .speeds) (s .args .p) 0) (s .args .a) (s .args .end + 1) (omega (arith, s .pre .1 .1))
-    (c .started-bound .ensures .0)) in
+    more-bound (s .pre .0) (s .args .p) (s .args .a) (s .pre .1 .0) (s .args .end) (s .pre .1 .1) (s .pre .1 .2) (c .started-bound .ensures .0) in
     (one-more job (s .args .p) (s .args .a) (s .args .end) (offered job (s .args .p) (s .args .a) (s .args .end + 1) (c .before .before .before .keeps-hold .ensures) (c .before .before .if1 .left) e), c .started-bound .ensures .1)
 
 pub bid-of-spec : {M : Type 1} → statement M

@@ -26,7 +26,7 @@ first-point-requires c κs = search needs
 walk-from-requires : tie.Need-walk-from-requires
 walk-from-requires c κs =
     let s = c .before .before .before .before .before .before .before .before in
-    (s .pre .0, (s .pre .1 .0, (s .pre .1 .1, subst (Reached (job-at s) (s .args .bound) _) (sym (c .before .first-point .ensures)) (reached-first (job-at s) (s .args .bound) _))))
+    (s .pre .0, (s .pre .1 .0, (s .pre .1 .1 .0, (subst (Reached (job-at s) (s .args .bound) _) (sym (c .before .first-point .ensures)) (reached-first (job-at s) (s .args .bound) _), s .pre .1 .1 .1))))
 
 enum-known-answer : tie.Need-enum-known-answer
 enum-known-answer c = search needs
@@ -41,7 +41,7 @@ fill-requires c κs =
     let m = fits-outcome (job-at s) (s .args .bound) (sym (y .0) ∙ c .before .before .answer .given .1) in
     let f = m .1 in
     let h = visited-first (valid-proper (s .pre .0 .valid)) (s .args .bound) .0 in
-    let l = begun-length (s .pre .0 .valid) (s .args .bound) (s .args .separators .now) (s .pre .1 .1) in
+    let l = begun-length (s .pre .0 .valid) (s .args .bound) (s .args .separators .now) (s .pre .1 .1 .0) in
     (omega arith, omega arith)
 
 enum-known-answer-2 : tie.Need-enum-known-answer-2
@@ -62,7 +62,7 @@ returns c =
     let y = c .before .before .before .before .before .before .before .before .before .walk-from .ensures in
     let e = sym (c .before .before .before .before .before .answer .given .1) ∙ y .0 in
     let m = fits-outcome (job-at s) (s .args .bound) (sym e) in
-    (e, begun-filled (s .pre .0 .valid) (s .args .bound) (s .args .separators .now) (s .pre .1 .1) (m .1) (omega arith) (c .before .before .before .before .before .before .before .before .before .before .before .before .narrow .ensures) (y .1) (c .before .before .fill .ensures))
+    (e, begun-filled (s .pre .0 .valid) (s .args .bound) (s .args .separators .now) (s .pre .1 .1 .0) (m .1) (omega arith) (c .before .before .before .before .before .before .before .before .before .before .before .before .narrow .ensures) (y .1) (c .before .before .fill .ensures))
 
 same-length-2 : tie.Need-same-length-2
 same-length-2 c = search needs
@@ -73,7 +73,7 @@ returns-2 c =
     let y = c .before .before .before .before .before .before .before .before .before .walk-from .ensures in
     let e = sym (c .before .before .before .before .before .answer2 .given .1) ∙ y .0 in
     let m = fails-outcome (job-at s) (s .args .bound) (sym e) in
-    (e, begun-filled (s .pre .0 .valid) (s .args .bound) (s .args .separators .now) (s .pre .1 .1) (sym (visited-fails (valid-proper (s .pre .0 .valid)) (s .args .bound) (m .0))) (omega arith) (c .before .before .before .before .before .before .before .before .before .before .before .before .narrow .ensures) (y .1) (c .before .before .fill2 .ensures))
+    (e, begun-filled (s .pre .0 .valid) (s .args .bound) (s .args .separators .now) (s .pre .1 .1 .0) (sym (visited-fails (valid-proper (s .pre .0 .valid)) (s .args .bound) (m .0))) (omega arith) (c .before .before .before .before .before .before .before .before .before .before .before .before .narrow .ensures) (y .1) (c .before .before .fill2 .ensures))
 
 pub probe-in-spec : {M : Type 1} → statement M
 probe-in-spec =

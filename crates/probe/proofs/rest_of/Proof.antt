@@ -1,12 +1,12 @@
 -- `rest_of` meets its contract.
 -- Assumes nothing.
-use mathlib.Core.Path.{_≡_, refl}
+use mathlib.Core.Path.{_≡_}
 use native.Mathlib.Omega.{arith}
 use Rattle.chain.specs.Job.{Job, jobOf, tasks, partBound}
 use Rattle.chain.proofs.Ranges.{infinite-narrow}
 use Rattle.chain.proofs.Within.{offered, not-offered}
-use Rattle.parts.proofs.Laws.{loads-to, prefix-bound}
-use Rattle.probe.proofs.Bids.{part-narrow}
+use Rattle.parts.proofs.Laws.{loads-to}
+use Rattle.probe.proofs.Bids.{part-narrow, rest-bound}
 use borrow.Author.Needs.{needs}
 use Rattle.probe.proofs.rest_of.Statement.{statement}
 use Rattle.probe.proofs.rest_of.Tie as tie
@@ -36,7 +36,7 @@ returns-2 c =
     let s = c .before .before .before .before .before .before .before .before in
     let job : Job = jobOf (s .args .startup) (s .args .speeds .now) (s .args .holds .now) (s .args .weights .now) in
     let e : c .part-bound .result ≡ partBound job (s .args .p) (s .args .a) (tasks job) =
-    prefix-bound (s .pre .0 .prefix) (s .args .p) (s .args .a) (tasks job) (s .pre .1 .0) (s .pre .1 .1) (omega arith) refl (c .part-bound .ensures) in
+    rest-bound (s .pre .0) (s .args .p) (s .args .a) (s .pre .1 .0) (s .pre .1 .1) (c .part-bound .ensures) in
     (offered job (s .args .p) (s .args .a) (tasks job) (c .before .before .before .keeps-hold .ensures) (c .before .before .if1 .left) e, part-narrow _ _ _ (s .pre .0 .valid) e)
 
 pub rest-of-spec : {M : Type 1} → statement M

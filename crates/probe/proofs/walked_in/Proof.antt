@@ -34,13 +34,13 @@ index-requires c κs = search needs
 part-end-requires : tie.Need-part-end-requires
 part-end-requires c κs =
     let s = c .before .before .before .before .before .before .before .before .before .before .before .before .before .before in
-    let h = start-inside (s .pre .0 .valid) (s .args .bound) (s .args .separators .now) (s .pre .1 .1) (c .before .before .before .before .before .before .before .probe-in .ensures .1) (omega arith) (c .index .ensures) in
+    let h = start-inside (s .pre .0 .valid) (s .args .bound) (s .args .separators .now) (s .pre .1 .1 .0) (c .before .before .before .before .before .before .before .probe-in .ensures .1) (omega arith) (c .index .ensures) in
     (s .pre .0, (s .pre .1 .0, (omega arith, omega (arith, h))))
 
 narrow-requires : tie.Need-narrow-requires
 narrow-requires c κs =
     let s = c .before .before .before .before .before .before .before .before .before .before .before .before .before .before .before in
-    let h = start-inside (s .pre .0 .valid) (s .args .bound) (s .args .separators .now) (s .pre .1 .1) (c .before .before .before .before .before .before .before .before .probe-in .ensures .1) (omega arith) (c .before .index .ensures) in
+    let h = start-inside (s .pre .0 .valid) (s .args .bound) (s .args .separators .now) (s .pre .1 .1 .0) (c .before .before .before .before .before .before .before .before .probe-in .ensures .1) (omega arith) (c .before .index .ensures) in
     index-fits (s .pre .0 .valid) (omega (arith, end-to _ _ _ (s .args .bound) (c .part-end .ensures) (omega (arith, h))))
 
 add-separators : tie.Need-add-separators
@@ -71,7 +71,7 @@ returns-2 c =
     let s = c .before .before .before .before .before .before .before .before .before .before .before .before .before .before .before .before in
     let y = c .before .before .before .before .before .before .before .before .before .probe-in .ensures in (
       sym (c .before .before .before .before .before .answer2 .given .1) ∙ y .0,
-      reach-stored (s .pre .0 .valid) (s .args .bound) (s .args .separators .now) (s .pre .1 .1) (y .1) (omega arith) (c .before .before .index .ensures)
+      reach-stored (s .pre .0 .valid) (s .args .bound) (s .args .separators .now) (s .pre .1 .1 .0) (y .1) (omega arith) (c .before .before .index .ensures)
           (omega (arith, c .narrow .ensures, c .before .part-end .ensures)),
     )
 
