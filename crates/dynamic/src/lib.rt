@@ -44,19 +44,6 @@ fn put(scratch: &mut [u32], row: usize, i: usize, value: Bound)
     scratch[at + 1] = value.speed as u32;
 }
 
-// Inner. Where j begins at i, with this hold, 0 for no limit.
-fn start_from(hold: usize, i: usize) -> usize
-    ensures { λ r. ⌜ r ≡ startFrom hold i ⌝ }
-{
-    if hold == 0 {
-        return 0;
-    }
-    if i <= hold {
-        return 0;
-    }
-    i - hold
-}
-
 // Inner. The pointer moves on to where j begins, if it is before that.
 fn begin(first: usize, start: Pointer) -> Pointer
     requires { ⌜ start .moves + first < 2 ^ 32 + start .at ⌝ }
@@ -108,8 +95,7 @@ fn move_on(
     }
 }
 
-// Inner. The pointer moves on to the crossing of i, by way of where j begins with this hold. Without start-up work the loop is compiled for 0,
-// and a load is a difference of two sums.
+// Inner. The same. Without start-up work the loop is compiled for 0, and a load is a difference of two sums.
 fn advance(
     startup: u32,
     speeds: &[u32],
@@ -119,18 +105,17 @@ fn advance(
     before: usize,
     p: usize,
     speed: u32,
-    hold: usize,
     i: usize,
     start: Pointer,
 ) -> Pointer
     ghost { Job }
     requires { λ job. ⌜ jobOf startup (now speeds) (now holds) (now weights) ≡ job ⌝ }
     requires { λ job. ⌜ RowReady job (now scratch) before p ⌝ }
-    requires { λ job. ⌜ (speed ≡ speedOf job (suc p)) × (hold ≡ holdOf job (suc p)) ⌝ }
+    requires { λ job. ⌜ speed ≡ speedOf job (suc p) ⌝ }
+    requires { λ job. ⌜ startOf job (suc p) i ≤ start .at ⌝ }
     requires { λ job. ⌜ (i ≤ tasks job) × (start .at ≤ crossing job p i) × (start .moves + i < 2 ^ 32 + start .at) ⌝ }
     ensures { λ job r. ⌜ Advanced job p i (start .at) (start .moves) (r .at) (r .moves) ⌝ }
 {
-    let begun = begin(start_from(hold, i), start);
     if startup == 0 {
         return move_on(
             0,
@@ -142,7 +127,7 @@ fn advance(
             p,
             speed,
             i,
-            begun,
+            start,
         );
     }
     move_on(
@@ -155,12 +140,12 @@ fn advance(
         p,
         speed,
         i,
-        begun,
+        start,
     )
 }
 
-// Inner. The value at i in the row after row p. At the crossing the row before is the greater of the two, before the crossing
-// the part is.
+// Inner. The value at i in the row after row p; j begins at `first`. At the crossing the row before is the greater of the two, before the
+// crossing the part is.
 fn value_at(
     startup: u32,
     speeds: &[u32],
@@ -170,26 +155,135 @@ fn value_at(
     before: usize,
     p: usize,
     speed: u32,
-    hold: usize,
+    first: usize,
     i: usize,
     at: usize,
 ) -> Bound
     ghost { Job }
     requires { λ job. ⌜ jobOf startup (now speeds) (now holds) (now weights) ≡ job ⌝ }
     requires { λ job. ⌜ RowReady job (now scratch) before p ⌝ }
-    requires { λ job. ⌜ (speed ≡ speedOf job (suc p)) × (hold ≡ holdOf job (suc p)) ⌝ }
+    requires { λ job. ⌜ (speed ≡ speedOf job (suc p)) × (first ≡ startOf job (suc p) i) ⌝ }
     requires { λ job. ⌜ (i ≤ tasks job) × (at ≡ crossing job p i) ⌝ }
     ensures { λ job r. ⌜ r ≡ tableValue job (suc p) i ⌝ }
 {
     let here = entry(scratch, before, at);
-    if at == start_from(hold, i) {
+    if at == first {
         return here;
     }
     let part = started_bound(startup, speed, scratch, at - 1, i);
     Bound::lesser(here, part)
 }
 
-// Inner. Fills the row after row p; the pointer starts at 0. Speed and hold are read once, before the stores.
+// Inner. Fills the first entries of the row after row p, as many as `end`, at each of which j begins at 0; the pointer starts at 0. The speed is read once, before
+// the stores.
+fn fill_free(
+    startup: u32,
+    speeds: &[u32],
+    holds: &[u16],
+    weights: &[u32],
+    scratch: &mut [u32],
+    before: usize,
+    row: usize,
+    p: usize,
+    end: usize,
+    start: Pointer,
+) -> Pointer
+    ghost { Job }
+    requires { λ job. ⌜ jobOf startup (now speeds) (now holds) (now weights) ≡ job ⌝ }
+    requires { λ job. ⌜ RowReady job (now scratch) before p ⌝ }
+    requires { λ job. ⌜ Places (suc (tasks job)) before row (length (now scratch)) ⌝ }
+    requires { λ job. ⌜ (start .at ≡ 0) × (start .moves + tasks job < 2 ^ 32) ⌝ }
+    requires { λ job. ⌜ FreeTo job p end ⌝ }
+    ensures { λ job r. ⌜ FilledTo job (now (scratch .entry)) (now (scratch .exit)) row p end (start .moves) (r .at) (r .moves) ⌝ }
+{
+    let speed = speeds[p + 1];
+    let mut pointer = start;
+    let mut i = 0;
+    while i < end {
+        pointer = advance(
+            startup,
+            speeds,
+            holds,
+            weights,
+            scratch,
+            before,
+            p,
+            speed,
+            i,
+            pointer,
+        );
+        let at = pointer.at;
+        let value = value_at(
+            startup,
+            speeds,
+            holds,
+            weights,
+            scratch,
+            before,
+            p,
+            speed,
+            0,
+            i,
+            at,
+        );
+        put(scratch, row, i, value);
+        i += 1;
+    }
+    pointer
+}
+
+// Inner. Fills the entries behind the hold, where j begins at i less the hold.
+fn fill_held(
+    startup: u32,
+    speeds: &[u32],
+    holds: &[u16],
+    weights: &[u32],
+    scratch: &mut [u32],
+    before: usize,
+    row: usize,
+    p: usize,
+    hold: usize,
+    start: Pointer,
+) -> Pointer
+{
+    let speed = speeds[p + 1];
+    let mut pointer = start;
+    let mut i = hold + 1;
+    while i <= weights.len() {
+        let first = i - hold;
+        pointer = advance(
+            startup,
+            speeds,
+            holds,
+            weights,
+            scratch,
+            before,
+            p,
+            speed,
+            i,
+            begin(first, pointer),
+        );
+        let at = pointer.at;
+        let value = value_at(
+            startup,
+            speeds,
+            holds,
+            weights,
+            scratch,
+            before,
+            p,
+            speed,
+            first,
+            i,
+            at,
+        );
+        put(scratch, row, i, value);
+        i += 1;
+    }
+    pointer
+}
+
+// Inner. Fills the row after row p; the pointer starts at 0.
 fn fill_row(
     startup: u32,
     speeds: &[u32],
@@ -208,42 +302,48 @@ fn fill_row(
     requires { λ job. ⌜ (start .at ≡ 0) × (start .moves + tasks job < 2 ^ 32) ⌝ }
     ensures { λ job r. ⌜ Filled job (now (scratch .entry)) (now (scratch .exit)) row p (start .moves) (r .moves) ⌝ }
 {
-    let speed = speeds[p + 1];
+    let n = weights.len();
     let hold = hold_of(startup, speeds, holds, weights, p + 1);
-    let mut pointer = start;
-    let mut i = 0;
-    while i <= weights.len() {
-        pointer = advance(
-            startup,
-            speeds,
-            holds,
-            weights,
-            scratch,
-            before,
-            p,
-            speed,
-            hold,
-            i,
-            pointer,
-        );
-        let at = pointer.at;
-        let value = value_at(
-            startup,
-            speeds,
-            holds,
-            weights,
-            scratch,
-            before,
-            p,
-            speed,
-            hold,
-            i,
-            at,
-        );
-        put(scratch, row, i, value);
-        i += 1;
+    if hold != 0 {
+        if hold < n {
+            let free = fill_free(
+                startup,
+                speeds,
+                holds,
+                weights,
+                scratch,
+                before,
+                row,
+                p,
+                hold + 1,
+                start,
+            );
+            return fill_held(
+                startup,
+                speeds,
+                holds,
+                weights,
+                scratch,
+                before,
+                row,
+                p,
+                hold,
+                free,
+            );
+        }
     }
-    pointer
+    fill_free(
+        startup,
+        speeds,
+        holds,
+        weights,
+        scratch,
+        before,
+        row,
+        p,
+        n + 1,
+        start,
+    )
 }
 
 // Inner. What the table enters for the first i tasks on processor 0: none, 1/0, where it does not hold them.
