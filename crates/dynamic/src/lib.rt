@@ -1,12 +1,12 @@
 // The table (dynamic programming): scope 5.4 to 5.9. All functions here are inner: their callers have
 // tested the job. The scratch list holds the N + 1 prefix sums, and behind them two rows of N + 1 pairs, load and speed.
-ghost use Prim.Native.Nat.{suc, _+_, _*_, _≤_, _<_, _^_};
+ghost use Prim.Native.Nat.{suc, _+_, _-_, _*_, _≤_, _<_, _^_};
 ghost use mathlib.Core.Path.{_≡_};
 ghost use lib.ListN.{length};
 ghost use Rattle.chain.specs.Job.{Job, jobOf, tasks, speedOf, holdOf, offer};
 ghost use Rattle.chain.specs.Dynamic.{startOf, tableValue, crossing};
 ghost use Rattle.parts.specs.Prefix.{Ready};
-ghost use Rattle.dynamic.specs.Rows.{entryAt, stored, RowReady, Places, startFrom, Begun, Advanced, Filled, FirstRow, Tabled};
+ghost use Rattle.dynamic.specs.Rows.{entryAt, stored, RowReady, Places, Begun, Advanced, FreeTo, FilledTo, Filled, FirstRow, Tabled};
 use bound::Bound;
 use parts::Found;
 use parts::hold_of;
@@ -174,8 +174,7 @@ fn value_at(
     Bound::lesser(here, part)
 }
 
-// Inner. Fills the first entries of the row after row p, as many as `end`, at each of which j begins at 0; the pointer starts at 0. The speed is read once, before
-// the stores.
+// Inner. Fills the first entries of the row after row p, as many as `end`, at each of which j begins at 0; the pointer starts at 0.
 fn fill_free(
     startup: u32,
     speeds: &[u32],
@@ -196,7 +195,7 @@ fn fill_free(
     requires { λ job. ⌜ FreeTo job p end ⌝ }
     ensures { λ job r. ⌜ FilledTo job (now (scratch .entry)) (now (scratch .exit)) row p end (start .moves) (r .at) (r .moves) ⌝ }
 {
-    let speed = speeds[p + 1];
+    let speed = speeds[p + 1]; // once, before the stores
     let mut pointer = start;
     let mut i = 0;
     while i < end {
@@ -232,7 +231,8 @@ fn fill_free(
     pointer
 }
 
-// Inner. Fills the entries behind the hold, where j begins at i less the hold.
+// Inner. Fills the entries behind the hold, where j begins at i less the hold. The others are filled, and the pointer stands where they left it:
+// all its moves but `at` were made in earlier rows.
 fn fill_held(
     startup: u32,
     speeds: &[u32],
@@ -245,6 +245,14 @@ fn fill_held(
     hold: usize,
     start: Pointer,
 ) -> Pointer
+    ghost { Job }
+    requires { λ job. ⌜ jobOf startup (now speeds) (now holds) (now weights) ≡ job ⌝ }
+    requires { λ job. ⌜ RowReady job (now scratch) before p ⌝ }
+    requires { λ job. ⌜ Places (suc (tasks job)) before row (length (now scratch)) ⌝ }
+    requires { λ job. ⌜ (hold ≡ holdOf job (suc p)) × (0 < hold) ⌝ }
+    requires { λ job. ⌜ FilledTo job (now scratch) (now scratch) row p (hold + 1) (start .moves - start .at) (start .at) (start .moves) ⌝ }
+    requires { λ job. ⌜ start .moves - start .at + tasks job < 2 ^ 32 ⌝ }
+    ensures { λ job r. ⌜ Filled job (now (scratch .entry)) (now (scratch .exit)) row p (start .moves - start .at) (r .moves) ⌝ }
 {
     let speed = speeds[p + 1];
     let mut pointer = start;
