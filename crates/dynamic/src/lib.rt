@@ -310,37 +310,37 @@ fn fill_row(
     requires { λ job. ⌜ (start .at ≡ 0) × (start .moves + tasks job < 2 ^ 32) ⌝ }
     ensures { λ job r. ⌜ Filled job (now (scratch .entry)) (now (scratch .exit)) row p (start .moves) (r .moves) ⌝ }
 {
-    let n = weights.len();
+    let all = weights.len() + 1;
     let hold = hold_of(startup, speeds, holds, weights, p + 1);
-    if hold != 0 {
-        if hold < n {
-            let free = fill_free(
-                startup,
-                speeds,
-                holds,
-                weights,
-                scratch,
-                before,
-                row,
-                p,
-                hold + 1,
-                start,
-            );
-            return fill_held(
-                startup,
-                speeds,
-                holds,
-                weights,
-                scratch,
-                before,
-                row,
-                p,
-                hold,
-                free,
-            );
-        }
+    if hold == 0 {
+        return fill_free(
+            startup,
+            speeds,
+            holds,
+            weights,
+            scratch,
+            before,
+            row,
+            p,
+            all,
+            start,
+        );
     }
-    fill_free(
+    if all <= hold + 1 {
+        return fill_free(
+            startup,
+            speeds,
+            holds,
+            weights,
+            scratch,
+            before,
+            row,
+            p,
+            all,
+            start,
+        );
+    }
+    let free = fill_free(
         startup,
         speeds,
         holds,
@@ -349,8 +349,20 @@ fn fill_row(
         before,
         row,
         p,
-        n + 1,
+        hold + 1,
         start,
+    );
+    fill_held(
+        startup,
+        speeds,
+        holds,
+        weights,
+        scratch,
+        before,
+        row,
+        p,
+        hold,
+        free,
     )
 }
 
