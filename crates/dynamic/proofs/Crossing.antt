@@ -2,26 +2,26 @@
 -- Assumes nothing.
 use Prim.Native.Nat.{ℕ, zero, suc, _+_, _-_, _*_, _^_, _≤_, _<_}
 use mathlib.Core.Path.{_≡_, sym, ap, ap₂, subst, _∙_}
-use mathlib.Core.Bool.{Bool, cond}
+use mathlib.Core.Bool.{Bool}
 use mathlib.Core.Logic.{_≢_}
 use native.Mathlib.Omega.{arith}
 use native.Mathlib.Nat.{mul-le-mul}
-use lib.Dec.{eqb, lit<}
-use borrow.Author.Tests.{eq-eqb, ne-eqb}
+use native.Mathlib.Decide.{ℕ-discrete}
+use lib.Dec.{lit<}
 use lib.ListN.{getD}
 use Rattle.bound.specs.declared.Bound.{Bound}
-use Rattle.bound.specs.Order.{le, Finite}
+use Rattle.bound.specs.Order.{le, lesser, Finite}
 use Rattle.bound.proofs.Order.{greater-cases}
 use Rattle.chain.specs.Limits.{maxTasks, maxProcessors}
 use Rattle.chain.specs.Lists.{sumTo}
 use Rattle.chain.specs.Job.{Job, Valid, tasks, processors, speedOf, holdOf, offer}
-use Rattle.chain.specs.Dynamic.{startOf, candidate, tableValue, movesTo}
+use Rattle.chain.specs.Dynamic.{startOf, candidate, tableValue, crossing, movesTo}
 use Rattle.chain.proofs.Parts.{valid-proper}
 use Rattle.chain.specs.Ranges.{Small, Narrow}
 use Rattle.chain.proofs.Ranges.{offer-small, offer-narrow}
-use Rattle.chain.proofs.Table.{crossing-le, table-attained, moves-to-crossing}
+use Rattle.chain.proofs.Table.{start-unlimited, start-limited, crossing-le, value-first, value-later, table-attained, moves-to-crossing}
 use Rattle.parts.proofs.Laws.{speed-read}
-use Rattle.dynamic.specs.Rows.{startFrom}
+use Rattle.dynamic.specs.Rows.{FreeTo}
 
 -- What the code's test of two bounds says of the bounds that they are.
 pub tested : {B C X Y : Bound} {r t : Bool} → B ≡ X → C ≡ Y → r ≡ le B C → r ≡ t → le X Y ≡ t
@@ -32,21 +32,33 @@ pub narrow-same : {B C : Bound} → B ≡ C → Narrow C → Narrow B
 narrow-same e s = subst Narrow (sym e) s
 
 -- The speed that the code reads is that of the processor after p.
-pub next-speed : (job : Job) (p k : ℕ) {speed : ℕ} → speed ≡ getD (job .speeds) k 0 → k ≡ suc p → suc p < processors job → speed ≡ speedOf job (suc p)
-next-speed job p k e f h = e ∙ ap (λ (q : ℕ). getD (job .speeds) q 0) f ∙ speed-read job (suc p) h
+pub next-speed : (job : Job) (p : ℕ) {k : ℕ} → k ≡ suc p → suc p < processors job → getD (job .speeds) k 0 ≡ speedOf job (suc p)
+next-speed job p e h = ap (λ (q : ℕ). getD (job .speeds) q 0) e ∙ speed-read job (suc p) h
 
--- Where j begins, without a limit and with one; it is `startOf` of a processor with that hold.
-pub from-unlimited : (h i : ℕ) → h ≡ 0 → startFrom h i ≡ 0
-unfolding startFrom
-from-unlimited h i e = ap (λ (t : Bool). cond t 0 (i - h)) (eq-eqb h 0 e)
+-- Where j begins: with a limit, at i less the hold; at 0 up to the hold, and everywhere without a limit.
+module _ (job : Job) (p : ℕ) {h : ℕ} (e : h ≡ holdOf job (suc p)) where
+  pub start-behind : (i : ℕ) → 0 < h → startOf job (suc p) i ≡ i - h
+  start-behind i l = omega (arith, start-limited job (suc p) i (λ z. omega arith))
 
-pub from-limited : (h i : ℕ) → h ≢ 0 → startFrom h i ≡ i - h
-unfolding startFrom
-from-limited h i n = ap (λ (t : Bool). cond t 0 (i - h)) (ne-eqb h 0 n)
+  pub free-to : (end : ℕ) → end ≤ suc (tasks job) → (h ≢ 0 → end ≤ suc h) → FreeTo job p end
+  free-to end l f =
+      record {
+        to = l;
+        begins =
+            λ i k.
+            elim (ℕ-discrete h 0) [
+              | yes z ↦ start-unlimited job (suc p) i (omega arith)
+              | no n ↦ omega (arith, start-behind i (omega arith), f n)
+            ];
+      }
 
-pub from-is : (job : Job) (p i : ℕ) {h : ℕ} → h ≡ holdOf job p → startFrom h i ≡ startOf job p i
-unfolding startFrom startOf
-from-is job p i {h} e = ap (λ (n : ℕ). cond (eqb n 0) 0 (i - n)) e
+-- The value at i: that of the row before at the crossing; past where j begins, the lesser of it and of the part before the crossing.
+module _ (job : Job) (p i : ℕ) {at : ℕ} {B : Bound} (e : at ≡ crossing job p i) (b : B ≡ tableValue job p at) where
+  pub value-here : at ≤ startOf job (suc p) i → B ≡ tableValue job (suc p) i
+  value-here h = cc (value-first job p i (omega arith))
+
+  pub value-lesser : {C X : Bound} → startOf job (suc p) i < at → C ≡ offer job (suc p) (at - 1) i → X ≡ lesser B C → X ≡ tableValue job (suc p) i
+  value-lesser h k x = cc (value-later job p i (omega arith))
 
 -- Pointers of all rows make no more moves than 32 bits count.
 moves-limit : maxProcessors * maxTasks < 2 ^ 32

@@ -1,6 +1,6 @@
 -- What the loops of the table keep: each invariant at the start, after a turn and at the end.
 -- Assumes nothing.
-use Prim.Native.Nat.{ℕ, zero, suc, _+_, _*_, _≤_, _<_}
+use Prim.Native.Nat.{ℕ, zero, suc, _+_, _-_, _*_, _^_, _≤_, _<_}
 use mathlib.Core.Path.{_≡_, refl, sym, ap, subst, _∙_}
 use mathlib.Core.Bool.{true, false}
 use mathlib.Core.List.{List}
@@ -19,8 +19,8 @@ use Rattle.chain.specs.Ranges.{Small}
 use Rattle.chain.proofs.Table.{crossing-is, crossing-le, crossing-grows, moves-to-crossing, crossing-here, crossing-past}
 use Rattle.chain.proofs.Demand.{table-least-bound}
 use Rattle.parts.specs.Prefix.{Ready}
-use Rattle.dynamic.specs.Rows.{entryAt, stored, RowAt, Kept, RowReady, Places, Begun, Advanced, Filled, FirstRow, Tabled}
-use Rattle.dynamic.proofs.Crossing.{table-small}
+use Rattle.dynamic.specs.Rows.{entryAt, stored, RowAt, Kept, RowReady, Places, Begun, Advanced, Writing, passed, FilledTo, Filled, FirstRow, Tabled}
+use Rattle.dynamic.proofs.Crossing.{table-narrow, narrow-same, table-small}
 use Rattle.dynamic.proofs.Scratch.{kept-refl, kept-trans, kept-wider, kept-stored, kept-take, kept-drop, kept-ready, row-kept, row-none, row-stored, places-swap}
 
 -- The pointer on its way to the crossing of i.
@@ -49,12 +49,11 @@ nearing-turn w h e f =
 pub nearing-stop : {first from count at counted : ℕ} → Nearing first from count at counted → first ≤ at → Begun first from count at counted
 nearing-stop w h = record { past = h; least = w .least; carried = w .carried }
 
--- A pointer that was not past the crossing, from where j begins on: what it moves on from there.
-pub begun-to : (job : Job) (p i : ℕ) {first from count at counted : ℕ} → first ≡ startOf job (suc p) i → from ≤ crossing job p i → Begun first from count at counted
-    → (startOf job (suc p) i ≤ at) × (at ≤ crossing job p i)
-begun-to job p i e h w =
-    (omega (arith, w .past), w .least (crossing job p i) (omega (arith, crossing-is job p i .from)) h)
+-- Where j begins at 0, the pointer stays.
+pub begun-here : {at counted : ℕ} → Begun 0 at counted at counted
+begun-here = record { past = omega arith; least = λ k h l. l; carried = omega arith }
 
+-- Moves to where j begins, and on from there.
 pub begun-advanced : {job : Job} {p i first from count at counted at′ counted′ : ℕ} → Begun first from count at counted → Advanced job p i at counted at′ counted′
     → Advanced job p i from count at′ counted′
 begun-advanced w a = record { arrived = a .arrived; carried = omega (arith, w .carried, a .carried) }
@@ -76,12 +75,7 @@ pub moving-stop : {job : Job} {p i from count at counted : ℕ} → Moving job p
     → le (offer job (suc p) at i) (tableValue job p at) ≡ true → Advanced job p i from count at counted
 moving-stop {job} {p} {i} {from} {count} {at} w e = record { arrived = crossing-here job p i at (w .past) (w .to) e; carried = w .carried }
 
--- A row that is being written from o on, with i entries so far.
-pub record Writing (job : Job) (xs ys : List ℕ) (o q i : ℕ) : Type 0 where
-  pub to : i ≤ suc (tasks job)
-  pub row : RowAt job ys o q i
-  pub kept : Kept o (2 * suc (tasks job)) xs ys
-
+-- A row that is being written.
 pub writing-start : (job : Job) (xs : List ℕ) (o q : ℕ) → Writing job xs xs o q 0
 writing-start job xs o q =
     record { to = omega arith; row = row-none job xs o q; kept = kept-refl o (2 * suc (tasks job)) xs }
@@ -112,43 +106,46 @@ writing-ready r l w =
       next = r .next;
     }
 
--- Where the pointer stands when i entries of a row are written.
-unfoldable pub passed : Job → ℕ → ℕ → ℕ
-passed job p zero = 0
-passed job p (suc i) = crossing job p i
-
+-- The pointer is not past the next crossing.
 pub passed-le : {job : Job} → Valid job → (p i : ℕ) → passed job p i ≤ crossing job p i
 unfolding passed
 passed-le v p zero = omega arith
 passed-le v p (suc i) = crossing-grows (valid-proper v) p i (suc i) (omega arith)
 
--- The row after row p is being filled, by a pointer that started at 0.
-pub record Filling (job : Job) (xs ys : List ℕ) (o p count i at counted : ℕ) : Type 0 where
-  pub writing : Writing job xs ys o (suc p) i
-  pub pointer : at ≡ passed job p i
-  pub carried : counted ≡ count + at
-
-pub filling-start : {job : Job} (xs : List ℕ) (o p : ℕ) {count at : ℕ} → at ≡ 0 → Filling job xs xs o p count 0 at count
+-- The row after row p is being filled.
+pub filling-start : {job : Job} (xs : List ℕ) (o p : ℕ) {count at : ℕ} → at ≡ 0 → FilledTo job xs xs o p 0 count at count
 unfolding passed
 filling-start {job} xs o p e =
     record { writing = writing-start job xs o (suc p); pointer = e; carried = omega arith }
 
-pub filling-turn : {job : Job} {xs ys zs : List ℕ} {o p count i at counted at′ counted′ : ℕ} {B : Bound}
-    → Filling job xs ys o p count i at counted → o + 2 * suc (tasks job) ≤ length xs → i ≤ tasks job
-    → Advanced job p i at counted at′ counted′ → zs ≡ stored ys o i B → B ≡ tableValue job (suc p) i
-    → Filling job xs zs o p count (i + 1) at′ counted′
-unfolding passed
-filling-turn {job} {xs} {ys} {zs} {o} {p} {count} {i} {at} {counted} {at′} w h l a f e =
-    record {
-      writing = writing-turn (w .writing) h l f e;
-      pointer = a .arrived ∙ sym (ap (passed job p) (add-one i));
-      carried = omega (arith, a .carried, w .carried);
-    }
+-- One turn: where the pointer moves on from, the entry that is stored, and what is filled then.
+module _ {job : Job} {xs ys : List ℕ} {a o p i count at counted : ℕ} (r : RowReady job xs a p) (l : Places (suc (tasks job)) a o (length xs))
+    (w : FilledTo job xs ys o p i count at counted) (h : i ≤ tasks job) where
+  pub filling-begun : {first at′ counted′ : ℕ} → count + tasks job < 2 ^ 32 → first ≡ startOf job (suc p) i → Begun first at counted at′ counted′
+      → (startOf job (suc p) i ≤ at′) × ((i ≤ tasks job) × (at′ ≤ crossing job p i) × (counted′ + i < 2 ^ 32 + at′))
+  filling-begun k e b =
+      let c = b .least (crossing job p i) (omega (arith, crossing-is job p i .from)) (omega (arith, w .pointer, passed-le (r .ready .valid) p i)) in
+      (omega (arith, b .past), (h, c, omega (arith, w .carried, b .carried)))
 
-pub filling-end : {job : Job} {xs ys : List ℕ} {o p count i at counted : ℕ} → Valid job → Filling job xs ys o p count i at counted
+  pub filling-entry : {B : Bound} → B ≡ tableValue job (suc p) i → (o + 2 * i + 1 < length ys) × ((B .load < 2 ^ 32) × (B .speed < 2 ^ 32))
+  filling-entry e =
+      let n = narrow-same e (table-narrow (r .ready .valid) (suc p) i) in
+      (omega (arith, w .writing .kept .same, l .b-high, l .enough), (n .load-fits, n .speed-fits))
+
+  pub filling-turn : {zs : List ℕ} {at′ counted′ : ℕ} {B : Bound} → Advanced job p i at counted at′ counted′ → zs ≡ stored ys o i B
+      → B ≡ tableValue job (suc p) i → FilledTo job xs zs o p (i + 1) count at′ counted′
+  unfolding passed
+  filling-turn m f e =
+      record {
+        writing = writing-turn (w .writing) (omega (arith, l .b-high, l .enough)) h f e;
+        pointer = m .arrived ∙ sym (ap (passed job p) (add-one i));
+        carried = omega (arith, m .carried, w .carried);
+      }
+
+pub filling-end : {job : Job} {xs ys : List ℕ} {o p i count at counted : ℕ} → Valid job → FilledTo job xs ys o p i count at counted
     → tasks job < i → Filled job xs ys o p count counted
 unfolding passed
-filling-end {job} {xs} {ys} {o} {p} {count} {i} {at} v w h =
+filling-end {job} {xs} {ys} {o} {p} {i} {count} {at} v w h =
     record {
       row = writing-row (w .writing) h;
       kept = w .writing .kept;
@@ -157,6 +154,22 @@ filling-end {job} {xs} {ys} {o} {p} {count} {i} {at} v w h =
   where
     there : at ≡ crossing job p (tasks job)
     there = w .pointer ∙ ap (passed job p) (let e : i ≡ suc (tasks job) = omega (arith, w .writing .to) in e)
+
+-- The entries behind the hold begin in the list as it stands,
+pub behind-start : {job : Job} {xs ys : List ℕ} {o p i count at counted : ℕ} → FilledTo job xs ys o p i count at counted
+    → FilledTo job ys ys o p i (counted - at) at counted
+behind-start {job} {xs} {ys} {o} w =
+    record {
+      writing = record { to = w .writing .to; row = w .writing .row; kept = kept-refl o (2 * suc (tasks job)) ys };
+      pointer = w .pointer;
+      carried = omega (arith, w .carried);
+    }
+
+-- and with those before them they are the row.
+pub behind-end : {job : Job} {xs ys zs : List ℕ} {o p i count at counted counted′ : ℕ} → FilledTo job xs ys o p i count at counted
+    → Filled job ys zs o p (counted - at) counted′ → Filled job xs zs o p count counted′
+behind-end w f =
+    record { row = f .row; kept = kept-trans (w .writing .kept) (f .kept); carried = omega (arith, f .carried, w .carried) }
 
 sum-next : (f : ℕ → ℕ) (p : ℕ) → sumTo f (suc p) ≡ sumTo f p + f p
 unfolding sumTo

@@ -1,14 +1,12 @@
 -- The scratch list of the table, and what the functions over it leave there.
-use Prim.Native.Nat.{ℕ, suc, _+_, _-_, _*_, _≤_, _<_}
+use Prim.Native.Nat.{ℕ, zero, suc, _+_, _*_, _≤_, _<_}
 use mathlib.Core.Path.{_≡_}
-use mathlib.Core.Bool.{cond}
 use mathlib.Core.List.{List}
-use lib.Dec.{eqb}
 use lib.ListN.{length, getD, set, take, drop}
 use Rattle.bound.specs.declared.Bound.{Bound}
 use Rattle.bound.specs.Order.{over}
 use Rattle.chain.specs.Job.{Job, tasks, processors, last}
-use Rattle.chain.specs.Dynamic.{tableValue, crossing, movesTo, moves}
+use Rattle.chain.specs.Dynamic.{startOf, tableValue, crossing, movesTo, moves}
 use Rattle.parts.specs.Prefix.{Ready}
 
 -- Entry i of the row that begins at o: a load and, behind it, a speed.
@@ -44,10 +42,6 @@ pub record Places (n a b size : ℕ) : Type 0 where
   pub apart : (k : ℕ) → a ≤ k → k < a + 2 * n → b ≤ k → k < b + 2 * n → ⊥
   pub enough : 5 * n ≤ size
 
--- Where j begins at i, with the hold h: `startOf` of a processor with this hold.
-unfoldable pub startFrom : ℕ → ℕ → ℕ
-startFrom h i = cond (eqb h 0) 0 (i - h)
-
 -- The pointer has moved on to `first`, and no further; its moves are counted.
 pub record Begun (first from count at counted : ℕ) : Type 0 where
   pub past : first ≤ at
@@ -58,6 +52,28 @@ pub record Begun (first from count at counted : ℕ) : Type 0 where
 pub record Advanced (job : Job) (p i from count at counted : ℕ) : Type 0 where
   pub arrived : at ≡ crossing job p i
   pub carried : counted + from ≡ count + at
+
+-- The row of processor q is written, from o on, as far as its first i entries.
+pub record Writing (job : Job) (xs ys : List ℕ) (o q i : ℕ) : Type 0 where
+  pub to : i ≤ suc (tasks job)
+  pub row : RowAt job ys o q i
+  pub kept : Kept o (2 * suc (tasks job)) xs ys
+
+-- Where the pointer stands when i entries of a row are written.
+unfoldable pub passed : Job → ℕ → ℕ → ℕ
+passed job p zero = 0
+passed job p (suc i) = crossing job p i
+
+-- At each of the first `end` entries of the row after row p, j begins at 0.
+pub record FreeTo (job : Job) (p end : ℕ) : Type 0 where
+  pub to : end ≤ suc (tasks job)
+  pub begins : (i : ℕ) → i < end → startOf job (suc p) i ≡ 0
+
+-- The first `end` entries of the row after row p are filled, from o on, by a pointer that started at 0, and its moves are counted.
+pub record FilledTo (job : Job) (xs ys : List ℕ) (o p end count at counted : ℕ) : Type 0 where
+  pub writing : Writing job xs ys o (suc p) end
+  pub pointer : at ≡ passed job p end
+  pub carried : counted ≡ count + at
 
 -- The row after row p is filled, from o on, and its moves are counted.
 pub record Filled (job : Job) (xs ys : List ℕ) (o p count counted : ℕ) : Type 0 where

@@ -1,12 +1,12 @@
 // The table (dynamic programming): scope 5.4 to 5.9. All functions here are inner: their callers have
 // tested the job. The scratch list holds the N + 1 prefix sums, and behind them two rows of N + 1 pairs, load and speed.
-ghost use Prim.Native.Nat.{suc, _+_, _*_, _≤_, _<_, _^_};
+ghost use Prim.Native.Nat.{suc, _+_, _-_, _*_, _≤_, _<_, _^_};
 ghost use mathlib.Core.Path.{_≡_};
 ghost use lib.ListN.{length};
 ghost use Rattle.chain.specs.Job.{Job, jobOf, tasks, speedOf, holdOf, offer};
 ghost use Rattle.chain.specs.Dynamic.{startOf, tableValue, crossing};
 ghost use Rattle.parts.specs.Prefix.{Ready};
-ghost use Rattle.dynamic.specs.Rows.{entryAt, stored, RowReady, Places, startFrom, Begun, Advanced, Filled, FirstRow, Tabled};
+ghost use Rattle.dynamic.specs.Rows.{entryAt, stored, RowReady, Places, Begun, Advanced, FreeTo, FilledTo, Filled, FirstRow, Tabled};
 use bound::Bound;
 use parts::Found;
 use parts::hold_of;
@@ -42,19 +42,6 @@ fn put(scratch: &mut [u32], row: usize, i: usize, value: Bound)
     let at = row + 2 * i;
     scratch[at] = value.load as u32;
     scratch[at + 1] = value.speed as u32;
-}
-
-// Inner. Where j begins at i, with this hold, 0 for no limit.
-fn start_from(hold: usize, i: usize) -> usize
-    ensures { λ r. ⌜ r ≡ startFrom hold i ⌝ }
-{
-    if hold == 0 {
-        return 0;
-    }
-    if i <= hold {
-        return 0;
-    }
-    i - hold
 }
 
 // Inner. The pointer moves on to where j begins, if it is before that.
@@ -108,8 +95,7 @@ fn move_on(
     }
 }
 
-// Inner. The pointer moves on to the crossing of i, by way of where j begins with this hold. Without start-up work the loop is compiled for 0,
-// and a load is a difference of two sums.
+// Inner. The same. Without start-up work the loop is compiled for 0, and a load is a difference of two sums.
 fn advance(
     startup: u32,
     speeds: &[u32],
@@ -119,18 +105,17 @@ fn advance(
     before: usize,
     p: usize,
     speed: u32,
-    hold: usize,
     i: usize,
     start: Pointer,
 ) -> Pointer
     ghost { Job }
     requires { λ job. ⌜ jobOf startup (now speeds) (now holds) (now weights) ≡ job ⌝ }
     requires { λ job. ⌜ RowReady job (now scratch) before p ⌝ }
-    requires { λ job. ⌜ (speed ≡ speedOf job (suc p)) × (hold ≡ holdOf job (suc p)) ⌝ }
+    requires { λ job. ⌜ speed ≡ speedOf job (suc p) ⌝ }
+    requires { λ job. ⌜ startOf job (suc p) i ≤ start .at ⌝ }
     requires { λ job. ⌜ (i ≤ tasks job) × (start .at ≤ crossing job p i) × (start .moves + i < 2 ^ 32 + start .at) ⌝ }
     ensures { λ job r. ⌜ Advanced job p i (start .at) (start .moves) (r .at) (r .moves) ⌝ }
 {
-    let begun = begin(start_from(hold, i), start);
     if startup == 0 {
         return move_on(
             0,
@@ -142,7 +127,7 @@ fn advance(
             p,
             speed,
             i,
-            begun,
+            start,
         );
     }
     move_on(
@@ -155,12 +140,12 @@ fn advance(
         p,
         speed,
         i,
-        begun,
+        start,
     )
 }
 
-// Inner. The value at i in the row after row p. At the crossing the row before is the greater of the two, before the crossing
-// the part is.
+// Inner. The value at i in the row after row p; j begins at `first`. At the crossing the row before is the greater of the two, before the
+// crossing the part is.
 fn value_at(
     startup: u32,
     speeds: &[u32],
@@ -170,26 +155,143 @@ fn value_at(
     before: usize,
     p: usize,
     speed: u32,
-    hold: usize,
+    first: usize,
     i: usize,
     at: usize,
 ) -> Bound
     ghost { Job }
     requires { λ job. ⌜ jobOf startup (now speeds) (now holds) (now weights) ≡ job ⌝ }
     requires { λ job. ⌜ RowReady job (now scratch) before p ⌝ }
-    requires { λ job. ⌜ (speed ≡ speedOf job (suc p)) × (hold ≡ holdOf job (suc p)) ⌝ }
+    requires { λ job. ⌜ (speed ≡ speedOf job (suc p)) × (first ≡ startOf job (suc p) i) ⌝ }
     requires { λ job. ⌜ (i ≤ tasks job) × (at ≡ crossing job p i) ⌝ }
     ensures { λ job r. ⌜ r ≡ tableValue job (suc p) i ⌝ }
 {
     let here = entry(scratch, before, at);
-    if at == start_from(hold, i) {
+    if at == first {
         return here;
     }
     let part = started_bound(startup, speed, scratch, at - 1, i);
     Bound::lesser(here, part)
 }
 
-// Inner. Fills the row after row p; the pointer starts at 0. Speed and hold are read once, before the stores.
+// Inner. Fills the first entries of the row after row p, as many as `end`, at each of which j begins at 0; the pointer starts at 0.
+fn fill_free(
+    startup: u32,
+    speeds: &[u32],
+    holds: &[u16],
+    weights: &[u32],
+    scratch: &mut [u32],
+    before: usize,
+    row: usize,
+    p: usize,
+    end: usize,
+    start: Pointer,
+) -> Pointer
+    ghost { Job }
+    requires { λ job. ⌜ jobOf startup (now speeds) (now holds) (now weights) ≡ job ⌝ }
+    requires { λ job. ⌜ RowReady job (now scratch) before p ⌝ }
+    requires { λ job. ⌜ Places (suc (tasks job)) before row (length (now scratch)) ⌝ }
+    requires { λ job. ⌜ (start .at ≡ 0) × (start .moves + tasks job < 2 ^ 32) ⌝ }
+    requires { λ job. ⌜ FreeTo job p end ⌝ }
+    ensures { λ job r. ⌜ FilledTo job (now (scratch .entry)) (now (scratch .exit)) row p end (start .moves) (r .at) (r .moves) ⌝ }
+{
+    let speed = speeds[p + 1]; // once, before the stores
+    let mut pointer = start;
+    let mut i = 0;
+    while i < end {
+        pointer = advance(
+            startup,
+            speeds,
+            holds,
+            weights,
+            scratch,
+            before,
+            p,
+            speed,
+            i,
+            pointer,
+        );
+        let at = pointer.at;
+        let value = value_at(
+            startup,
+            speeds,
+            holds,
+            weights,
+            scratch,
+            before,
+            p,
+            speed,
+            0,
+            i,
+            at,
+        );
+        put(scratch, row, i, value);
+        i += 1;
+    }
+    pointer
+}
+
+// Inner. Fills the entries behind the hold, where j begins at i less the hold. The others are filled, and the pointer stands where they left it:
+// all its moves but `at` were made in earlier rows.
+fn fill_held(
+    startup: u32,
+    speeds: &[u32],
+    holds: &[u16],
+    weights: &[u32],
+    scratch: &mut [u32],
+    before: usize,
+    row: usize,
+    p: usize,
+    hold: usize,
+    start: Pointer,
+) -> Pointer
+    ghost { Job }
+    requires { λ job. ⌜ jobOf startup (now speeds) (now holds) (now weights) ≡ job ⌝ }
+    requires { λ job. ⌜ RowReady job (now scratch) before p ⌝ }
+    requires { λ job. ⌜ Places (suc (tasks job)) before row (length (now scratch)) ⌝ }
+    requires { λ job. ⌜ (hold ≡ holdOf job (suc p)) × (0 < hold) ⌝ }
+    requires { λ job. ⌜ FilledTo job (now scratch) (now scratch) row p (hold + 1) (start .moves - start .at) (start .at) (start .moves) ⌝ }
+    requires { λ job. ⌜ start .moves - start .at + tasks job < 2 ^ 32 ⌝ }
+    ensures { λ job r. ⌜ Filled job (now (scratch .entry)) (now (scratch .exit)) row p (start .moves - start .at) (r .moves) ⌝ }
+{
+    let speed = speeds[p + 1];
+    let mut pointer = start;
+    let mut i = hold + 1;
+    while i <= weights.len() {
+        let first = i - hold;
+        pointer = advance(
+            startup,
+            speeds,
+            holds,
+            weights,
+            scratch,
+            before,
+            p,
+            speed,
+            i,
+            begin(first, pointer),
+        );
+        let at = pointer.at;
+        let value = value_at(
+            startup,
+            speeds,
+            holds,
+            weights,
+            scratch,
+            before,
+            p,
+            speed,
+            first,
+            i,
+            at,
+        );
+        put(scratch, row, i, value);
+        i += 1;
+    }
+    pointer
+}
+
+// Inner. Fills the row after row p; the pointer starts at 0.
 fn fill_row(
     startup: u32,
     speeds: &[u32],
@@ -208,42 +310,60 @@ fn fill_row(
     requires { λ job. ⌜ (start .at ≡ 0) × (start .moves + tasks job < 2 ^ 32) ⌝ }
     ensures { λ job r. ⌜ Filled job (now (scratch .entry)) (now (scratch .exit)) row p (start .moves) (r .moves) ⌝ }
 {
-    let speed = speeds[p + 1];
+    let all = weights.len() + 1;
     let hold = hold_of(startup, speeds, holds, weights, p + 1);
-    let mut pointer = start;
-    let mut i = 0;
-    while i <= weights.len() {
-        pointer = advance(
+    if hold == 0 {
+        return fill_free(
             startup,
             speeds,
             holds,
             weights,
             scratch,
             before,
+            row,
             p,
-            speed,
-            hold,
-            i,
-            pointer,
+            all,
+            start,
         );
-        let at = pointer.at;
-        let value = value_at(
-            startup,
-            speeds,
-            holds,
-            weights,
-            scratch,
-            before,
-            p,
-            speed,
-            hold,
-            i,
-            at,
-        );
-        put(scratch, row, i, value);
-        i += 1;
     }
-    pointer
+    if all <= hold + 1 {
+        return fill_free(
+            startup,
+            speeds,
+            holds,
+            weights,
+            scratch,
+            before,
+            row,
+            p,
+            all,
+            start,
+        );
+    }
+    let free = fill_free(
+        startup,
+        speeds,
+        holds,
+        weights,
+        scratch,
+        before,
+        row,
+        p,
+        hold + 1,
+        start,
+    );
+    fill_held(
+        startup,
+        speeds,
+        holds,
+        weights,
+        scratch,
+        before,
+        row,
+        p,
+        hold,
+        free,
+    )
 }
 
 // Inner. What the table enters for the first i tasks on processor 0: none, 1/0, where it does not hold them.

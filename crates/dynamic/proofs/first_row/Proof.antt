@@ -6,9 +6,10 @@ use lib.ListN.{length}
 use Rattle.chain.specs.Job.{Job, jobOf}
 use Rattle.chain.specs.Dynamic.{tableValue}
 use Rattle.chain.proofs.Ranges.{offer-narrow}
+use Rattle.dynamic.specs.Rows.{Writing}
 use Rattle.dynamic.proofs.Crossing.{narrow-same}
 use Rattle.dynamic.proofs.Scratch.{kept-ready}
-use Rattle.dynamic.proofs.Laws.{Writing, writing-start, writing-turn, writing-row}
+use Rattle.dynamic.proofs.Laws.{writing-start, writing-turn, writing-row}
 use Rattle.dynamic.proofs.first_row.Statement.{statement}
 use Rattle.dynamic.proofs.first_row.Tie as tie
 

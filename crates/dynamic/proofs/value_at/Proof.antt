@@ -1,18 +1,16 @@
 -- `value_at` meets its contract: it takes the lesser of the two candidates, each by the greater of its two bounds.
 -- Assumes nothing.
-use Prim.Native.Nat.{ℕ, suc, _-_, _≤_, _<_}
-use mathlib.Core.Path.{_≡_, sym, ap, ap₂, _∙_}
+use Prim.Native.Nat.{suc, _-_, _≤_, _<_}
+use mathlib.Core.Path.{_≡_, sym, _∙_}
 use native.Mathlib.Omega.{arith}
-use Rattle.bound.specs.Order.{lesser}
 use Rattle.chain.specs.Job.{Job, jobOf, offer}
 use Rattle.chain.specs.Dynamic.{startOf, tableValue}
 use Rattle.chain.proofs.Ranges.{offer-narrow, narrow-products}
 use Rattle.chain.proofs.Parts.{valid-proper}
-use Rattle.chain.proofs.Table.{start-keeps, crossing-is, crossing-le, value-first, value-later}
+use Rattle.chain.proofs.Table.{start-keeps, crossing-is, crossing-le}
 use Rattle.chain.proofs.Within.{offer-part}
 use Rattle.parts.proofs.Laws.{loads-to, speed-bound, started-some}
-use Rattle.dynamic.proofs.Crossing.{table-narrow, narrow-same, from-is}
-use borrow.Author.Needs.{needs}
+use Rattle.dynamic.proofs.Crossing.{table-narrow, narrow-same, value-here, value-lesser}
 use Rattle.dynamic.proofs.value_at.Statement.{statement}
 use Rattle.dynamic.proofs.value_at.Tie as tie
 
@@ -36,47 +34,34 @@ here-is c =
     let s = c .before .before .before .before .before in
     c .entry .ensures ∙ s .pre .0 .row .entries (s .args .at) (omega (arith, at-le s))
 
-start-from-requires : tie.Need-start-from-requires
-start-from-requires c κs = search needs
-
--- Where j begins.
-begins : (c : tie.After-start-from)
-    → let s = c .before .before .before .before .before .before in
-    c .start-from .result ≡ startOf (job-at s) (suc (s .args .p)) (s .args .i)
-begins c =
-    let s = c .before .before .before .before .before .before in
-    c .start-from .ensures ∙ from-is (job-at s) (suc (s .args .p)) (s .args .i) (s .pre .1 .0 .1)
-
 returns : tie.Need-returns
 returns c =
-    let s = c .before .before .before .before .before .before .before in
-    let job : Job = job-at s in
-    here-is (c .before .before) ∙ ap (tableValue job (s .args .p)) (s .pre .1 .1 .1)
-    ∙ sym (value-first job (s .args .p) (s .args .i) (omega (arith, s .pre .1 .1 .1, begins (c .before), c .if1 .taken)))
+    let s = c .before .before .before .before .before .before in
+    value-here (job-at s) (s .args .p) (s .args .i) (s .pre .1 .1 .1) (here-is (c .before)) (omega (arith, s .pre .1 .0 .1, c .if1 .taken))
 
--- Where the pointer is not there, it is past it.
+-- Where the pointer is not where j begins, it is past it.
 past : (c : tie.Else1)
-    → let s = c .before .before .before .before .before .before .before in
+    → let s = c .before .before .before .before .before .before in
     startOf (job-at s) (suc (s .args .p)) (s .args .i) < s .args .at
 past c =
-    let s = c .before .before .before .before .before .before .before in
-    omega (arith, begins (c .before), c .if1 .left, s .pre .1 .1 .1, crossing-is (job-at s) (s .args .p) (s .args .i) .from)
+    let s = c .before .before .before .before .before .before in
+    omega (arith, s .pre .1 .0 .1, c .if1 .left, s .pre .1 .1 .1, crossing-is (job-at s) (s .args .p) (s .args .i) .from)
 
 sub-started-bound : tie.Need-sub-started-bound
 sub-started-bound c = omega (arith, past c)
 
 started-bound-requires : tie.Need-started-bound-requires
 started-bound-requires c κs =
-    let s = c .before .before .before .before .before .before .before in
+    let s = c .before .before .before .before .before .before in
     (loads-to (s .pre .0 .ready) (s .pre .1 .1 .0), omega (arith, at-le s))
 
 -- The part before the crossing.
 module _ (c : tie.After-started-bound) where
   abbrev start : tie.Start
-  start = c .before .before .before .before .before .before .before .before
+  start = c .before .before .before .before .before .before .before
 
   abbrev job : Job
-  job = jobOf (start .args .startup) (start .args .speeds .now) (start .args .holds .now) (start .args .weights .now)
+  job = job-at start
 
   part-is : c .started-bound .result ≡ offer job (suc (start .args .p)) (start .args .at - 1) (start .args .i)
   part-is =
@@ -92,18 +77,23 @@ lesser-requires : tie.Need-lesser-requires
 lesser-requires c κs =
     let s = start c in
     let v = s .pre .0 .ready .valid in
-    let h = narrow-same (here-is (c .before .before .before)) (table-narrow v (s .args .p) (s .args .at)) in
+    let h = narrow-same (here-is (c .before .before)) (table-narrow v (s .args .p) (s .args .at)) in
     let p = narrow-same (part-is c) (offer-narrow v (suc (s .args .p)) (s .args .at - 1) (s .args .i)) in
     search (narrow-products, h, p)
 
 returns-2 : tie.Need-returns-2
 returns-2 c =
     let s = start (c .before) in
-    c .lesser .ensures ∙ ap₂ lesser (here-is (c .before .before .before .before)) (part-is (c .before))
-    ∙ ap (λ (k : ℕ). lesser (tableValue (job (c .before)) (s .args .p) k) (offer (job (c .before)) (suc (s .args .p)) (k - 1) (s .args .i))) (s .pre .1 .1 .1)
-    ∙ sym (value-later (job (c .before)) (s .args .p) (s .args .i) (omega (arith, past (c .before .before), s .pre .1 .1 .1)))
+    let here = here-is (c .before .before .before) in
+    value-lesser (job (c .before)) (s .args .p) (s .args .i) (s .pre .1 .1 .1) here (past (c .before .before)) (part-is (c .before)) (c .lesser .ensures)
 
 pub value-at-spec : {M : Type 1} → statement M
 value-at-spec =
     tie.close
-    (tie.spec entry-requires start-from-requires returns sub-started-bound started-bound-requires lesser-requires returns-2)
+    (tie.spec
+    entry-requires
+    returns
+    sub-started-bound
+    started-bound-requires
+    lesser-requires
+    returns-2)
