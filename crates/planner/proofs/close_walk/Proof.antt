@@ -4,7 +4,6 @@ use Prim.Native.Nat.{ℕ, suc}
 use mathlib.Core.Path.{ap, _∙_}
 use mathlib.Core.List.{List, _++_}
 use lib.ListN.{length, drop}
-use Rattle.chain.specs.Limits.{maxBoundLoad, maxBoundSpeed}
 use borrow.Author.Needs.{needs}
 use Rattle.planner.proofs.close_walk.Statement.{statement}
 use Rattle.planner.proofs.close_walk.Tie as tie
@@ -13,8 +12,9 @@ any-hold-requires : tie.Need-any-hold-requires
 any-hold-requires c κs = search needs
 
 probe-in-requires : tie.Need-probe-in-requires
-unfolding maxBoundLoad maxBoundSpeed
-probe-in-requires c κs = search needs
+probe-in-requires c κs =
+    let s = c .before .before .before .before .before .before .before in
+    (s .pre .0, (s .pre .1 .1 .1, (s .pre .1 .0, c .before .any-hold .ensures)))
 
 same-length : tie.Need-same-length
 same-length c = search needs
