@@ -34,7 +34,8 @@ use Rattle.fields.specs.Field.{Bytes}
 use Rattle.refusals.specs.Inputs.{planNeeded, scratchNeeded, listInputs, freeBy, planInputs}
 use Rattle.refusals.specs.Answers.{alone, writtenSaid}
 use Rattle.refusals.proofs.Accepted.{accepted}
-use Rattle.refusals.proofs.Holds.{one-set, one-free, some-processor}
+use Rattle.parts.proofs.Held.{one-set}
+use Rattle.refusals.proofs.Holds.{one-free, some-processor}
 use Rattle.jobs.specs.JobFile.{processorKind, taskKind, noHold, recordBytes, recordsBytes, editionBytes, jobBytes}
 use Rattle.jobs.specs.Parse.{byteAt, isKind, blank, editionIn, startupIn, speedsOf, holdsOf, weightsOf, jobIn, fileTests, fileRefusal}
 use Rattle.jobs.specs.Answers.{writeAnswer, writeBytes}

@@ -62,7 +62,7 @@ module _ (c : ℕ) (es hs ws : List ℕ) where
           let l : p < length es = omega (arith, length-take-le (length es) hs (holds-long c es hs ws v)) in
           getD-take (length es) hs p 0 l ∙ h p l
 
-  one-set : (p : ℕ) → p < length es → getD hs p 0 ≢ 0 → true ≡ held job
+  pub one-set : (p : ℕ) → p < length es → getD hs p 0 ≢ 0 → true ≡ held job
   unfolding held
   one-set p k h = sym (ap not (no-zeros (take (length es) hs) p (λ e. h (sym (getD-take (length es) hs p 0 k) ∙ e))))
 
