@@ -9,7 +9,7 @@ use native.Mathlib.Omega.{arith}
 use native.Mathlib.Decide.{decLe, ℕ-discrete}
 use lib.Dec.{T, eqb, leb, ltb, leb→le, le→leb, ltb→lt, lt→ltb}
 use lib.ListN.{length, getD, take, replicate}
-use lib.Seq.{length-take-le, getD-take}
+use lib.Seq.{length-take-le, take-all, getD-take}
 use borrow.Author.Tests.{eq-eqb, ne-eqb}
 use Rattle.bound.specs.declared.Bound.{Bound}
 use Rattle.bound.specs.Order.{le, pick, greater, _≼_}
@@ -53,8 +53,8 @@ use Rattle.planner.specs.Answers.{plannedSaid, planRefusal, planAnswer, planWri
 use Rattle.planner.specs.HostCall.{holdTests, hostFileTests, hostTests, hostAnswer}
 use Rattle.planner.proofs.Promises.{plan-number}
 use Rattle.texts.specs.Text.{refusalLine}
-use Rattle.listing.specs.Listing.{listingBy, listingOf, listedTests, listedRefusal, intake, listing}
-use Rattle.listing.proofs.Listings.{listed-whole}
+use Rattle.listing.specs.Listing.{listedTests, listedRefusal, intake, listing}
+use Rattle.listing.proofs.Promises.{listing-refused}
 use Rattle.demands.specs.Call.{ByLists, editionBy, jobBy, listsIn, Call, TestJob, ReadJob, WriteJob, Measure, Probe, Heuristic, Halving, Plan, WritePlan, Grade, ListJob, PlanJob, GradePlan}
 use Rattle.demands.specs.Demands.{number, Accepts, front, HostLeft}
 use Rattle.demands.specs.Limit.{processorsIn}
@@ -547,14 +547,31 @@ module _ (file : List ℕ) (m : ℕ) (plan : List ℕ) where
       long : length (speedsOf file) ≤ length (holdsOf file)
       long = omega (arith, holds-length file)
 
--- The listing of an accepted file whose holds fall short.
-list-short : (file : List ℕ) → fileRefusal file ≡ 0 → Short (listsIn file) → listing file ≡ refusalLine 17
-unfolding listedRefusal listedTests listingOf listingBy enoughTest intake
-list-short file e s =
-    let v = accepted-valid file e in
-    let l = file-length file e in
-    sym (listed-whole file (omega (arith, l, one-head (editionIn file), v .tasks-limit, v .processors-limit)))
-    ∙ ap (λ (n : ℕ). listingOf n file) (refused-first (fileTests file) (enoughTest (jobIn file)) [] (file-numbered file) (unfold fileRefusal in e) (short-exactly (startupIn file) (listsIn file) .1 s))
+-- The listing says 17 of an accepted file whose holds fall short, and of no other: a file that is longer than what is taken in is refused before.
+list-short : (file : List ℕ) → (listing file ≡ refusalLine 17) ↔ ((fileRefusal file ≡ 0) × Short (listsIn file))
+unfolding fileRefusal
+list-short file = (
+  λ e.
+      let a = tests (take intake file) .0 (listing-refused file {n = 17} (omega arith) .0 e) in
+      subst (λ (f : List ℕ). (fileRefusal f ≡ 0) × Short (listsIn f)) (whole (a .0)) (a .0, short-exactly (startupIn (take intake file)) (listsIn (take intake file)) .0 (a .1)),
+  λ (e, s).
+      listing-refused file {n = 17} (omega arith) .1 (ap listedRefusal (take-all intake file (omega (arith, below file e))) ∙ tests file .1 (e, short-exactly (startupIn file) (listsIn file) .1 s)),
+)
+  where
+    tests : (f : List ℕ) → (listedRefusal f ≡ 17) ↔ ((firstRefusal (fileTests f) ≡ 0) × (enough (jobIn f) ≡ false))
+    tests f =
+        unfold listedRefusal listedTests enoughTest in
+        exactly-at (fileTests f) [] 17 (enough (jobIn f)) fromTwo (file-numbered f) (file-in f) tt tt refl
+
+    below : (f : List ℕ) → fileRefusal f ≡ 0 → length f < intake
+    below f e =
+        let v = accepted-valid f e in
+        unfold intake in omega (arith, file-length f e, one-head (editionIn f), v .tasks-limit, v .processors-limit)
+
+    whole : fileRefusal (take intake file) ≡ 0 → take intake file ≡ file
+    whole e =
+        let l = below (take intake file) e in
+        elim (decLe (length file) intake) [ yes h ↦ take-all intake file h | no h ↦ absurd (omega (arith, l, length-take-le intake file (omega arith))) ]
 
 -- A division is P + 1 separators that keep the holds.
 division : (g : ByLists) (s : List ℕ) → Partition (jobBy g) s ↔ (Dividing g s × Keeping g s)

@@ -162,7 +162,7 @@ pub record Holdings : Type 0 where
   pub plan-short : (m : ℕ) (g : ByLists) (s t : List ℕ) → RefusesShort (Plan m g s t) g (PlanReady m g s t)
   pub trial-short : (g : ByLists) (B : Bound) (s : List ℕ) → RefusesShort (Probe g B s) g (Ready g s)
   pub host-short : (file : List ℕ) (m : ℕ) (plan : List ℕ) → RefusesShort (PlanJob file m plan) (listsIn file) (HostReady file m plan)
-  pub list-short : (file : List ℕ) → fileRefusal file ≡ 0 → Short (listsIn file) → listing file ≡ refusalLine 17
+  pub list-short : (file : List ℕ) → (listing file ≡ refusalLine 17) ↔ ((fileRefusal file ≡ 0) × Short (listsIn file))
   -- Scope 18.20: "18 is given, after 17, for method 4 or either quick plan on a job with holds; the quick plans do not make test 17."
   pub plan-held : (m : ℕ) (g : ByLists) (s t : List ℕ) → (number (Plan m g s t) ≡ 18) ↔ (PlanReady m g s t × (Short g → ⊥) × (m ≡ 4) × Held g)
   pub host-held : (file : List ℕ) (m : ℕ) (plan : List ℕ)

@@ -5,13 +5,14 @@ use mathlib.Core.Path.{_≡_, refl, sym, ap, _∙_}
 use mathlib.Core.List.{List, [], _∷_, _++_, List·Memᴰ}
 use mathlib.Core.Logic.{_≢_, _↔_}
 use native.Mathlib.Omega.{arith}
+use native.Mathlib.Decide.{ℕ-discrete}
 use native.Mathlib.Nat.{le-refl}
 use lib.Dec.{T}
-use lib.ListN.{length, take, drop, length-append}
+use lib.ListN.{length, getD, take, drop, length-append}
 use lib.Seq.{take-take}
 use Rattle.chain.specs.declared.Method.{Method}
 use Rattle.chain.specs.declared.Method.the-variants.{Table, Bidding, Bisection, Nicol}
-use Rattle.chain.specs.Job.{Job, processors, tasks, enough}
+use Rattle.chain.specs.Job.{Edition, Job, processors, tasks, enough}
 use Rattle.chain.specs.Plan.{takes}
 use Rattle.chain.specs.Refusal.{lengthTest, holdsTest, enoughTest, freeTest, FirstFailing, separatorsNeeded, refusal}
 use Rattle.chain.proofs.Refusals.{pass-head, pass-skip, job-accepted, valid-holds, append-accepted, gives, given-number}
@@ -32,8 +33,11 @@ use Rattle.jobs.proofs.RoundTrip.{accepted-valid}
 use Rattle.planner.specs.declared.Planned.the-variants.{Accepted}
 use Rattle.planner.specs.Answers.{planRefusal, planFigures, plannedOf, chosenAnswer, planAnswer, planWrites}
 use Rattle.planner.proofs.Promises.{accepted-separators}
-use Rattle.listing.specs.Listing.{planLine, methodLine, listingOf, listedTests, listedRefusal, intake, listing}
+use Rattle.texts.specs.Text.{text, labelled, refusalLine}
+use Rattle.texts.proofs.Laws.{refusal-one}
+use Rattle.listing.specs.Listing.{countsLine, planLine, methodLine, jobListing, listingOf, listedTests, listedRefusal, intake, listing}
 use Rattle.listing.specs.Answers.{listTests, listRefusal, listAnswer, listWrites}
+use Rattle.listing.proofs.Listings.{refused-by, listed-by}
 
 -- Nothing is refused by a method that takes the job, past the lists and the holds.
 method-passes : (job : Job) (method : Method) (s t : ℕ) → T (takes method job) → 0 ≡ refusal job (planLists job s t)
@@ -84,6 +88,29 @@ module _ (file : List ℕ) (listed : listedRefusal file ≡ 0) (method : Method)
 pub listing-taken : (file : List ℕ) → listing (take intake file) ≡ listing file
 unfolding listing
 listing-taken file = ap (λ (l : List ℕ). listingOf (listedRefusal l) l) (take-take intake intake file (le-refl intake))
+
+-- A listing is the line of a refusal exactly where its file is refused with that number: the listing of a job begins with another byte.
+pub listing-refused : (file : List ℕ) {n : ℕ} → n ≢ 0 → (listing file ≡ refusalLine n) ↔ (listedRefusal (take intake file) ≡ n)
+unfolding listing listingOf
+listing-refused file {n} h = (
+  λ e. elim (ℕ-discrete k 0) [
+    | yes z ↦ absurd (begins (listed-by edition job refl z ∙ e))
+    | no z ↦ refusal-one k n (refused-by edition job refl z ∙ e)
+  ],
+  λ e. sym (refused-by edition job (sym e) h),
+)
+  where
+    k : ℕ
+    k = listedRefusal (take intake file)
+
+    edition : Edition
+    edition = editionIn (take intake file)
+
+    job : Job
+    job = jobIn (take intake file)
+
+    begins : jobListing edition job ≡ refusalLine n → ⊥
+    begins e = unfold jobListing countsLine refusalLine labelled text in let z = ap (λ (l : List ℕ). getD l 0 0) e in omega (arith, z)
 
 -- The call: 0 or 9; that of the first test that fails; a refusal leaves the buffer as it was.
 module _ (file out : List ℕ) where

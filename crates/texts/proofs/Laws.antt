@@ -1,8 +1,9 @@
 -- Texts put one behind another, and the digits of a number.
 -- Assumes nothing.
-use Prim.Native.Nat.{ℕ, zero, suc, _+_, _-_, _^_, _≤_, _<_}
+use Prim.Native.Nat.{ℕ, zero, suc, _+_, _-_, _*_, _/_, _%_, _^_, _≤_, _<_}
 use mathlib.Core.Path.{_≡_, refl, sym, ap, subst, _∙_}
-use mathlib.Core.List.{List, [], _∷_, _++_}
+use mathlib.Core.Bool.{Bool, cond}
+use mathlib.Core.List.{List, [], _∷_, _++_, append-cancel-left, append-cancel-right}
 use mathlib.Core.Logic.{inl, inr}
 use native.Mathlib.Omega.{arith}
 use native.Mathlib.Decide.{decLe}
@@ -10,11 +11,11 @@ use native.Mathlib.Nat.{pow-le-pow-right, pow-succ'}
 use lib.Dec.{ltb, lit<}
 use lib.ListN.{length, getD, set, take, drop, length-append}
 use lib.Seq.{sets, sets-eq, take-suc, take-all, length-take-le, take-at}
-use borrow.Author.Tests.{ltb-true, ltb-false}
-use Rattle.io.specs.Digits.{digits, Fewest}
+use borrow.Author.Tests.{ltb-true, ltb-false, lt-ltb}
+use Rattle.io.specs.Digits.{glyph, digits, Fewest}
 use Rattle.chain.specs.Lists.{smallestFrom}
 use Rattle.chain.proofs.Indices.{Smallest, smallest-is}
-use Rattle.texts.specs.Text.{width, decimal}
+use Rattle.texts.specs.Text.{text, width, decimal, field, labelled, refusalLine}
 use Rattle.texts.specs.Room.{numberRoom, Put}
 
 -- Stores that follow one another are one run.
@@ -117,3 +118,36 @@ digits-few {n} {k} f h =
       | no p ↦ let least : 10 ^ numberRoom ≤ 10 ^ (k - 1) = pow-le-pow-right (lit< tt) {i = numberRoom} {j = k - 1} (omega arith) in
           let held = f .2 (omega arith) in absurd (omega arith)
     ]
+
+-- A number read from its digits, behind those that gave v.
+abbrev told : ℕ → List ℕ → ℕ
+told v [] = v
+told v (d ∷ ds) = told (10 * v + (d - 48)) ds
+
+told-snoc : (v : ℕ) (ds : List ℕ) (d : ℕ) → told v (ds ++ (d ∷ [])) ≡ 10 * told v ds + (d - 48)
+told-snoc v [] d = refl
+told-snoc v (x ∷ ds) d = told-snoc (10 * v + (x - 48)) ds d
+
+glyph-digit : (d : ℕ) → d < 10 → glyph d - 48 ≡ d
+glyph-digit d h = ap (λ (b : Bool). cond b (48 + d) (87 + d) - 48) (lt-ltb d 10 h) ∙ omega arith
+
+told-digits : (k n : ℕ) → n < 10 ^ k → told 0 (digits 10 k n) ≡ n
+told-digits zero n h = omega arith
+told-digits (suc k) n h =
+    let e = pow-succ' 10 k in
+    let below : n / 10 < 10 ^ k = omega (arith, e, h) in
+    let front = told-digits k (n / 10) below in
+    let last : glyph (n % 10) - 48 ≡ n % 10 = glyph-digit (n % 10) (omega arith) in
+    omega (arith, told-snoc 0 (digits 10 k (n / 10)) (glyph (n % 10)), front, last)
+
+-- Numbers with one text are one, and so are those with one line of a refusal.
+decimal-one : (m n : ℕ) → decimal m ≡ decimal n → m ≡ n
+unfolding decimal
+decimal-one m n e = sym (told-digits (width m) m (width-fewest m .1)) ∙ ap (told 0) e ∙ told-digits (width n) n (width-fewest n .1)
+
+pub refusal-one : (m n : ℕ) → refusalLine m ≡ refusalLine n → m ≡ n
+unfolding refusalLine labelled field
+refusal-one m n e =
+    let labels = append-cancel-right (labelled "refused" m) (labelled "refused" n) (text "\n") e in
+    let numbers = append-cancel-left (text "refused") (field m) (field n) labels in
+    decimal-one m n (append-cancel-left (text " ") (decimal m) (decimal n) numbers)
