@@ -1618,6 +1618,23 @@ const STARTUPS: &[(&str, &str, Run)] = startups![
     ("grade", "grading", Call::Grade(_)),
 ];
 
+/// The faults that a macro makes, for each call on lists but testing; what else it makes them for stands beside it.
+macro_rules! calls_on_lists {
+    ($faults:ident $(, $first:tt)*) => {
+        $faults![
+            $($first,)*
+            ("write", "writing", Call::Write(_)),
+            ("measure", "measuring", Call::Measure(_)),
+            ("trial", "trial", Call::Trial(..)),
+            ("quick", "quick plan", Call::Quick(_)),
+            ("halving", "halving", Call::Halving(_)),
+            ("plan", "plan", Call::Plan(..)),
+            ("planfile", "plan file", Call::PlanFile(_)),
+            ("grade", "grading", Call::Grade(_)),
+        ]
+    };
+}
+
 /// Of each call on lists alone: the greatest start-up work refused, one more taken; that of the first edition tested; 16 after 5.
 macro_rules! tests_of_startup {
     ($(($name:literal, $words:literal, $call:pat),)*) => {
@@ -1630,17 +1647,7 @@ macro_rules! tests_of_startup {
     };
 }
 
-const TESTS: &[(&str, &str, Run)] = tests_of_startup![
-    ("test", "testing", Call::Test(_)),
-    ("write", "writing", Call::Write(_)),
-    ("measure", "measuring", Call::Measure(_)),
-    ("trial", "trial", Call::Trial(..)),
-    ("quick", "quick plan", Call::Quick(_)),
-    ("halving", "halving", Call::Halving(_)),
-    ("plan", "plan", Call::Plan(..)),
-    ("planfile", "plan file", Call::PlanFile(_)),
-    ("grade", "grading", Call::Grade(_)),
-];
+const TESTS: &[(&str, &str, Run)] = calls_on_lists!(tests_of_startup, ("test", "testing", Call::Test(_)));
 
 /// Whether a call makes a plan, or tries one.
 fn is_planning(l: &Lists) -> bool {
@@ -1830,16 +1837,7 @@ macro_rules! holds_behind {
     };
 }
 
-const HELD_BEHIND: &[(&str, &str, Run)] = holds_behind![
-    ("write", "writing", Call::Write(_)),
-    ("measure", "measuring", Call::Measure(_)),
-    ("trial", "trial", Call::Trial(..)),
-    ("quick", "quick plan", Call::Quick(_)),
-    ("halving", "halving", Call::Halving(_)),
-    ("plan", "plan", Call::Plan(..)),
-    ("planfile", "plan file", Call::PlanFile(_)),
-    ("grade", "grading", Call::Grade(_)),
-];
+const HELD_BEHIND: &[(&str, &str, Run)] = calls_on_lists!(holds_behind);
 
 /// Of each call on lists alone: a list of holds that is too short taken, what lacks being no limit, and a longer one refused.
 macro_rules! hold_lists {
@@ -1853,14 +1851,4 @@ macro_rules! hold_lists {
     };
 }
 
-const HELD_LISTS: &[(&str, &str, Run)] = hold_lists![
-    ("test", "testing", Call::Test(_)),
-    ("write", "writing", Call::Write(_)),
-    ("measure", "measuring", Call::Measure(_)),
-    ("trial", "trial", Call::Trial(..)),
-    ("quick", "quick plan", Call::Quick(_)),
-    ("halving", "halving", Call::Halving(_)),
-    ("plan", "plan", Call::Plan(..)),
-    ("planfile", "plan file", Call::PlanFile(_)),
-    ("grade", "grading", Call::Grade(_)),
-];
+const HELD_LISTS: &[(&str, &str, Run)] = calls_on_lists!(hold_lists, ("test", "testing", Call::Test(_)));
