@@ -869,9 +869,21 @@ fn put(to: &mut [u32], from: &[usize]) {
     }
 }
 
-/// Another quick plan: its separators, with their bottleneck.
+/// Other separators of an accepted call, with their bottleneck.
+fn redivide(l: Lists, wanted: bool, other: impl FnOnce(&Job) -> Vec<usize>) -> u32 {
+    l.then(wanted, |job| {
+        let s = other(job);
+        let found = slow::bottleneck(job, &s);
+        put(l.words(Slot::Separators), &s);
+        for (to, from) in l.answer().iter_mut().zip([found.0, found.1]) {
+            *to = from as u64;
+        }
+    })
+}
+
+/// Another quick plan, by which of two indices is nearer.
 fn requick(l: Lists, nearer: fn(i128, i128) -> bool) -> u32 {
-    l.then(l.is_quick(), |job| {
+    redivide(l, l.is_quick(), |job| {
         let whole = job.weight(0, job.weights.len()) as i128;
         let all: i128 = job.speeds.iter().map(|&e| e as i128).sum();
         let mut sofar = 0;
@@ -883,24 +895,13 @@ fn requick(l: Lists, nearer: fn(i128, i128) -> bool) -> u32 {
             s.push((0..=job.weights.len()).reduce(pick).unwrap());
         }
         s.push(job.weights.len());
-        let found = slow::bottleneck(job, &s);
-        put(l.words(Slot::Separators), &s);
-        for (to, from) in l.answer().iter_mut().zip([found.0, found.1]) {
-            *to = from as u64;
-        }
+        s
     })
 }
 
 /// Other separators of a row that is halved, with their bottleneck.
 fn rehalve(l: Lists, other: impl FnOnce(&Job) -> Vec<usize>) -> u32 {
-    l.then(l.is_halving(), |job| {
-        let s = other(job);
-        let found = slow::bottleneck(job, &s);
-        put(l.words(Slot::Separators), &s);
-        for (to, from) in l.answer().iter_mut().zip([found.0, found.1]) {
-            *to = from as u64;
-        }
-    })
+    redivide(l, l.is_halving(), other)
 }
 
 /// A row halved another way: where the separator is put in the part from a to b, of so many machines, and which sides are then split:
@@ -1536,7 +1537,7 @@ const FAULTS: &[(&str, &str, Run)] = &[
     ("allowance-one-first", "bidding: 2 on one machine in the first edition", |l| l.figure(l.is_plan(2), 1, |j, v| if j.speeds.len() == 1 { 2 } else { v })),
     ("allowance-one-empty", "bidding: 1 on one machine without tiles in the second edition", |l| l.figure(l.is_plan(2), 1, |j, v| if j.speeds.len() == 1 && j.weights.is_empty() { 1 } else { v })),
     ("allowance-second", "bidding: one more on several machines in the second edition", |l| l.figure(l.is_plan(2), 1, |j, v| if j.is_second() && j.speeds.len() > 1 { v + 1 } else { v })),
-    ("startup-quick", "quick plan: separators by weights and start-up work", |l| l.then(l.is_quick(), |j| { let s = quick_by_loads(j); let found = slow::bottleneck(j, &s); put(l.words(Slot::Separators), &s); for (to, from) in l.answer().iter_mut().zip([found.0, found.1]) { *to = from as u64 } })),
+    ("startup-quick", "quick plan: separators by weights and start-up work", |l| redivide(l, l.is_quick(), quick_by_loads)),
     ("startup-halving", "halving: half of the part's load, with start-up work on the left", |l| rehalve(l, |j| halved_by(j, &|a, b, _| { let off = |i: usize| (2 * j.load(a, i) as i128 - j.load(a, b) as i128).abs(); (a..=b).reduce(|best, i| if off(i) < off(best) { i } else { best }).unwrap() }, &|_, _| true))),
     ("startup-halving-empty", "halving: an empty share has the start-up work too", |l| l.pair(l.is_halving(), 0, |j, b| if j.weights.is_empty() { (j.c(), b.1) } else { b })),
     ("startup-grading", "grading: best by weights alone", |l| l.regrade(|j, d, _| { let j = without(j); if less(best_bound(&j), slow::bottleneck(&j, d)) { 2 } else { 1 } })),
