@@ -69,32 +69,28 @@ impl Lists<'_> {
         self.many(Slot::Weights)
     }
 
-    fn holds(&self) -> &'static mut [u16] {
-        match self.place(Slot::Holds) {
-            Some((at, n)) => unsafe { std::slice::from_raw_parts_mut(at as *mut u16, n) },
+    /// A list by numbers of any width; empty where the call has no such list.
+    fn list<T>(&self, slot: Slot) -> &'static mut [T] {
+        match self.place(slot) {
+            Some((at, n)) => unsafe { std::slice::from_raw_parts_mut(at as *mut T, n * slot.width() / size_of::<T>()) },
             None => &mut [],
         }
+    }
+
+    fn holds(&self) -> &'static mut [u16] {
+        self.list(Slot::Holds)
     }
 
     fn words(&self, slot: Slot) -> &'static mut [u32] {
-        match self.place(slot) {
-            Some((at, n)) => unsafe { std::slice::from_raw_parts_mut(at as *mut u32, n) },
-            None => &mut [],
-        }
+        self.list(slot)
     }
 
     fn bytes(&self, slot: Slot) -> &'static mut [u8] {
-        match self.place(slot) {
-            Some((at, n)) => unsafe { std::slice::from_raw_parts_mut(at, n * slot.width()) },
-            None => &mut [],
-        }
+        self.list(slot)
     }
 
     fn answer(&self) -> &'static mut [u64] {
-        match self.place(Slot::Answer) {
-            Some((at, n)) => unsafe { std::slice::from_raw_parts_mut(at as *mut u64, n) },
-            None => &mut [],
-        }
+        self.list(Slot::Answer)
     }
 
     fn real(&self) -> u32 {
