@@ -440,10 +440,7 @@ impl Lists<'_> {
             return self.real();
         }
         let mut more: Vec<u32> = weights.iter().map(|&w| w + startup).collect();
-        let k = self.call.slots().iter().position(|&s| s == Slot::Weights).unwrap();
-        let mut at = self.at.to_vec();
-        at[k] = (more.as_mut_ptr() as *mut u8, more.len());
-        unsafe { planner::real(self.call.beside(Edition { second, startup: 0 }), &at) }
+        Lists { call: self.call.beside(Edition { second, startup: 0 }), ..*self }.with(Slot::Weights, &mut more)
     }
 
     /// Another load of each share of a division that is measured, by the job, its tiles and its number.
@@ -488,11 +485,12 @@ impl Lists<'_> {
         })
     }
 
-    /// The call on another buffer in one place.
-    fn with(&self, slot: Slot, list: &mut [u8]) -> u32 {
+    /// The call on another list in one place.
+    fn with<T>(&self, slot: Slot, list: &mut [T]) -> u32 {
+        assert_eq!(size_of::<T>(), slot.width());
         let k = self.call.slots().iter().position(|&s| s == slot).unwrap();
         let mut at = self.at.to_vec();
-        at[k] = (list.as_mut_ptr(), list.len());
+        at[k] = (list.as_mut_ptr() as *mut u8, list.len());
         unsafe { planner::real(self.call, &at) }
     }
 
@@ -522,7 +520,7 @@ impl Lists<'_> {
             if list.len() >= self.machines() {
                 change(&mut list[..self.machines()], self.tiles());
             }
-            return self.with_hold_list(list);
+            return self.with(Slot::Holds, &mut list);
         }
         let Ok(job) = job::parse(self.bytes(Slot::File)) else { return self.real() };
         let mut holds = job.holds.clone();
@@ -530,22 +528,14 @@ impl Lists<'_> {
         self.with(Slot::File, &mut job.holding(holds).file())
     }
 
-    /// A call on lists with another list of holds.
-    fn with_hold_list(&self, mut list: Vec<u16>) -> u32 {
-        let k = self.call.slots().iter().position(|&s| s == Slot::Holds).unwrap();
-        let mut at = self.at.to_vec();
-        at[k] = (list.as_mut_ptr() as *mut u8, list.len());
-        unsafe { planner::real(self.call, &at) }
-    }
-
-    /// The same with the list made another way, by how many machines there are.
+    /// A call on lists with another list of holds, by how many machines there are.
     fn listing_holds(&self, wanted: bool, change: impl Fn(&mut Vec<u16>, usize)) -> u32 {
         if !wanted {
             return self.real();
         }
         let mut list = self.holds().to_vec();
         change(&mut list, self.machines());
-        self.with_hold_list(list)
+        self.with(Slot::Holds, &mut list)
     }
 
     /// Another number, by the job and the number that is right, where that is the one of a job with any hold past all tests of its lists or its
