@@ -198,17 +198,21 @@ impl Lists<'_> {
         self.tried(false, spoil)
     }
 
+    /// Another entry of the answer of a trial, by the job, the trial and the right entry.
+    fn said(&self, entry: usize, other: impl FnOnce(&Job, &Trial, u64) -> u64) -> u32 {
+        let Some(bound) = self.bound() else { return self.real() };
+        self.figure(true, entry, |job, v| other(job, &methods::trial(job, bound), v))
+    }
+
     /// Another number of machines that a trial which fits came to, by the job, the trial and the right number.
     fn came(&self, other: impl FnOnce(&Job, &Trial, u64) -> u64) -> u32 {
+        self.said(1, |job, found, many| if found.fits() { other(job, found, many) } else { many })
+    }
+
+    /// Another next bid of a trial that fails, by the job, the bound and the right bid.
+    fn rebid(&self, other: impl FnOnce(&Job, Bound, Bound) -> Bound) -> u32 {
         let Some(bound) = self.bound() else { return self.real() };
-        self.figure(true, 1, |job, many| {
-            let found = methods::trial(job, bound);
-            if found.fits() {
-                other(job, &found, many)
-            } else {
-                many
-            }
-        })
+        self.pair(true, 1, |job, found| if methods::trial(job, bound).fits() { found } else { other(job, bound, found) })
     }
 
     /// Spoils the separators behind the first that is N of a trial that fits, by what the list held there.
@@ -756,20 +760,10 @@ fn all_bids(job: &Job, bound: Bound) -> Vec<Bound> {
     every_bid(job, bound).into_iter().filter(|b| b.1).map(|b| b.0).collect()
 }
 
-/// Puts another bid of the failed trial into the answer.
-fn rebid(l: Lists, choose: fn(&[Bound], Bound) -> Bound) -> u32 {
-    let Some(bound) = l.bound() else { return l.real() };
-    l.pair(true, 1, |job, found| if methods::trial(job, bound).fits() { found } else { choose(&all_bids(job, bound), found) })
-}
-
 /// The least of all bids, where those too are made that a rule takes, by the job, the machine and whether it may make it; none of these is
 /// the bid that was made.
 fn rebid_by(l: Lists, made: fn(&Job, usize, bool) -> bool) -> u32 {
-    let Some(bound) = l.bound() else { return l.real() };
-    l.pair(true, 1, |job, found| {
-        if methods::trial(job, bound).fits() {
-            return found;
-        }
+    l.rebid(|job, bound, found| {
         let bids: Vec<Bound> = every_bid(job, bound).into_iter().enumerate().filter(|(p, b)| made(job, *p, b.1)).map(|(_, b)| b.0).collect();
         least_of(&bids).unwrap_or(found)
     })
@@ -777,8 +771,7 @@ fn rebid_by(l: Lists, made: fn(&Job, usize, bool) -> bool) -> u32 {
 
 /// The same where the last machine bids its share with the next tile added, as the others do.
 fn rebid_next_tile(l: Lists) -> u32 {
-    let Some(bound) = l.bound() else { return l.real() };
-    l.pair(true, 1, |job, found| {
+    l.rebid(|job, bound, found| {
         let (start, end) = methods::trial(job, bound).last();
         if end == job.weights.len() || !job.keeps(job.speeds.len() - 1, start, job.weights.len()) {
             return found;
@@ -1306,12 +1299,12 @@ const FAULTS: &[(&str, &str, Run)] = &[
     ("trial-strict", "trial: a share equal to the bound is too much", |l| match l.call { Call::Trial(n, load, speed) if (1..=BOUND_LOAD).contains(&load) && (1..=BOUND_SPEED).contains(&speed) => l.other(Call::Trial(n, load - 1, speed)), _ => l.real() }),
     ("trial-silent", "trial: no separators written by a fit", |l| l.tried(true, |_, _, before, s| s.copy_from_slice(&before[..s.len()]))),
     ("trial-fit-short", "trial: the last share of a fit stopped before tiles of weight 0", |l| l.tried(true, |j, _, _, s| while let [.., start, end] = s { if *end == *start || j.weights[*end as usize - 1] > 0 { break } *end -= 1 })),
-    ("trial-fit-zeros", "trial: a fit whose last share ends with a tile of weight 0 said to fail", |l| { let Some(b) = l.bound() else { return l.real() }; l.figure(true, 0, |j, v| { let (start, end) = methods::trial(j, b).last(); if end > start && j.weights[end - 1] == 0 { 0 } else { v } }) }),
+    ("trial-fit-zeros", "trial: a fit whose last share ends with a tile of weight 0 said to fail", |l| l.said(0, |j, t, v| { let (start, end) = t.last(); if end > start && j.weights[end - 1] == 0 { 0 } else { v } })),
     ("trial-fails", "trial: fails always", |l| l.figure(l.is_trial(), 0, |_, _| 0)),
-    ("trial-next-last", "trial: a tie of next bids to the highest machine", |l| rebid(l, |bids, b| bids.iter().copied().filter(|&x| !less(b, x)).last().unwrap_or(b))),
-    ("trial-next-greatest", "trial: the greatest next bid", |l| rebid(l, |bids, b| bids.iter().copied().fold(b, |a, x| if less(a, x) { x } else { a }))),
+    ("trial-next-last", "trial: a tie of next bids to the highest machine", |l| l.rebid(|j, b, found| all_bids(j, b).into_iter().filter(|&x| !less(found, x)).last().unwrap_or(found))),
+    ("trial-next-greatest", "trial: the greatest next bid", |l| l.rebid(|j, b, found| all_bids(j, b).into_iter().fold(found, |a, x| if less(a, x) { x } else { a }))),
     ("trial-next-rest", "trial: the last machine does not bid", |l| rebid_by(l, |job, p, may| may && p + 1 < job.speeds.len())),
-    ("trial-next-reduced", "trial: the next bid reduced", |l| rebid(l, |_, b| reduced(b))),
+    ("trial-next-reduced", "trial: the next bid reduced", |l| l.rebid(|_, _, found| reduced(found))),
     ("trial-next-tile", "trial: the last machine bids its share with the next tile added", rebid_next_tile),
     // The number of machines that a trial which fits came to.
     ("trial-came-more", "trial: one machine too many", |l| l.came(|_, _, n| n + 1)),
@@ -1338,7 +1331,7 @@ const FAULTS: &[(&str, &str, Run)] = &[
     ("trial-came-second", "trial: one machine too many, in the second edition only", |l| l.came(|j, _, n| n + j.is_second() as u64)),
     ("trial-came-seldom", "trial: one machine too many, once in 5,000 fits", |l| l.came(|_, _, n| n + seldom(5_000) as u64)),
     ("trial-came-dropped", "trial: no number of machines", |l| { let old = l.answer().get(1).copied(); l.came(|_, _, _| old.unwrap()) }),
-    ("trial-came-first", "trial: the number of machines in the place of the 1", |l| { let Some(b) = l.bound() else { return l.real() }; l.figure(true, 0, |j, v| methods::trial(j, b).machines.map_or(v, |n| n as u64)) }),
+    ("trial-came-first", "trial: the number of machines in the place of the 1", |l| l.said(0, |_, t, v| t.machines.map_or(v, |n| n as u64))),
     ("trial-came-later", "trial: the entry after the number of machines changed by a fit", |l| l.tried(true, |_, _, _, _| if let Some(v) = l.answer().get_mut(2) { *v = 0 })),
     ("trial-came-short", "trial: nothing answered by a fit where there is room for one entry", |l| { let old = l.answer().first().copied(); l.tried(true, |_, _, _, _| if let [v] = l.answer() { *v = old.unwrap() }) }),
     ("trial-came-past", "trial: the number of machines written past an answer of one entry", |l| l.tried(true, |_, _, _, _| if let Some((at, 1)) = l.place(Slot::Answer) { unsafe { *at.wrapping_add(8) ^= 1 } })),
@@ -1376,7 +1369,7 @@ const FAULTS: &[(&str, &str, Run)] = &[
     ("trial-stop-last", "trial: stopped before the last machine, where that is needed", |l| l.stopped(|j, t| if t.machines == Some(j.speeds.len()) { stopped_with(j, t, j.weights.len()) } else { None })),
     ("trial-stop-weight", "trial: stopped once all weight is placed, before any machine where nothing weighs", |l| l.stopped(|j, _| if methods::ideal(j).0 == 0 { Some(vec![j.weights.len(); j.speeds.len() + 1]) } else { None })),
     ("trial-stop-short", "trial: the separator of the last machine come to one too small", |l| l.tried(true, |j, _, _, s| if let Some(p) = s.iter().position(|&s| s as usize == j.weights.len()).filter(|&p| p > 0) { s[p] -= 1 })),
-    ("trial-stop-fails", "trial: fits that leave machines said to fail", |l| { let Some(b) = l.bound() else { return l.real() }; l.figure(true, 0, |j, v| if methods::trial(j, b).machines.is_some_and(|n| n < j.speeds.len()) { 0 } else { v }) }),
+    ("trial-stop-fails", "trial: fits that leave machines said to fail", |l| l.said(0, |j, t, v| if t.machines.is_some_and(|n| n < j.speeds.len()) { 0 } else { v })),
     // What a trial that fails writes.
     ("trial-failed-silent", "trial: nothing written by a failure", |l| l.failed(|_, _, before, s| s.copy_from_slice(&before[..s.len()]))),
     ("trial-failed-nought", "trial: 0 throughout written by a failure", |l| l.failed(|_, _, _, s| s.fill(0))),
@@ -1503,8 +1496,8 @@ const FAULTS: &[(&str, &str, Run)] = &[
     // Start-up work: trials, plans and their figures.
     ("startup-trial-walk", "trial: a walk without start-up work, bids with it", |l| l.failed(|j, b, _, s| put(s, &methods::trial(&without(j), b).separators))),
     ("startup-trial-reach", "trial: the last machine reaches as without start-up work", |l| l.reach(|j, b, start, _| reached(&without(j), start, start, *j.speeds.last().unwrap(), b))),
-    ("startup-trial-bid", "trial: the next bid without start-up work", |l| { let Some(b) = l.bound() else { return l.real() }; l.pair(true, 1, |j, found| if methods::trial(j, b).fits() { found } else { (found.0 - j.c(), found.1) }) }),
-    ("startup-trial-last", "trial: the last machine bids without start-up work", |l| { let Some(b) = l.bound() else { return l.real() }; l.pair(true, 1, |j, found| { if methods::trial(j, b).fits() { return found } let mut bids = every_bid(j, b); bids.last_mut().unwrap().0.0 -= j.c(); least_of(&bids.iter().filter(|b| b.1).map(|b| b.0).collect::<Vec<_>>()).unwrap() }) }),
+    ("startup-trial-bid", "trial: the next bid without start-up work", |l| l.rebid(|j, _, found| (found.0 - j.c(), found.1))),
+    ("startup-trial-last", "trial: the last machine bids without start-up work", |l| l.rebid(|j, b, _| { let mut bids = every_bid(j, b); bids.last_mut().unwrap().0.0 -= j.c(); least_of(&bids.iter().filter(|b| b.1).map(|b| b.0).collect::<Vec<_>>()).unwrap() })),
     ("startup-plan-table", "table: the plan without start-up work", |l| l.inner(l.is_plan(1), |j, s| put(s, &crate::fast::solve(&without(j)).0))),
     ("startup-plan-bidding", "bidding: the plan without start-up work", |l| l.inner(l.is_plan(2), |j, s| put(s, &crate::fast::solve(&without(j)).0))),
     ("startup-plan-bisection", "bisection: the plan without start-up work", |l| l.inner(l.is_plan(3), |j, s| put(s, &crate::fast::solve(&without(j)).0))),
@@ -1746,14 +1739,14 @@ const HELD: &[(&str, &str, Run)] = &[
     ("hold-trial-bid-last", "trial: the last bids though it does not hold the rest", |l| rebid_by(l, |j, p, may| may || p + 1 == j.speeds.len())),
     ("hold-trial-bid-limited", "trial: no limited machine bids", |l| rebid_by(l, |j, p, may| may && j.holds[p] == 0)),
     ("hold-trial-bid-last-limited", "trial: a limited last machine does not bid", |l| rebid_by(l, |j, p, may| may && (j.holds[p] == 0 || p + 1 < j.speeds.len()))),
-    ("hold-trial-bid-just", "trial: the last does not bid where it holds just the rest", |l| { let Some(b) = l.bound() else { return l.real() }; l.pair(true, 1, |j, found| { let t = methods::trial(j, b); if t.fits() || t.last().0 + j.holds[j.speeds.len() - 1] as usize != j.weights.len() { return found } let bids: Vec<Bound> = every_bid(j, b).iter().take(j.speeds.len() - 1).filter(|b| b.1).map(|b| b.0).collect(); least_of(&bids).unwrap_or((1, 1)) }) }),
-    ("hold-trial-bid-1-0", "trial: 1/0 where the last has no bid", |l| { let Some(b) = l.bound() else { return l.real() }; l.pair(true, 1, |j, found| { let t = methods::trial(j, b); if !t.fits() && !j.keeps(j.speeds.len() - 1, t.last().0, j.weights.len()) { (1, 0) } else { found } }) }),
+    ("hold-trial-bid-just", "trial: the last does not bid where it holds just the rest", |l| l.rebid(|j, b, found| { if methods::trial(j, b).last().0 + j.holds[j.speeds.len() - 1] as usize != j.weights.len() { return found } let bids: Vec<Bound> = every_bid(j, b).iter().take(j.speeds.len() - 1).filter(|b| b.1).map(|b| b.0).collect(); least_of(&bids).unwrap_or((1, 1)) })),
+    ("hold-trial-bid-1-0", "trial: 1/0 where the last has no bid", |l| l.rebid(|j, b, found| if j.keeps(j.speeds.len() - 1, methods::trial(j, b).last().0, j.weights.len()) { found } else { (1, 0) })),
     ("hold-trial-reach", "trial: the last machine reaches past its hold", |l| l.reach(|j, b, start, _| reached(&j.unlimited(), start, start, *j.speeds.last().unwrap(), b))),
     ("hold-trial-reach-all", "trial: N written last where the last could carry the rest and not hold it", |l| l.reach(|j, b, start, end| if reached(&j.unlimited(), start, start, *j.speeds.last().unwrap(), b) == j.weights.len() { j.weights.len() } else { end })),
     ("hold-trial-reach-nothing", "trial: a last machine that does not hold the rest reaches nothing", |l| l.reach(|j, _, start, end| if j.keeps(j.speeds.len() - 1, start, j.weights.len()) { end } else { start })),
     ("hold-trial-reach-less", "trial: the last machine reaches one tile less than it holds", |l| l.reach(|j, _, start, end| if end > start && end - start == *j.holds.last().unwrap() as usize { end - 1 } else { end })),
-    ("hold-trial-fits", "trial: fits where the last could carry the rest and not hold it", |l| { let Some(b) = l.bound() else { return l.real() }; l.figure(true, 0, |j, v| { let t = methods::trial(j, b); let start = t.last().0; if reached(&j.unlimited(), start, start, *j.speeds.last().unwrap(), b) == j.weights.len() { 1 } else { v } }) }),
-    ("hold-trial-fails", "trial: fails where the last has just as many tiles as it holds", |l| { let Some(b) = l.bound() else { return l.real() }; l.figure(true, 0, |j, v| { let (start, end) = methods::trial(j, b).last(); if end > start && end - start == *j.holds.last().unwrap() as usize { 0 } else { v } }) }),
+    ("hold-trial-fits", "trial: fits where the last could carry the rest and not hold it", |l| { let b = l.bound(); l.said(0, |j, t, v| { let start = t.last().0; if reached(&j.unlimited(), start, start, *j.speeds.last().unwrap(), b.unwrap()) == j.weights.len() { 1 } else { v } }) }),
+    ("hold-trial-fails", "trial: fails where the last has just as many tiles as it holds", |l| l.said(0, |j, t, v| { let (start, end) = t.last(); if end > start && end - start == *j.holds.last().unwrap() as usize { 0 } else { v } })),
     ("hold-trial-came", "trial: machines at their holds not counted", |l| l.came(|j, t, n| n - (0..n as usize).filter(|&p| j.holds[p] > 0 && t.separators[p + 1] - t.separators[p] == j.holds[p] as usize).count() as u64)),
     ("hold-trial-bound", "trial: a limited machine stops at its hold alone", |l| l.failed(|j, _, _, s| { for p in 0..j.speeds.len() { if j.holds[p] > 0 { s[p + 1] = (s[p] + j.holds[p] as u32).min(j.weights.len() as u32) } } })),
     // Holds: the table, bidding, bisection and their figures.
