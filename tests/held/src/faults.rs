@@ -49,6 +49,15 @@ pub fn list() {
     }
 }
 
+/// Whether it is the call, for each name.
+macro_rules! is_call {
+    ($($name:ident: $call:pat,)*) => {
+        $(fn $name(&self) -> bool {
+            matches!(self.call, $call)
+        })*
+    };
+}
+
 impl Lists<'_> {
     fn place(&self, slot: Slot) -> Option<At> {
         let k = self.call.slots().iter().position(|&s| s == slot)?;
@@ -133,48 +142,23 @@ impl Lists<'_> {
         }
     }
 
-    fn is_test(&self) -> bool {
-        matches!(self.call, Call::Test(_))
+    is_call! {
+        is_test: Call::Test(_),
+        is_write: Call::Write(_),
+        is_measure: Call::Measure(_),
+        is_trial: Call::Trial(..),
+        is_quick: Call::Quick(_),
+        is_halving: Call::Halving(_),
+        is_plans: Call::Plan(..),
+        is_plan_file: Call::PlanFile(_),
+        is_host: Call::Host { .. },
+        is_grade: Call::Grade(_),
+        is_grading: Call::Grade(_) | Call::HostGrade,
     }
 
-    fn is_write(&self) -> bool {
-        matches!(self.call, Call::Write(_))
-    }
-
-    fn is_measure(&self) -> bool {
-        matches!(self.call, Call::Measure(_))
-    }
-
-    fn is_quick(&self) -> bool {
-        matches!(self.call, Call::Quick(_))
-    }
-
-    fn is_halving(&self) -> bool {
-        matches!(self.call, Call::Halving(_))
-    }
-
-    fn is_plan_file(&self) -> bool {
-        matches!(self.call, Call::PlanFile(_))
-    }
-
-    fn is_grade(&self) -> bool {
-        matches!(self.call, Call::Grade(_))
-    }
-
+    /// A plan by this method.
     fn is_plan(&self, method: u32) -> bool {
         matches!(self.call, Call::Plan(_, its) if its == method)
-    }
-
-    fn is_plans(&self) -> bool {
-        matches!(self.call, Call::Plan(..))
-    }
-
-    fn is_host(&self) -> bool {
-        matches!(self.call, Call::Host { .. })
-    }
-
-    fn is_trial(&self) -> bool {
-        matches!(self.call, Call::Trial(..))
     }
 
     /// The bound of a trial, brought into the range of a lent one.
@@ -626,10 +610,6 @@ impl Lists<'_> {
                 l.bytes(Slot::Text)[n - 2] = b'0' + number as u8;
             }
         })
-    }
-
-    fn is_grading(&self) -> bool {
-        matches!(self.call, Call::Grade(_) | Call::HostGrade)
     }
 
     /// The job of a grading, where it is one.
