@@ -12,22 +12,26 @@ fail() {
     exit 1
 }
 
+# gives COMMAND NAME WORD..: with the words the command gives the file's bytes
+gives() {
+    command=$1
+    name=$2
+    shift 2
+    "$command" "$@" >"$work/made" || fail "$name: refused"
+    cmp -s "$work/made" "$name" || fail "$name: other bytes"
+    checks=$((checks + 1))
+}
+
 # makes NAME WORD..: the words give the example's bytes
 makes() {
     name=$1
     shift
-    examples/make-job "$@" >"$work/job" || fail "$name: refused"
-    cmp -s "$work/job" "examples/$name.job" || fail "$name: other bytes"
-    checks=$((checks + 1))
+    gives examples/make-job "examples/$name.job" "$@"
 }
 
 # plans NAME JOB WORD..: the words give the plan's bytes
 plans() {
-    name=$1
-    shift
-    examples/make-plan "$@" >"$work/plan" || fail "$name: refused"
-    cmp -s "$work/plan" "$name" || fail "$name: other bytes"
-    checks=$((checks + 1))
+    gives examples/make-plan "$@"
 }
 
 # stops COMMAND WORD..: exit 2, and no byte written

@@ -49,6 +49,15 @@ pub fn list() {
     }
 }
 
+/// Whether it is the call, for each name.
+macro_rules! is_call {
+    ($($name:ident: $call:pat,)*) => {
+        $(fn $name(&self) -> bool {
+            matches!(self.call, $call)
+        })*
+    };
+}
+
 impl Lists<'_> {
     fn place(&self, slot: Slot) -> Option<At> {
         let k = self.call.slots().iter().position(|&s| s == slot)?;
@@ -69,32 +78,28 @@ impl Lists<'_> {
         self.many(Slot::Weights)
     }
 
-    fn holds(&self) -> &'static mut [u16] {
-        match self.place(Slot::Holds) {
-            Some((at, n)) => unsafe { std::slice::from_raw_parts_mut(at as *mut u16, n) },
+    /// A list by numbers of any width; empty where the call has no such list.
+    fn list<T>(&self, slot: Slot) -> &'static mut [T] {
+        match self.place(slot) {
+            Some((at, n)) => unsafe { std::slice::from_raw_parts_mut(at as *mut T, n * slot.width() / size_of::<T>()) },
             None => &mut [],
         }
+    }
+
+    fn holds(&self) -> &'static mut [u16] {
+        self.list(Slot::Holds)
     }
 
     fn words(&self, slot: Slot) -> &'static mut [u32] {
-        match self.place(slot) {
-            Some((at, n)) => unsafe { std::slice::from_raw_parts_mut(at as *mut u32, n) },
-            None => &mut [],
-        }
+        self.list(slot)
     }
 
     fn bytes(&self, slot: Slot) -> &'static mut [u8] {
-        match self.place(slot) {
-            Some((at, n)) => unsafe { std::slice::from_raw_parts_mut(at, n * slot.width()) },
-            None => &mut [],
-        }
+        self.list(slot)
     }
 
     fn answer(&self) -> &'static mut [u64] {
-        match self.place(Slot::Answer) {
-            Some((at, n)) => unsafe { std::slice::from_raw_parts_mut(at as *mut u64, n) },
-            None => &mut [],
-        }
+        self.list(Slot::Answer)
     }
 
     fn real(&self) -> u32 {
@@ -137,48 +142,23 @@ impl Lists<'_> {
         }
     }
 
-    fn is_test(&self) -> bool {
-        matches!(self.call, Call::Test(_))
+    is_call! {
+        is_test: Call::Test(_),
+        is_write: Call::Write(_),
+        is_measure: Call::Measure(_),
+        is_trial: Call::Trial(..),
+        is_quick: Call::Quick(_),
+        is_halving: Call::Halving(_),
+        is_plans: Call::Plan(..),
+        is_plan_file: Call::PlanFile(_),
+        is_host: Call::Host { .. },
+        is_grade: Call::Grade(_),
+        is_grading: Call::Grade(_) | Call::HostGrade,
     }
 
-    fn is_write(&self) -> bool {
-        matches!(self.call, Call::Write(_))
-    }
-
-    fn is_measure(&self) -> bool {
-        matches!(self.call, Call::Measure(_))
-    }
-
-    fn is_quick(&self) -> bool {
-        matches!(self.call, Call::Quick(_))
-    }
-
-    fn is_halving(&self) -> bool {
-        matches!(self.call, Call::Halving(_))
-    }
-
-    fn is_plan_file(&self) -> bool {
-        matches!(self.call, Call::PlanFile(_))
-    }
-
-    fn is_grade(&self) -> bool {
-        matches!(self.call, Call::Grade(_))
-    }
-
+    /// A plan by this method.
     fn is_plan(&self, method: u32) -> bool {
         matches!(self.call, Call::Plan(_, its) if its == method)
-    }
-
-    fn is_plans(&self) -> bool {
-        matches!(self.call, Call::Plan(..))
-    }
-
-    fn is_host(&self) -> bool {
-        matches!(self.call, Call::Host { .. })
-    }
-
-    fn is_trial(&self) -> bool {
-        matches!(self.call, Call::Trial(..))
     }
 
     /// The bound of a trial, brought into the range of a lent one.
@@ -202,17 +182,21 @@ impl Lists<'_> {
         self.tried(false, spoil)
     }
 
+    /// Another entry of the answer of a trial, by the job, the trial and the right entry.
+    fn said(&self, entry: usize, other: impl FnOnce(&Job, &Trial, u64) -> u64) -> u32 {
+        let Some(bound) = self.bound() else { return self.real() };
+        self.figure(true, entry, |job, v| other(job, &methods::trial(job, bound), v))
+    }
+
     /// Another number of machines that a trial which fits came to, by the job, the trial and the right number.
     fn came(&self, other: impl FnOnce(&Job, &Trial, u64) -> u64) -> u32 {
+        self.said(1, |job, found, many| if found.fits() { other(job, found, many) } else { many })
+    }
+
+    /// Another next bid of a trial that fails, by the job, the bound and the right bid.
+    fn rebid(&self, other: impl FnOnce(&Job, Bound, Bound) -> Bound) -> u32 {
         let Some(bound) = self.bound() else { return self.real() };
-        self.figure(true, 1, |job, many| {
-            let found = methods::trial(job, bound);
-            if found.fits() {
-                other(job, &found, many)
-            } else {
-                many
-            }
-        })
+        self.pair(true, 1, |job, found| if methods::trial(job, bound).fits() { found } else { other(job, bound, found) })
     }
 
     /// Spoils the separators behind the first that is N of a trial that fits, by what the list held there.
@@ -444,10 +428,7 @@ impl Lists<'_> {
             return self.real();
         }
         let mut more: Vec<u32> = weights.iter().map(|&w| w + startup).collect();
-        let k = self.call.slots().iter().position(|&s| s == Slot::Weights).unwrap();
-        let mut at = self.at.to_vec();
-        at[k] = (more.as_mut_ptr() as *mut u8, more.len());
-        unsafe { planner::real(self.call.beside(Edition { second, startup: 0 }), &at) }
+        Lists { call: self.call.beside(Edition { second, startup: 0 }), ..*self }.with(Slot::Weights, &mut more)
     }
 
     /// Another load of each share of a division that is measured, by the job, its tiles and its number.
@@ -492,11 +473,12 @@ impl Lists<'_> {
         })
     }
 
-    /// The call on another buffer in one place.
-    fn with(&self, slot: Slot, list: &mut [u8]) -> u32 {
+    /// The call on another list in one place.
+    fn with<T>(&self, slot: Slot, list: &mut [T]) -> u32 {
+        assert_eq!(size_of::<T>(), slot.width());
         let k = self.call.slots().iter().position(|&s| s == slot).unwrap();
         let mut at = self.at.to_vec();
-        at[k] = (list.as_mut_ptr(), list.len());
+        at[k] = (list.as_mut_ptr() as *mut u8, list.len());
         unsafe { planner::real(self.call, &at) }
     }
 
@@ -526,7 +508,7 @@ impl Lists<'_> {
             if list.len() >= self.machines() {
                 change(&mut list[..self.machines()], self.tiles());
             }
-            return self.with_hold_list(list);
+            return self.with(Slot::Holds, &mut list);
         }
         let Ok(job) = job::parse(self.bytes(Slot::File)) else { return self.real() };
         let mut holds = job.holds.clone();
@@ -534,22 +516,14 @@ impl Lists<'_> {
         self.with(Slot::File, &mut job.holding(holds).file())
     }
 
-    /// A call on lists with another list of holds.
-    fn with_hold_list(&self, mut list: Vec<u16>) -> u32 {
-        let k = self.call.slots().iter().position(|&s| s == Slot::Holds).unwrap();
-        let mut at = self.at.to_vec();
-        at[k] = (list.as_mut_ptr() as *mut u8, list.len());
-        unsafe { planner::real(self.call, &at) }
-    }
-
-    /// The same with the list made another way, by how many machines there are.
+    /// A call on lists with another list of holds, by how many machines there are.
     fn listing_holds(&self, wanted: bool, change: impl Fn(&mut Vec<u16>, usize)) -> u32 {
         if !wanted {
             return self.real();
         }
         let mut list = self.holds().to_vec();
         change(&mut list, self.machines());
-        self.with_hold_list(list)
+        self.with(Slot::Holds, &mut list)
     }
 
     /// Another number, by the job and the number that is right, where that is the one of a job with any hold past all tests of its lists or its
@@ -636,10 +610,6 @@ impl Lists<'_> {
                 l.bytes(Slot::Text)[n - 2] = b'0' + number as u8;
             }
         })
-    }
-
-    fn is_grading(&self) -> bool {
-        matches!(self.call, Call::Grade(_) | Call::HostGrade)
     }
 
     /// The job of a grading, where it is one.
@@ -770,20 +740,10 @@ fn all_bids(job: &Job, bound: Bound) -> Vec<Bound> {
     every_bid(job, bound).into_iter().filter(|b| b.1).map(|b| b.0).collect()
 }
 
-/// Puts another bid of the failed trial into the answer.
-fn rebid(l: Lists, choose: fn(&[Bound], Bound) -> Bound) -> u32 {
-    let Some(bound) = l.bound() else { return l.real() };
-    l.pair(true, 1, |job, found| if methods::trial(job, bound).fits() { found } else { choose(&all_bids(job, bound), found) })
-}
-
 /// The least of all bids, where those too are made that a rule takes, by the job, the machine and whether it may make it; none of these is
 /// the bid that was made.
 fn rebid_by(l: Lists, made: fn(&Job, usize, bool) -> bool) -> u32 {
-    let Some(bound) = l.bound() else { return l.real() };
-    l.pair(true, 1, |job, found| {
-        if methods::trial(job, bound).fits() {
-            return found;
-        }
+    l.rebid(|job, bound, found| {
         let bids: Vec<Bound> = every_bid(job, bound).into_iter().enumerate().filter(|(p, b)| made(job, *p, b.1)).map(|(_, b)| b.0).collect();
         least_of(&bids).unwrap_or(found)
     })
@@ -791,8 +751,7 @@ fn rebid_by(l: Lists, made: fn(&Job, usize, bool) -> bool) -> u32 {
 
 /// The same where the last machine bids its share with the next tile added, as the others do.
 fn rebid_next_tile(l: Lists) -> u32 {
-    let Some(bound) = l.bound() else { return l.real() };
-    l.pair(true, 1, |job, found| {
+    l.rebid(|job, bound, found| {
         let (start, end) = methods::trial(job, bound).last();
         if end == job.weights.len() || !job.keeps(job.speeds.len() - 1, start, job.weights.len()) {
             return found;
@@ -869,9 +828,21 @@ fn put(to: &mut [u32], from: &[usize]) {
     }
 }
 
-/// Another quick plan: its separators, with their bottleneck.
+/// Other separators of an accepted call, with their bottleneck.
+fn redivide(l: Lists, wanted: bool, other: impl FnOnce(&Job) -> Vec<usize>) -> u32 {
+    l.then(wanted, |job| {
+        let s = other(job);
+        let found = slow::bottleneck(job, &s);
+        put(l.words(Slot::Separators), &s);
+        for (to, from) in l.answer().iter_mut().zip([found.0, found.1]) {
+            *to = from as u64;
+        }
+    })
+}
+
+/// Another quick plan, by which of two indices is nearer.
 fn requick(l: Lists, nearer: fn(i128, i128) -> bool) -> u32 {
-    l.then(l.is_quick(), |job| {
+    redivide(l, l.is_quick(), |job| {
         let whole = job.weight(0, job.weights.len()) as i128;
         let all: i128 = job.speeds.iter().map(|&e| e as i128).sum();
         let mut sofar = 0;
@@ -883,24 +854,13 @@ fn requick(l: Lists, nearer: fn(i128, i128) -> bool) -> u32 {
             s.push((0..=job.weights.len()).reduce(pick).unwrap());
         }
         s.push(job.weights.len());
-        let found = slow::bottleneck(job, &s);
-        put(l.words(Slot::Separators), &s);
-        for (to, from) in l.answer().iter_mut().zip([found.0, found.1]) {
-            *to = from as u64;
-        }
+        s
     })
 }
 
 /// Other separators of a row that is halved, with their bottleneck.
 fn rehalve(l: Lists, other: impl FnOnce(&Job) -> Vec<usize>) -> u32 {
-    l.then(l.is_halving(), |job| {
-        let s = other(job);
-        let found = slow::bottleneck(job, &s);
-        put(l.words(Slot::Separators), &s);
-        for (to, from) in l.answer().iter_mut().zip([found.0, found.1]) {
-            *to = from as u64;
-        }
-    })
+    redivide(l, l.is_halving(), other)
 }
 
 /// A row halved another way: where the separator is put in the part from a to b, of so many machines, and which sides are then split:
@@ -1319,12 +1279,12 @@ const FAULTS: &[(&str, &str, Run)] = &[
     ("trial-strict", "trial: a share equal to the bound is too much", |l| match l.call { Call::Trial(n, load, speed) if (1..=BOUND_LOAD).contains(&load) && (1..=BOUND_SPEED).contains(&speed) => l.other(Call::Trial(n, load - 1, speed)), _ => l.real() }),
     ("trial-silent", "trial: no separators written by a fit", |l| l.tried(true, |_, _, before, s| s.copy_from_slice(&before[..s.len()]))),
     ("trial-fit-short", "trial: the last share of a fit stopped before tiles of weight 0", |l| l.tried(true, |j, _, _, s| while let [.., start, end] = s { if *end == *start || j.weights[*end as usize - 1] > 0 { break } *end -= 1 })),
-    ("trial-fit-zeros", "trial: a fit whose last share ends with a tile of weight 0 said to fail", |l| { let Some(b) = l.bound() else { return l.real() }; l.figure(true, 0, |j, v| { let (start, end) = methods::trial(j, b).last(); if end > start && j.weights[end - 1] == 0 { 0 } else { v } }) }),
+    ("trial-fit-zeros", "trial: a fit whose last share ends with a tile of weight 0 said to fail", |l| l.said(0, |j, t, v| { let (start, end) = t.last(); if end > start && j.weights[end - 1] == 0 { 0 } else { v } })),
     ("trial-fails", "trial: fails always", |l| l.figure(l.is_trial(), 0, |_, _| 0)),
-    ("trial-next-last", "trial: a tie of next bids to the highest machine", |l| rebid(l, |bids, b| bids.iter().copied().filter(|&x| !less(b, x)).last().unwrap_or(b))),
-    ("trial-next-greatest", "trial: the greatest next bid", |l| rebid(l, |bids, b| bids.iter().copied().fold(b, |a, x| if less(a, x) { x } else { a }))),
+    ("trial-next-last", "trial: a tie of next bids to the highest machine", |l| l.rebid(|j, b, found| all_bids(j, b).into_iter().filter(|&x| !less(found, x)).last().unwrap_or(found))),
+    ("trial-next-greatest", "trial: the greatest next bid", |l| l.rebid(|j, b, found| all_bids(j, b).into_iter().fold(found, |a, x| if less(a, x) { x } else { a }))),
     ("trial-next-rest", "trial: the last machine does not bid", |l| rebid_by(l, |job, p, may| may && p + 1 < job.speeds.len())),
-    ("trial-next-reduced", "trial: the next bid reduced", |l| rebid(l, |_, b| reduced(b))),
+    ("trial-next-reduced", "trial: the next bid reduced", |l| l.rebid(|_, _, found| reduced(found))),
     ("trial-next-tile", "trial: the last machine bids its share with the next tile added", rebid_next_tile),
     // The number of machines that a trial which fits came to.
     ("trial-came-more", "trial: one machine too many", |l| l.came(|_, _, n| n + 1)),
@@ -1351,7 +1311,7 @@ const FAULTS: &[(&str, &str, Run)] = &[
     ("trial-came-second", "trial: one machine too many, in the second edition only", |l| l.came(|j, _, n| n + j.is_second() as u64)),
     ("trial-came-seldom", "trial: one machine too many, once in 5,000 fits", |l| l.came(|_, _, n| n + seldom(5_000) as u64)),
     ("trial-came-dropped", "trial: no number of machines", |l| { let old = l.answer().get(1).copied(); l.came(|_, _, _| old.unwrap()) }),
-    ("trial-came-first", "trial: the number of machines in the place of the 1", |l| { let Some(b) = l.bound() else { return l.real() }; l.figure(true, 0, |j, v| methods::trial(j, b).machines.map_or(v, |n| n as u64)) }),
+    ("trial-came-first", "trial: the number of machines in the place of the 1", |l| l.said(0, |_, t, v| t.machines.map_or(v, |n| n as u64))),
     ("trial-came-later", "trial: the entry after the number of machines changed by a fit", |l| l.tried(true, |_, _, _, _| if let Some(v) = l.answer().get_mut(2) { *v = 0 })),
     ("trial-came-short", "trial: nothing answered by a fit where there is room for one entry", |l| { let old = l.answer().first().copied(); l.tried(true, |_, _, _, _| if let [v] = l.answer() { *v = old.unwrap() }) }),
     ("trial-came-past", "trial: the number of machines written past an answer of one entry", |l| l.tried(true, |_, _, _, _| if let Some((at, 1)) = l.place(Slot::Answer) { unsafe { *at.wrapping_add(8) ^= 1 } })),
@@ -1389,7 +1349,7 @@ const FAULTS: &[(&str, &str, Run)] = &[
     ("trial-stop-last", "trial: stopped before the last machine, where that is needed", |l| l.stopped(|j, t| if t.machines == Some(j.speeds.len()) { stopped_with(j, t, j.weights.len()) } else { None })),
     ("trial-stop-weight", "trial: stopped once all weight is placed, before any machine where nothing weighs", |l| l.stopped(|j, _| if methods::ideal(j).0 == 0 { Some(vec![j.weights.len(); j.speeds.len() + 1]) } else { None })),
     ("trial-stop-short", "trial: the separator of the last machine come to one too small", |l| l.tried(true, |j, _, _, s| if let Some(p) = s.iter().position(|&s| s as usize == j.weights.len()).filter(|&p| p > 0) { s[p] -= 1 })),
-    ("trial-stop-fails", "trial: fits that leave machines said to fail", |l| { let Some(b) = l.bound() else { return l.real() }; l.figure(true, 0, |j, v| if methods::trial(j, b).machines.is_some_and(|n| n < j.speeds.len()) { 0 } else { v }) }),
+    ("trial-stop-fails", "trial: fits that leave machines said to fail", |l| l.said(0, |j, t, v| if t.machines.is_some_and(|n| n < j.speeds.len()) { 0 } else { v })),
     // What a trial that fails writes.
     ("trial-failed-silent", "trial: nothing written by a failure", |l| l.failed(|_, _, before, s| s.copy_from_slice(&before[..s.len()]))),
     ("trial-failed-nought", "trial: 0 throughout written by a failure", |l| l.failed(|_, _, _, s| s.fill(0))),
@@ -1516,8 +1476,8 @@ const FAULTS: &[(&str, &str, Run)] = &[
     // Start-up work: trials, plans and their figures.
     ("startup-trial-walk", "trial: a walk without start-up work, bids with it", |l| l.failed(|j, b, _, s| put(s, &methods::trial(&without(j), b).separators))),
     ("startup-trial-reach", "trial: the last machine reaches as without start-up work", |l| l.reach(|j, b, start, _| reached(&without(j), start, start, *j.speeds.last().unwrap(), b))),
-    ("startup-trial-bid", "trial: the next bid without start-up work", |l| { let Some(b) = l.bound() else { return l.real() }; l.pair(true, 1, |j, found| if methods::trial(j, b).fits() { found } else { (found.0 - j.c(), found.1) }) }),
-    ("startup-trial-last", "trial: the last machine bids without start-up work", |l| { let Some(b) = l.bound() else { return l.real() }; l.pair(true, 1, |j, found| { if methods::trial(j, b).fits() { return found } let mut bids = every_bid(j, b); bids.last_mut().unwrap().0.0 -= j.c(); least_of(&bids.iter().filter(|b| b.1).map(|b| b.0).collect::<Vec<_>>()).unwrap() }) }),
+    ("startup-trial-bid", "trial: the next bid without start-up work", |l| l.rebid(|j, _, found| (found.0 - j.c(), found.1))),
+    ("startup-trial-last", "trial: the last machine bids without start-up work", |l| l.rebid(|j, b, _| { let mut bids = every_bid(j, b); bids.last_mut().unwrap().0.0 -= j.c(); least_of(&bids.iter().filter(|b| b.1).map(|b| b.0).collect::<Vec<_>>()).unwrap() })),
     ("startup-plan-table", "table: the plan without start-up work", |l| l.inner(l.is_plan(1), |j, s| put(s, &crate::fast::solve(&without(j)).0))),
     ("startup-plan-bidding", "bidding: the plan without start-up work", |l| l.inner(l.is_plan(2), |j, s| put(s, &crate::fast::solve(&without(j)).0))),
     ("startup-plan-bisection", "bisection: the plan without start-up work", |l| l.inner(l.is_plan(3), |j, s| put(s, &crate::fast::solve(&without(j)).0))),
@@ -1536,7 +1496,7 @@ const FAULTS: &[(&str, &str, Run)] = &[
     ("allowance-one-first", "bidding: 2 on one machine in the first edition", |l| l.figure(l.is_plan(2), 1, |j, v| if j.speeds.len() == 1 { 2 } else { v })),
     ("allowance-one-empty", "bidding: 1 on one machine without tiles in the second edition", |l| l.figure(l.is_plan(2), 1, |j, v| if j.speeds.len() == 1 && j.weights.is_empty() { 1 } else { v })),
     ("allowance-second", "bidding: one more on several machines in the second edition", |l| l.figure(l.is_plan(2), 1, |j, v| if j.is_second() && j.speeds.len() > 1 { v + 1 } else { v })),
-    ("startup-quick", "quick plan: separators by weights and start-up work", |l| l.then(l.is_quick(), |j| { let s = quick_by_loads(j); let found = slow::bottleneck(j, &s); put(l.words(Slot::Separators), &s); for (to, from) in l.answer().iter_mut().zip([found.0, found.1]) { *to = from as u64 } })),
+    ("startup-quick", "quick plan: separators by weights and start-up work", |l| redivide(l, l.is_quick(), quick_by_loads)),
     ("startup-halving", "halving: half of the part's load, with start-up work on the left", |l| rehalve(l, |j| halved_by(j, &|a, b, _| { let off = |i: usize| (2 * j.load(a, i) as i128 - j.load(a, b) as i128).abs(); (a..=b).reduce(|best, i| if off(i) < off(best) { i } else { best }).unwrap() }, &|_, _| true))),
     ("startup-halving-empty", "halving: an empty share has the start-up work too", |l| l.pair(l.is_halving(), 0, |j, b| if j.weights.is_empty() { (j.c(), b.1) } else { b })),
     ("startup-grading", "grading: best by weights alone", |l| l.regrade(|j, d, _| { let j = without(j); if less(best_bound(&j), slow::bottleneck(&j, d)) { 2 } else { 1 } })),
@@ -1618,6 +1578,23 @@ const STARTUPS: &[(&str, &str, Run)] = startups![
     ("grade", "grading", Call::Grade(_)),
 ];
 
+/// The faults that a macro makes, for each call on lists but testing; what else it makes them for stands beside it.
+macro_rules! calls_on_lists {
+    ($faults:ident $(, $first:tt)*) => {
+        $faults![
+            $($first,)*
+            ("write", "writing", Call::Write(_)),
+            ("measure", "measuring", Call::Measure(_)),
+            ("trial", "trial", Call::Trial(..)),
+            ("quick", "quick plan", Call::Quick(_)),
+            ("halving", "halving", Call::Halving(_)),
+            ("plan", "plan", Call::Plan(..)),
+            ("planfile", "plan file", Call::PlanFile(_)),
+            ("grade", "grading", Call::Grade(_)),
+        ]
+    };
+}
+
 /// Of each call on lists alone: the greatest start-up work refused, one more taken; that of the first edition tested; 16 after 5.
 macro_rules! tests_of_startup {
     ($(($name:literal, $words:literal, $call:pat),)*) => {
@@ -1630,17 +1607,7 @@ macro_rules! tests_of_startup {
     };
 }
 
-const TESTS: &[(&str, &str, Run)] = tests_of_startup![
-    ("test", "testing", Call::Test(_)),
-    ("write", "writing", Call::Write(_)),
-    ("measure", "measuring", Call::Measure(_)),
-    ("trial", "trial", Call::Trial(..)),
-    ("quick", "quick plan", Call::Quick(_)),
-    ("halving", "halving", Call::Halving(_)),
-    ("plan", "plan", Call::Plan(..)),
-    ("planfile", "plan file", Call::PlanFile(_)),
-    ("grade", "grading", Call::Grade(_)),
-];
+const TESTS: &[(&str, &str, Run)] = calls_on_lists!(tests_of_startup, ("test", "testing", Call::Test(_)));
 
 /// Whether a call makes a plan, or tries one.
 fn is_planning(l: &Lists) -> bool {
@@ -1752,14 +1719,14 @@ const HELD: &[(&str, &str, Run)] = &[
     ("hold-trial-bid-last", "trial: the last bids though it does not hold the rest", |l| rebid_by(l, |j, p, may| may || p + 1 == j.speeds.len())),
     ("hold-trial-bid-limited", "trial: no limited machine bids", |l| rebid_by(l, |j, p, may| may && j.holds[p] == 0)),
     ("hold-trial-bid-last-limited", "trial: a limited last machine does not bid", |l| rebid_by(l, |j, p, may| may && (j.holds[p] == 0 || p + 1 < j.speeds.len()))),
-    ("hold-trial-bid-just", "trial: the last does not bid where it holds just the rest", |l| { let Some(b) = l.bound() else { return l.real() }; l.pair(true, 1, |j, found| { let t = methods::trial(j, b); if t.fits() || t.last().0 + j.holds[j.speeds.len() - 1] as usize != j.weights.len() { return found } let bids: Vec<Bound> = every_bid(j, b).iter().take(j.speeds.len() - 1).filter(|b| b.1).map(|b| b.0).collect(); least_of(&bids).unwrap_or((1, 1)) }) }),
-    ("hold-trial-bid-1-0", "trial: 1/0 where the last has no bid", |l| { let Some(b) = l.bound() else { return l.real() }; l.pair(true, 1, |j, found| { let t = methods::trial(j, b); if !t.fits() && !j.keeps(j.speeds.len() - 1, t.last().0, j.weights.len()) { (1, 0) } else { found } }) }),
+    ("hold-trial-bid-just", "trial: the last does not bid where it holds just the rest", |l| l.rebid(|j, b, found| { if methods::trial(j, b).last().0 + j.holds[j.speeds.len() - 1] as usize != j.weights.len() { return found } let bids: Vec<Bound> = every_bid(j, b).iter().take(j.speeds.len() - 1).filter(|b| b.1).map(|b| b.0).collect(); least_of(&bids).unwrap_or((1, 1)) })),
+    ("hold-trial-bid-1-0", "trial: 1/0 where the last has no bid", |l| l.rebid(|j, b, found| if j.keeps(j.speeds.len() - 1, methods::trial(j, b).last().0, j.weights.len()) { found } else { (1, 0) })),
     ("hold-trial-reach", "trial: the last machine reaches past its hold", |l| l.reach(|j, b, start, _| reached(&j.unlimited(), start, start, *j.speeds.last().unwrap(), b))),
     ("hold-trial-reach-all", "trial: N written last where the last could carry the rest and not hold it", |l| l.reach(|j, b, start, end| if reached(&j.unlimited(), start, start, *j.speeds.last().unwrap(), b) == j.weights.len() { j.weights.len() } else { end })),
     ("hold-trial-reach-nothing", "trial: a last machine that does not hold the rest reaches nothing", |l| l.reach(|j, _, start, end| if j.keeps(j.speeds.len() - 1, start, j.weights.len()) { end } else { start })),
     ("hold-trial-reach-less", "trial: the last machine reaches one tile less than it holds", |l| l.reach(|j, _, start, end| if end > start && end - start == *j.holds.last().unwrap() as usize { end - 1 } else { end })),
-    ("hold-trial-fits", "trial: fits where the last could carry the rest and not hold it", |l| { let Some(b) = l.bound() else { return l.real() }; l.figure(true, 0, |j, v| { let t = methods::trial(j, b); let start = t.last().0; if reached(&j.unlimited(), start, start, *j.speeds.last().unwrap(), b) == j.weights.len() { 1 } else { v } }) }),
-    ("hold-trial-fails", "trial: fails where the last has just as many tiles as it holds", |l| { let Some(b) = l.bound() else { return l.real() }; l.figure(true, 0, |j, v| { let (start, end) = methods::trial(j, b).last(); if end > start && end - start == *j.holds.last().unwrap() as usize { 0 } else { v } }) }),
+    ("hold-trial-fits", "trial: fits where the last could carry the rest and not hold it", |l| { let b = l.bound(); l.said(0, |j, t, v| { let start = t.last().0; if reached(&j.unlimited(), start, start, *j.speeds.last().unwrap(), b.unwrap()) == j.weights.len() { 1 } else { v } }) }),
+    ("hold-trial-fails", "trial: fails where the last has just as many tiles as it holds", |l| l.said(0, |j, t, v| { let (start, end) = t.last(); if end > start && end - start == *j.holds.last().unwrap() as usize { 0 } else { v } })),
     ("hold-trial-came", "trial: machines at their holds not counted", |l| l.came(|j, t, n| n - (0..n as usize).filter(|&p| j.holds[p] > 0 && t.separators[p + 1] - t.separators[p] == j.holds[p] as usize).count() as u64)),
     ("hold-trial-bound", "trial: a limited machine stops at its hold alone", |l| l.failed(|j, _, _, s| { for p in 0..j.speeds.len() { if j.holds[p] > 0 { s[p + 1] = (s[p] + j.holds[p] as u32).min(j.weights.len() as u32) } } })),
     // Holds: the table, bidding, bisection and their figures.
@@ -1830,16 +1797,7 @@ macro_rules! holds_behind {
     };
 }
 
-const HELD_BEHIND: &[(&str, &str, Run)] = holds_behind![
-    ("write", "writing", Call::Write(_)),
-    ("measure", "measuring", Call::Measure(_)),
-    ("trial", "trial", Call::Trial(..)),
-    ("quick", "quick plan", Call::Quick(_)),
-    ("halving", "halving", Call::Halving(_)),
-    ("plan", "plan", Call::Plan(..)),
-    ("planfile", "plan file", Call::PlanFile(_)),
-    ("grade", "grading", Call::Grade(_)),
-];
+const HELD_BEHIND: &[(&str, &str, Run)] = calls_on_lists!(holds_behind);
 
 /// Of each call on lists alone: a list of holds that is too short taken, what lacks being no limit, and a longer one refused.
 macro_rules! hold_lists {
@@ -1853,14 +1811,4 @@ macro_rules! hold_lists {
     };
 }
 
-const HELD_LISTS: &[(&str, &str, Run)] = hold_lists![
-    ("test", "testing", Call::Test(_)),
-    ("write", "writing", Call::Write(_)),
-    ("measure", "measuring", Call::Measure(_)),
-    ("trial", "trial", Call::Trial(..)),
-    ("quick", "quick plan", Call::Quick(_)),
-    ("halving", "halving", Call::Halving(_)),
-    ("plan", "plan", Call::Plan(..)),
-    ("planfile", "plan file", Call::PlanFile(_)),
-    ("grade", "grading", Call::Grade(_)),
-];
+const HELD_LISTS: &[(&str, &str, Run)] = calls_on_lists!(hold_lists, ("test", "testing", Call::Test(_)));

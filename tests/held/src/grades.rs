@@ -137,26 +137,24 @@ fn keeps(job: &Job, division: &[usize]) -> bool {
     (0..job.speeds.len()).all(|p| job.keeps(p, division[p], division[p + 1]))
 }
 
+/// The plans of a worked job: each as it is, of other lengths, and damaged.
+fn plans_of(c: &mut Check, s: &Solved, k: &Worked) {
+    for (division, grade) in k.plans {
+        for _ in 0..8 {
+            of_division(c, s, division, *grade);
+        }
+        lengths(c, s, division);
+        damaged(c, s, division);
+    }
+}
+
 fn worked(c: &mut Check) {
     for k in &WORKED {
-        let s = Solved::of(&Job::of(k.startup, k.speeds, k.weights));
-        for (division, grade) in k.plans {
-            for _ in 0..8 {
-                of_division(c, &s, division, *grade);
-            }
-            lengths(c, &s, division);
-            damaged(c, &s, division);
-        }
+        plans_of(c, &Solved::of(&Job::of(k.startup, k.speeds, k.weights)), k);
     }
     for (holds, k, broken) in &HELD {
         let s = Solved::of(&Job::held(k.startup, k.speeds, holds, k.weights));
-        for (division, grade) in k.plans {
-            for _ in 0..8 {
-                of_division(c, &s, division, *grade);
-            }
-            lengths(c, &s, division);
-            damaged(c, &s, division);
-        }
+        plans_of(c, &s, k);
         for division in *broken {
             // 11 for the hold comes before an untrue load or speed, and after the length.
             let plan = job::plan_of(&s.job, division);

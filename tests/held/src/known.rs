@@ -14,14 +14,14 @@ use crate::trials::{self, Case};
 use crate::{every, fast, halving};
 
 /// A job with all that is known of it, of each method count and allowance.
-struct Known {
+struct Known<const METHODS: usize = 4> {
     name: &'static str,
     weights: &'static [u32],
     speeds: &'static [u32],
     separators: &'static [usize],
     bottleneck: Bound,
-    counts: [u64; 4],
-    allowances: [u64; 4],
+    counts: [u64; METHODS],
+    allowances: [u64; METHODS],
     imbalance: u64,
 }
 
@@ -86,31 +86,30 @@ const SECOND: [(u32, Known); 13] = [
     (1, Known { name: "E with start-up work", weights: &[6], speeds: &[1, 1], separators: &[0, 1, 1], bottleneck: (7, 1), counts: [1, 2, 1, 1], allowances: [1, 2, 4, 1], imbalance: 1334 }),
 ];
 
-/// A job with holds and all that is known of it; of methods 1 to 3 count and allowance.
+/// A job with holds, for methods 1 to 3.
 struct Held {
-    name: &'static str,
     startup: Option<u32>,
-    weights: &'static [u32],
-    speeds: &'static [u32],
     holds: &'static [u16],
-    separators: &'static [usize],
-    bottleneck: Bound,
-    counts: [u64; 3],
-    allowances: [u64; 3],
-    imbalance: u64,
+    known: Known<3>,
+}
+
+impl Held {
+    fn job(&self) -> Job {
+        Job::held(self.startup, self.known.speeds, self.holds, self.known.weights)
+    }
 }
 
 /// The jobs of the scope, section 18.
 #[rustfmt::skip]
 const LIMITED: [Held; 8] = [
-    Held { name: "R", startup: None, weights: &[1, 1, 1, 1, 1], speeds: &[1, 1, 5], holds: &[1, 2, 2], separators: &[0, 1, 3, 5], bottleneck: (2, 1), counts: [6, 3, 3], allowances: [10, 11, 8], imbalance: 1800 },
-    Held { name: "S", startup: None, weights: &[1, 3, 8], speeds: &[1, 3], holds: &[0, 1], separators: &[0, 2, 3], bottleneck: (4, 1), counts: [2, 2, 2], allowances: [3, 4, 8], imbalance: 334 },
-    Held { name: "T", startup: None, weights: &[2, 1, 3, 1, 2, 4], speeds: &[1, 2, 1], holds: &[1, 0, 1], separators: &[0, 1, 5, 6], bottleneck: (4, 1), counts: [8, 3, 4], allowances: [12, 13, 7], imbalance: 231 },
-    Held { name: "U", startup: None, weights: &[2, 9, 4], speeds: &[3, 1], holds: &[1, 2], separators: &[0, 1, 3], bottleneck: (13, 1), counts: [2, 2, 2], allowances: [3, 4, 9], imbalance: 2467 },
-    Held { name: "V", startup: Some(3), weights: &[1, 4, 4], speeds: &[1, 4], holds: &[0, 2], separators: &[0, 1, 3], bottleneck: (4, 1), counts: [1, 2, 3], allowances: [3, 4, 9], imbalance: 1223 },
-    Held { name: "W", startup: None, weights: &[0, 0, 0, 0], speeds: &[1, 1, 1], holds: &[1, 2, 0], separators: &[0, 1, 3, 4], bottleneck: (0, 1), counts: [2, 1, 1], allowances: [8, 9, 1], imbalance: 0 },
-    Held { name: "X", startup: None, weights: &[1, 3, 8], speeds: &[1, 3], holds: &[3, 3], separators: &[0, 1, 3], bottleneck: (11, 3), counts: [2, 2, 3], allowances: [3, 4, 8], imbalance: 223 },
-    Held { name: "Y", startup: None, weights: &[], speeds: &[7, 2], holds: &[1, 1], separators: &[0, 0, 0], bottleneck: (0, 7), counts: [0, 1, 1], allowances: [0, 1, 1], imbalance: 0 },
+    Held { startup: None, holds: &[1, 2, 2], known: Known { name: "R", weights: &[1, 1, 1, 1, 1], speeds: &[1, 1, 5], separators: &[0, 1, 3, 5], bottleneck: (2, 1), counts: [6, 3, 3], allowances: [10, 11, 8], imbalance: 1800 } },
+    Held { startup: None, holds: &[0, 1], known: Known { name: "S", weights: &[1, 3, 8], speeds: &[1, 3], separators: &[0, 2, 3], bottleneck: (4, 1), counts: [2, 2, 2], allowances: [3, 4, 8], imbalance: 334 } },
+    Held { startup: None, holds: &[1, 0, 1], known: Known { name: "T", weights: &[2, 1, 3, 1, 2, 4], speeds: &[1, 2, 1], separators: &[0, 1, 5, 6], bottleneck: (4, 1), counts: [8, 3, 4], allowances: [12, 13, 7], imbalance: 231 } },
+    Held { startup: None, holds: &[1, 2], known: Known { name: "U", weights: &[2, 9, 4], speeds: &[3, 1], separators: &[0, 1, 3], bottleneck: (13, 1), counts: [2, 2, 2], allowances: [3, 4, 9], imbalance: 2467 } },
+    Held { startup: Some(3), holds: &[0, 2], known: Known { name: "V", weights: &[1, 4, 4], speeds: &[1, 4], separators: &[0, 1, 3], bottleneck: (4, 1), counts: [1, 2, 3], allowances: [3, 4, 9], imbalance: 1223 } },
+    Held { startup: None, holds: &[1, 2, 0], known: Known { name: "W", weights: &[0, 0, 0, 0], speeds: &[1, 1, 1], separators: &[0, 1, 3, 4], bottleneck: (0, 1), counts: [2, 1, 1], allowances: [8, 9, 1], imbalance: 0 } },
+    Held { startup: None, holds: &[3, 3], known: Known { name: "X", weights: &[1, 3, 8], speeds: &[1, 3], separators: &[0, 1, 3], bottleneck: (11, 3), counts: [2, 2, 3], allowances: [3, 4, 8], imbalance: 223 } },
+    Held { startup: None, holds: &[1, 1], known: Known { name: "Y", weights: &[], speeds: &[7, 2], separators: &[0, 0, 0], bottleneck: (0, 7), counts: [0, 1, 1], allowances: [0, 1, 1], imbalance: 0 } },
 ];
 
 /// Worked by hand: A with a hold on machine 1, which does not make it worse, with holds that leave one division, and with some that limit
@@ -118,17 +117,17 @@ const LIMITED: [Held; 8] = [
 /// one machine, on two, and without tiles; one machine without a limit between two that hold a tile; and a fast machine that holds one.
 #[rustfmt::skip]
 const HELD: [Held; 11] = [
-    Held { name: "A, machine 1 holds a tile", startup: None, weights: &[1, 3, 8], speeds: &[1, 3], holds: &[1, 0], separators: &[0, 1, 3], bottleneck: (11, 3), counts: [2, 2, 2], allowances: [3, 4, 8], imbalance: 223 },
-    Held { name: "A, as many places as tiles", startup: None, weights: &[1, 3, 8], speeds: &[1, 3], holds: &[2, 1], separators: &[0, 2, 3], bottleneck: (4, 1), counts: [2, 2, 2], allowances: [3, 4, 8], imbalance: 334 },
-    Held { name: "A, holds that limit nothing", startup: None, weights: &[1, 3, 8], speeds: &[1, 3], holds: &[4, 65_535], separators: &[0, 1, 3], bottleneck: (11, 3), counts: [2, 2, 3], allowances: [3, 4, 8], imbalance: 223 },
-    Held { name: "B, as many places as tiles", startup: None, weights: &[4, 3, 2, 6, 1], speeds: &[1, 2], holds: &[3, 2], separators: &[0, 3, 5], bottleneck: (9, 1), counts: [3, 3, 3], allowances: [5, 6, 8], imbalance: 688 },
-    Held { name: "nothing weighs, one tile a machine", startup: None, weights: &[0, 0], speeds: &[1, 1], holds: &[1, 1], separators: &[0, 1, 2], bottleneck: (0, 1), counts: [1, 1, 1], allowances: [2, 3, 1], imbalance: 0 },
-    Held { name: "one machine that holds all tiles", startup: None, weights: &[4, 0, 3], speeds: &[5], holds: &[3], separators: &[0, 3], bottleneck: (7, 5), counts: [0, 1, 1], allowances: [0, 1, 7], imbalance: 0 },
-    Held { name: "one machine with start-up work that holds the most", startup: Some(2), weights: &[4, 0, 3], speeds: &[5], holds: &[65_535], separators: &[0, 3], bottleneck: (9, 5), counts: [0, 2, 1], allowances: [0, 2, 7], imbalance: 286 },
-    Held { name: "a machine that would be left out but for the holds", startup: Some(2), weights: &[6, 1], speeds: &[4, 1], holds: &[1, 0], separators: &[0, 1, 2], bottleneck: (3, 1), counts: [2, 3, 3], allowances: [2, 3, 9], imbalance: 1143 },
-    Held { name: "no limit between two machines that hold a tile", startup: None, weights: &[2, 2, 2, 2, 2, 2], speeds: &[1, 1, 1], holds: &[1, 0, 1], separators: &[0, 1, 5, 6], bottleneck: (8, 1), counts: [7, 3, 3], allowances: [12, 13, 5], imbalance: 1000 },
-    Held { name: "holds and no tiles in the second edition", startup: Some(9), weights: &[], speeds: &[5], holds: &[1], separators: &[0, 0], bottleneck: (0, 5), counts: [0, 1, 1], allowances: [0, 2, 7], imbalance: 0 },
-    Held { name: "a fast machine that holds a tile", startup: None, weights: &[3, 3, 3], speeds: &[1, 9], holds: &[0, 1], separators: &[0, 2, 3], bottleneck: (6, 1), counts: [2, 3, 3], allowances: [3, 4, 11], imbalance: 5667 },
+    Held { startup: None, holds: &[1, 0], known: Known { name: "A, machine 1 holds a tile", weights: &[1, 3, 8], speeds: &[1, 3], separators: &[0, 1, 3], bottleneck: (11, 3), counts: [2, 2, 2], allowances: [3, 4, 8], imbalance: 223 } },
+    Held { startup: None, holds: &[2, 1], known: Known { name: "A, as many places as tiles", weights: &[1, 3, 8], speeds: &[1, 3], separators: &[0, 2, 3], bottleneck: (4, 1), counts: [2, 2, 2], allowances: [3, 4, 8], imbalance: 334 } },
+    Held { startup: None, holds: &[4, 65_535], known: Known { name: "A, holds that limit nothing", weights: &[1, 3, 8], speeds: &[1, 3], separators: &[0, 1, 3], bottleneck: (11, 3), counts: [2, 2, 3], allowances: [3, 4, 8], imbalance: 223 } },
+    Held { startup: None, holds: &[3, 2], known: Known { name: "B, as many places as tiles", weights: &[4, 3, 2, 6, 1], speeds: &[1, 2], separators: &[0, 3, 5], bottleneck: (9, 1), counts: [3, 3, 3], allowances: [5, 6, 8], imbalance: 688 } },
+    Held { startup: None, holds: &[1, 1], known: Known { name: "nothing weighs, one tile a machine", weights: &[0, 0], speeds: &[1, 1], separators: &[0, 1, 2], bottleneck: (0, 1), counts: [1, 1, 1], allowances: [2, 3, 1], imbalance: 0 } },
+    Held { startup: None, holds: &[3], known: Known { name: "one machine that holds all tiles", weights: &[4, 0, 3], speeds: &[5], separators: &[0, 3], bottleneck: (7, 5), counts: [0, 1, 1], allowances: [0, 1, 7], imbalance: 0 } },
+    Held { startup: Some(2), holds: &[65_535], known: Known { name: "one machine with start-up work that holds the most", weights: &[4, 0, 3], speeds: &[5], separators: &[0, 3], bottleneck: (9, 5), counts: [0, 2, 1], allowances: [0, 2, 7], imbalance: 286 } },
+    Held { startup: Some(2), holds: &[1, 0], known: Known { name: "a machine that would be left out but for the holds", weights: &[6, 1], speeds: &[4, 1], separators: &[0, 1, 2], bottleneck: (3, 1), counts: [2, 3, 3], allowances: [2, 3, 9], imbalance: 1143 } },
+    Held { startup: None, holds: &[1, 0, 1], known: Known { name: "no limit between two machines that hold a tile", weights: &[2, 2, 2, 2, 2, 2], speeds: &[1, 1, 1], separators: &[0, 1, 5, 6], bottleneck: (8, 1), counts: [7, 3, 3], allowances: [12, 13, 5], imbalance: 1000 } },
+    Held { startup: Some(9), holds: &[1], known: Known { name: "holds and no tiles in the second edition", weights: &[], speeds: &[5], separators: &[0, 0], bottleneck: (0, 5), counts: [0, 1, 1], allowances: [0, 2, 7], imbalance: 0 } },
+    Held { startup: None, holds: &[0, 1], known: Known { name: "a fast machine that holds a tile", weights: &[3, 3, 3], speeds: &[1, 9], separators: &[0, 2, 3], bottleneck: (6, 1), counts: [2, 3, 3], allowances: [3, 4, 11], imbalance: 5667 } },
 ];
 
 /// As many and as heavy tiles as there can be, but the first one unit lighter.
@@ -238,7 +237,7 @@ fn rows(c: &mut Check) {
     }
     let quick = methods::quick(&Job::new(ROWS[3].speeds, ROWS[3].weights));
     let best = fast::solve(&Job::new(ROWS[4].speeds, ROWS[4].weights)).1;
-    let said = format!("the quick plan is {} |", text(&quick.iter().map(|&s| s as u32).collect::<Vec<_>>()));
+    let said = format!("the quick plan is {} |", text(&quick));
     in_scope(c, &format!("{} half of the part, not of the whole; {}", cells(&ROWS[3]), said));
     in_scope(c, &format!("{} it is not the plan, whose bottleneck is {}/{} |", cells(&ROWS[4]), best.0, best.1));
     for row in &ROWS {
@@ -266,7 +265,7 @@ fn rows(c: &mut Check) {
 }
 
 /// Numbers as the scope's tables write them.
-fn text(list: &[u32]) -> String {
+fn text(list: &[impl ToString]) -> String {
     let words: Vec<String> = list.iter().map(|n| n.to_string()).collect();
     match words.len() {
         0 => "none".to_string(),
@@ -278,6 +277,14 @@ fn text(list: &[u32]) -> String {
 fn cells(row: &Row) -> String {
     let (load, speed) = row.bottleneck;
     format!("| {} | {} | {} | {} | {}/{} |", row.name, text(row.weights), text(row.speeds), text(row.separators), load, speed)
+}
+
+/// A row of the scope's tables of jobs, with what stands between speeds and separators.
+fn cells_of_job<const METHODS: usize>(k: &Known<METHODS>, between: &str) -> String {
+    let list = |numbers: [u64; METHODS]| numbers.map(|n| n.to_string()).join(", ");
+    let front = format!("| {} | {} | {} | {} |", k.name, text(k.weights), text(k.speeds), between);
+    let ((load, speed), counts, allowances) = (k.bottleneck, list(k.counts), list(k.allowances));
+    format!("{} {} | {}/{} | {} | {} | {} |", front, text(k.separators), load, speed, k.imbalance, counts, allowances)
 }
 
 const SCOPE: &str = include_str!("../../../docs/SCOPE.md");
@@ -295,18 +302,24 @@ fn sentence(c: &mut Check, words: &str) {
     }
 }
 
-/// The solver must give what is known, then the planner what the solver gives: of a tiny job with lists of all lengths together.
-fn marked(c: &mut Check, startup: Option<u32>, k: &Known) {
-    let job = Job::of(startup, k.speeds, k.weights);
-    let solved = Solved::of(&job);
-    let mut good = solved.best == k.separators && solved.bottleneck == k.bottleneck && solved.counts == k.counts;
+/// The solver must give what is known.
+fn solved<const METHODS: usize>(c: &mut Check, job: &Job, k: &Known<METHODS>) -> Solved {
+    let solved = Solved::of(job);
+    let mut good = solved.best == k.separators && solved.bottleneck == k.bottleneck && solved.counts[..METHODS] == k.counts;
     good &= solved.imbalance == k.imbalance;
-    good &= fast::solve(&job) == (k.separators.to_vec(), k.bottleneck) && methods::moves_by_walks(&job) == k.counts[0];
-    good &= methods::search_by_sums(&job).trials == k.counts[3];
-    good &= (1..=4).all(|m| methods::allowance(&job, m) == k.allowances[m as usize - 1]);
+    good &= fast::solve(job) == (k.separators.to_vec(), k.bottleneck) && methods::moves_by_walks(job) == k.counts[0];
+    good &= k.counts.get(3).is_none_or(|&trials| methods::search_by_sums(job).trials == trials);
+    good &= (1..).zip(k.allowances).all(|(m, allowance)| methods::allowance(job, m) == allowance);
     if !good {
         c.fail(&format!("the solver gives {:?} for job {}", solved, k.name), String::new());
     }
+    solved
+}
+
+/// The solver must give what is known, then the planner what the solver gives: of a tiny job with lists of all lengths together.
+fn marked(c: &mut Check, startup: Option<u32>, k: &Known) {
+    let job = Job::of(startup, k.speeds, k.weights);
+    let solved = solved(c, &job, k);
     let tiny = is_tiny(&job);
     let rounds = if tiny { 20 } else { 1 };
     for _ in 0..rounds {
@@ -335,12 +348,7 @@ fn lines_of_a(c: &mut Check) {
 /// The rows of section 17 and the sentences beside them: the quick plan of M, N without its start-up work, and no tiles.
 fn lines_of_section_17(c: &mut Check) {
     for (startup, k) in &STARTED {
-        let (weights, speeds) = (text(k.weights), text(k.speeds));
-        let separators = text(&k.separators.iter().map(|&s| s as u32).collect::<Vec<_>>());
-        let list = |four: [u64; 4]| four.map(|n| n.to_string()).join(", ");
-        let ((load, speed), counts, allowances) = (k.bottleneck, list(k.counts), list(k.allowances));
-        let front = format!("| {} | {} | {} | {} | {} | {}/{} |", k.name, weights, speeds, startup, separators, load, speed);
-        in_scope(c, &format!("{} {} | {} | {} |", front, k.imbalance, counts, allowances));
+        in_scope(c, &cells_of_job(k, &startup.to_string()));
     }
     let (startup, m) = &STARTED[0];
     let n = Edition { second: true, startup: *startup };
@@ -363,19 +371,12 @@ fn lines_of_section_17(c: &mut Check) {
 /// The rows of section 18 and the sentences beside them: measuring and grading of S, what is refused, and the listing of S.
 fn lines_of_section_18(c: &mut Check) {
     for k in &LIMITED {
-        let words = |list: &[u16]| text(&list.iter().map(|&h| h as u32).collect::<Vec<_>>());
-        let separators = text(&k.separators.iter().map(|&s| s as u32).collect::<Vec<_>>());
-        let list = |three: [u64; 3]| three.map(|n| n.to_string()).join(", ");
         let startup = k.startup.map_or("none".to_string(), |c| c.to_string());
-        let front = format!("| {} | {} | {} | {} | {} |", k.name, text(k.weights), text(k.speeds), words(k.holds), startup);
-        let (load, speed) = k.bottleneck;
-        let (counts, allowances) = (list(k.counts), list(k.allowances));
-        in_scope(c, &format!("{} {} | {}/{} | {} | {} | {} |", front, separators, load, speed, k.imbalance, counts, allowances));
+        in_scope(c, &cells_of_job(&k.known, &format!("{} | {}", text(k.holds), startup)));
     }
     let (n, lent) = (Edition::FIRST, bytes_of(&[9, 8, 7, 6]));
-    let job = |k: &Held, holds: &[u16]| Job::held(k.startup, k.speeds, holds, k.weights);
     let [r, s, _, u, _, _, x, _] = &LIMITED;
-    let of_s = job(s, s.holds);
+    let of_s = s.job();
     on_lists(c, &of_s, Call::Measure(n), &bytes_of(&[0, 1, 3]), Err(11));
     on_lists(c, &of_s, Call::Measure(n), &bytes_of(&[0, 2, 3]), Ok((&[0, 2, 3], &[4, 1])));
     if of_s.unlimited() != Job::new(JOBS[0].speeds, JOBS[0].weights) || JOBS[0].separators != [0, 1, 3] {
@@ -384,15 +385,15 @@ fn lines_of_section_18(c: &mut Check) {
     in_scope(c, "Measuring 0 1 3 of S is refused with 11, and it is the plan of A, which is S without holds; measuring 0 2 3 gives 4/1.");
     for (division, grade) in [([0, 2, 3], 1u64), ([0, 3, 3], 2)] {
         let plan = crate::grading::file(&of_s, &division);
-        let (e, h, w, answer) = (bytes_of(s.speeds), c.holds(&of_s), bytes_of(s.weights), c.rng.pattern(8));
+        let (e, h, w, answer) = (bytes_of(&of_s.speeds), c.holds(&of_s), bytes_of(&of_s.weights), c.rng.pattern(8));
         let said = After { front: grade.to_le_bytes().to_vec(), free: 0 };
         let stays = After::default;
         c.ask(Call::Grade(n), &[&e, &h, &w, &plan, &answer], &Ok(vec![stays(), stays(), stays(), stays(), said]));
     }
     in_scope(c, "Of S the division 0 2 3 is best and 0 3 3 is valid.");
     let mut plans = |k: &Held, holds: &[u16], numbers: [u32; 4], quick: u32| {
-        let job = job(k, holds);
-        let (e, w, h) = (bytes_of(k.speeds), bytes_of(k.weights), c.holds(&job));
+        let job = k.job().holding(holds.to_vec());
+        let (e, w, h) = (bytes_of(&job.speeds), bytes_of(&job.weights), c.holds(&job));
         let (work, plan) = (c.rng.pattern(4 * 30), c.rng.pattern(48));
         for (method, number) in (1..).zip(numbers) {
             c.refuse(Call::Plan(n, method), &[&e, &h, &w, &lent, &work, &[]], number);
@@ -405,8 +406,8 @@ fn lines_of_section_18(c: &mut Check) {
     plans(r, r.holds, [0, 0, 0, 18], 18);
     in_scope(c, "With holds 1 1 in place of 1 2 job U is refused with 17, by method 4 too; with holds 1 0 it is planned.");
     in_scope(c, "Method 4 and the quick plan of R are refused with 18; so is the quick plan of U with holds 1 1.");
-    for (speeds, number) in [(x.speeds, 14), (&[1, 1][..], 18)] {
-        let (e, h, w) = (bytes_of(speeds), bytes_of_holds(x.holds), bytes_of(x.weights));
+    for (speeds, number) in [(x.known.speeds, 14), (&[1, 1][..], 18)] {
+        let (e, h, w) = (bytes_of(speeds), bytes_of_holds(x.holds), bytes_of(x.known.weights));
         c.refuse(Call::Halving(n), &[&e, &h, &w, &lent, &[]], number);
     }
     in_scope(c, "The halved row of X is refused with 14; on speeds 1 1 it is refused with 18.");
@@ -570,14 +571,14 @@ const SECOND_TRIALS: [(u32, Tried); 27] = [
 /// The trials of the scope with holds, with the words that they begin with.
 #[rustfmt::skip]
 const LIMITED_TRIALS: [(&Held, Tried); 8] = [
-    (&LIMITED[0], Tried { name: "A trial of R", weights: LIMITED[0].weights, speeds: LIMITED[0].speeds, bound: (1, 1), said: &[0, 2, 1], separators: &[0, 1, 2, 4] }),
-    (&LIMITED[0], Tried { name: "A trial of R", weights: LIMITED[0].weights, speeds: LIMITED[0].speeds, bound: (100, 1), said: &[1, 3], separators: &[0, 1, 3, 5] }),
-    (&LIMITED[1], Tried { name: "A trial of S", weights: LIMITED[1].weights, speeds: LIMITED[1].speeds, bound: (11, 3), said: &[0, 4, 1], separators: &[0, 1, 2] }),
-    (&LIMITED[1], Tried { name: "A trial of S", weights: LIMITED[1].weights, speeds: LIMITED[1].speeds, bound: (12, 1), said: &[1, 1], separators: &[0, 3, 3] }),
-    (&LIMITED[2], Tried { name: "A trial of T", weights: LIMITED[2].weights, speeds: LIMITED[2].speeds, bound: (13, 4), said: &[0, 7, 2], separators: &[0, 1, 4, 5] }),
-    (&LIMITED[3], Tried { name: "A trial of U", weights: LIMITED[3].weights, speeds: LIMITED[3].speeds, bound: (11, 1), said: &[0, 13, 1], separators: &[0, 1, 2] }),
-    (&LIMITED[4], Tried { name: "A trial of V", weights: LIMITED[4].weights, speeds: LIMITED[4].speeds, bound: (3, 1), said: &[0, 4, 1], separators: &[0, 0, 2] }),
-    (&LIMITED[5], Tried { name: "A trial of W", weights: LIMITED[5].weights, speeds: LIMITED[5].speeds, bound: (0, 1), said: &[1, 3], separators: &[0, 1, 3, 4] }),
+    (&LIMITED[0], Tried { name: "A trial of R", weights: LIMITED[0].known.weights, speeds: LIMITED[0].known.speeds, bound: (1, 1), said: &[0, 2, 1], separators: &[0, 1, 2, 4] }),
+    (&LIMITED[0], Tried { name: "A trial of R", weights: LIMITED[0].known.weights, speeds: LIMITED[0].known.speeds, bound: (100, 1), said: &[1, 3], separators: &[0, 1, 3, 5] }),
+    (&LIMITED[1], Tried { name: "A trial of S", weights: LIMITED[1].known.weights, speeds: LIMITED[1].known.speeds, bound: (11, 3), said: &[0, 4, 1], separators: &[0, 1, 2] }),
+    (&LIMITED[1], Tried { name: "A trial of S", weights: LIMITED[1].known.weights, speeds: LIMITED[1].known.speeds, bound: (12, 1), said: &[1, 1], separators: &[0, 3, 3] }),
+    (&LIMITED[2], Tried { name: "A trial of T", weights: LIMITED[2].known.weights, speeds: LIMITED[2].known.speeds, bound: (13, 4), said: &[0, 7, 2], separators: &[0, 1, 4, 5] }),
+    (&LIMITED[3], Tried { name: "A trial of U", weights: LIMITED[3].known.weights, speeds: LIMITED[3].known.speeds, bound: (11, 1), said: &[0, 13, 1], separators: &[0, 1, 2] }),
+    (&LIMITED[4], Tried { name: "A trial of V", weights: LIMITED[4].known.weights, speeds: LIMITED[4].known.speeds, bound: (3, 1), said: &[0, 4, 1], separators: &[0, 0, 2] }),
+    (&LIMITED[5], Tried { name: "A trial of W", weights: LIMITED[5].known.weights, speeds: LIMITED[5].known.speeds, bound: (0, 1), said: &[1, 3], separators: &[0, 1, 3, 4] }),
 ];
 
 /// With holds, worked by hand, each with its start-up work and its holds: jobs at the bounds that bidding and bisection try; a
@@ -629,21 +630,14 @@ const fn held_steps(end: usize) -> [u32; ENTRIES] {
 /// The solver must give what is known of a job with holds, then the planner, with lists of all lengths together; then with one place too few
 /// where all machines are limited.
 fn held(c: &mut Check, k: &Held) {
-    let job = Job::held(k.startup, k.speeds, k.holds, k.weights);
-    let solved = Solved::of(&job);
-    let mut good = solved.best == k.separators && solved.bottleneck == k.bottleneck && solved.counts[..3] == k.counts;
-    good &= solved.imbalance == k.imbalance;
-    good &= fast::solve(&job) == (k.separators.to_vec(), k.bottleneck) && methods::moves_by_walks(&job) == k.counts[0];
-    good &= (1..=3).all(|m| methods::allowance(&job, m) == k.allowances[m as usize - 1]);
-    if !good {
-        c.fail(&format!("the solver gives {:?} for job {}", solved, k.name), String::new());
-    }
+    let job = k.job();
+    let solved = solved(c, &job, &k.known);
     for _ in 0..10 {
         every::job(c, &solved, true);
     }
     let places: usize = k.holds.iter().map(|&h| h as usize).sum();
     for (p, &hold) in k.holds.iter().enumerate() {
-        let Some(less) = (places + 1).checked_sub(k.weights.len()).filter(|&less| less < hold as usize) else { continue };
+        let Some(less) = (places + 1).checked_sub(job.weights.len()).filter(|&less| less < hold as usize) else { continue };
         let mut holds = k.holds.to_vec();
         holds[p] -= less as u16;
         let other = job.holding(holds);
@@ -656,7 +650,7 @@ fn held(c: &mut Check, k: &Held) {
 /// The table of R, entry by entry; from 0 on the crossing at i = 5 in row 2 would come earlier.
 fn table_of_r(c: &mut Check) {
     let k = &LIMITED[0];
-    let t = methods::table(&Job::held(k.startup, k.speeds, k.holds, k.weights));
+    let t = methods::table(&k.job());
     const NONE: Bound = (1, 0);
     let mut good = t.rows[0] == [(0, 1), (1, 1), NONE, NONE, NONE, NONE];
     good &= t.rows[1] == [(0, 1), (1, 1), (1, 1), (2, 1), NONE, NONE] && t.crossings[0] == [0, 1, 1, 2, 2, 3];
@@ -664,7 +658,7 @@ fn table_of_r(c: &mut Check) {
     good &= (0..=5).find(|&j| !slow::less(t.rows[0][j], (5 - j as u128, 1))) == Some(2);
     in_scope(c, "In row 2 of R the crossing at i = 5 is 3, where j begins; from 0 on the smallest such j would be 2.");
     if !good {
-        c.fail(&format!("the solver's table of {} is {:?}, {:?}", k.name, t.rows, t.crossings), String::new());
+        c.fail(&format!("the solver's table of {} is {:?}, {:?}", k.known.name, t.rows, t.crossings), String::new());
     }
 }
 
@@ -749,7 +743,7 @@ fn all_tried(c: &mut Check) {
         tried_with(c, Job::held(*startup, k.speeds, holds, k.weights), k);
     }
     for (k, trial) in &LIMITED_TRIALS {
-        tried_with(c, Job::held(k.startup, k.speeds, k.holds, k.weights), trial);
+        tried_with(c, k.job(), trial);
     }
     let held = LIMITED_TRIALS.iter().map(|k| &k.1);
     for k in TRIALS.iter().filter(|k| k.name != "A").chain([&SECOND_TRIALS[0].1, &SECOND_TRIALS[1].1]).chain(held) {
