@@ -1,6 +1,6 @@
 //! The two sides of the comparison behind one signature each: the planner's archive and plain Rust. Every function is kept
 //! whole, under a name of its own, so that callgrind can count inside it.
-use crate::plain::{self, Bound, Grade, Method, Outcome};
+use crate::plain::{self, Bound, Grade, Lists, Method, Outcome};
 
 extern "C" {
     fn exported_heuristic(
@@ -114,6 +114,12 @@ pub struct Job {
     pub weights: Vec<u32>,
     pub trial: Bound,
     pub plan: Vec<u8>,
+}
+
+impl Job {
+    pub fn lists(&self) -> Lists<'_> {
+        Lists { second: self.second, startup: self.startup, speeds: &self.speeds, holds: &self.holds, weights: &self.weights }
+    }
 }
 
 /// A call by one side: 0 or the refusal's number, the results in the room.
@@ -331,28 +337,25 @@ fn plain_bottleneck(answered: Result<Bound, u32>, room: &mut Room) -> u32 {
 #[no_mangle]
 #[inline(never)]
 pub fn plain_quick(job: &Job, room: &mut Room) -> u32 {
-    let answered = plain::heuristic(job.second, job.startup, &job.speeds, &job.holds, &job.weights, &mut room.separators);
-    plain_bottleneck(answered, room)
+    plain_bottleneck(plain::heuristic(job.lists(), &mut room.separators), room)
 }
 
 #[no_mangle]
 #[inline(never)]
 pub fn plain_halving(job: &Job, room: &mut Room) -> u32 {
-    let answered = plain::halving(job.second, job.startup, &job.speeds, &job.holds, &job.weights, &mut room.separators);
-    plain_bottleneck(answered, room)
+    plain_bottleneck(plain::halving(job.lists(), &mut room.separators), room)
 }
 
 #[no_mangle]
 #[inline(never)]
 pub fn plain_halvingsides(job: &Job, room: &mut Room) -> u32 {
-    let answered = plain::halving_by_sides(job.second, job.startup, &job.speeds, &job.holds, &job.weights, &mut room.separators);
-    plain_bottleneck(answered, room)
+    plain_bottleneck(plain::halving_by_sides(job.lists(), &mut room.separators), room)
 }
 
 #[no_mangle]
 #[inline(never)]
 pub fn plain_trial(job: &Job, room: &mut Room) -> u32 {
-    match plain::probe(job.second, job.startup, &job.speeds, &job.holds, &job.weights, job.trial, &mut room.separators) {
+    match plain::probe(job.lists(), job.trial, &mut room.separators) {
         Err(number) => number,
         Ok(Outcome::Fits(machines)) => {
             room.answer[0] = 1;
@@ -371,7 +374,7 @@ pub fn plain_trial(job: &Job, room: &mut Room) -> u32 {
 #[no_mangle]
 #[inline(never)]
 pub fn plain_grade(job: &Job, room: &mut Room) -> u32 {
-    match plain::grade(job.second, job.startup, &job.speeds, &job.holds, &job.weights, &job.plan) {
+    match plain::grade(job.lists(), &job.plan) {
         Err(number) => number,
         Ok(grade) => {
             room.answer[0] = match grade {
