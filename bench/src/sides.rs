@@ -2,86 +2,32 @@
 //! whole, under a name of its own, so that callgrind can count inside it.
 use crate::plain::{self, Bound, Grade, Lists, Method, Outcome};
 
-extern "C" {
-    fn exported_heuristic(
-        second: bool,
-        startup: u32,
-        speeds: *const u32,
-        speeds_len: usize,
-        holds: *const u16,
-        holds_len: usize,
-        weights: *const u32,
-        weights_len: usize,
-        separators: *mut u32,
-        separators_len: usize,
-        answer: *mut u64,
-        answer_len: usize,
-    ) -> u32;
+/// The planner's calls: numbers in front of the job, the job, and what comes behind it.
+macro_rules! exported {
+    ($($name:ident($($front:ident: $number:ty)?; $($behind:ident: $kind:ty),*);)*) => {
+        extern "C" {
+            $(fn $name(
+                $($front: $number,)?
+                second: bool,
+                startup: u32,
+                speeds: *const u32,
+                speeds_len: usize,
+                holds: *const u16,
+                holds_len: usize,
+                weights: *const u32,
+                weights_len: usize,
+                $($behind: $kind),*
+            ) -> u32;)*
+        }
+    };
+}
 
-    fn exported_halving(
-        second: bool,
-        startup: u32,
-        speeds: *const u32,
-        speeds_len: usize,
-        holds: *const u16,
-        holds_len: usize,
-        weights: *const u32,
-        weights_len: usize,
-        separators: *mut u32,
-        separators_len: usize,
-        answer: *mut u64,
-        answer_len: usize,
-    ) -> u32;
-
-    fn exported_probe(
-        second: bool,
-        startup: u32,
-        speeds: *const u32,
-        speeds_len: usize,
-        holds: *const u16,
-        holds_len: usize,
-        weights: *const u32,
-        weights_len: usize,
-        load: u64,
-        speed: u64,
-        separators: *mut u32,
-        separators_len: usize,
-        answer: *mut u64,
-        answer_len: usize,
-    ) -> u32;
-
-    fn exported_plan(
-        method: u32,
-        second: bool,
-        startup: u32,
-        speeds: *const u32,
-        speeds_len: usize,
-        holds: *const u16,
-        holds_len: usize,
-        weights: *const u32,
-        weights_len: usize,
-        separators: *mut u32,
-        separators_len: usize,
-        scratch: *mut u32,
-        scratch_len: usize,
-        answer: *mut u64,
-        answer_len: usize,
-    ) -> u32;
-
-    fn exported_grade(
-        second: bool,
-        startup: u32,
-        speeds: *const u32,
-        speeds_len: usize,
-        holds: *const u16,
-        holds_len: usize,
-        weights: *const u32,
-        weights_len: usize,
-        plan: *const u8,
-        plan_len: usize,
-        answer: *mut u64,
-        answer_len: usize,
-    ) -> u32;
+exported! {
+    exported_heuristic(; separators: *mut u32, separators_len: usize, answer: *mut u64, answer_len: usize);
+    exported_halving(; separators: *mut u32, separators_len: usize, answer: *mut u64, answer_len: usize);
+    exported_probe(; load: u64, speed: u64, separators: *mut u32, separators_len: usize, answer: *mut u64, answer_len: usize);
+    exported_plan(method: u32; separators: *mut u32, separators_len: usize, scratch: *mut u32, scratch_len: usize, answer: *mut u64, answer_len: usize);
+    exported_grade(; plan: *const u8, plan_len: usize, answer: *mut u64, answer_len: usize);
 }
 
 /// The grades as answers.
@@ -125,27 +71,30 @@ impl Job {
 /// A call by one side: 0 or the refusal's number, the results in the room.
 pub type Call = fn(&Job, &mut Room) -> u32;
 
+/// One of these calls on a job, with the numbers behind it, then the lists that it writes.
+macro_rules! asked {
+    ($call:ident($($front:expr)?), $job:ident $(, $number:expr)*; $($list:expr),*) => {
+        // SAFETY: each pointer comes with the length of the list that it is taken from.
+        unsafe {
+            $call(
+                $($front,)?
+                $job.second,
+                $job.startup,
+                $job.speeds.as_ptr(),
+                $job.speeds.len(),
+                $job.holds.as_ptr(),
+                $job.holds.len(),
+                $job.weights.as_ptr(),
+                $job.weights.len(),
+                $($number,)*
+                $($list.as_mut_ptr(), $list.len()),*
+            )
+        }
+    };
+}
+
 fn planner_plan(method: u32, job: &Job, room: &mut Room) -> u32 {
-    // SAFETY: each pointer comes with the length of the list that it is taken from.
-    unsafe {
-        exported_plan(
-            method,
-            job.second,
-            job.startup,
-            job.speeds.as_ptr(),
-            job.speeds.len(),
-            job.holds.as_ptr(),
-            job.holds.len(),
-            job.weights.as_ptr(),
-            job.weights.len(),
-            room.separators.as_mut_ptr(),
-            room.separators.len(),
-            room.scratch.as_mut_ptr(),
-            room.scratch.len(),
-            room.answer.as_mut_ptr(),
-            room.answer.len(),
-        )
-    }
+    asked!(exported_plan(method), job; room.separators, room.scratch, room.answer)
 }
 
 #[no_mangle]
@@ -172,89 +121,28 @@ pub fn planner_nicol(job: &Job, room: &mut Room) -> u32 {
     planner_plan(4, job, room)
 }
 
-/// A call that divides a job: its edition and start-up work; then speeds, holds, weights, separators and answer, each a pointer and a
-/// length.
-#[rustfmt::skip]
-type Divide =
-    unsafe extern "C" fn(bool, u32, *const u32, usize, *const u16, usize, *const u32, usize, *mut u32, usize, *mut u64, usize) -> u32;
-
-#[inline(always)]
-fn planner_divides(call: Divide, job: &Job, room: &mut Room) -> u32 {
-    // SAFETY: as above.
-    unsafe {
-        call(
-            job.second,
-            job.startup,
-            job.speeds.as_ptr(),
-            job.speeds.len(),
-            job.holds.as_ptr(),
-            job.holds.len(),
-            job.weights.as_ptr(),
-            job.weights.len(),
-            room.separators.as_mut_ptr(),
-            room.separators.len(),
-            room.answer.as_mut_ptr(),
-            room.answer.len(),
-        )
-    }
-}
-
 #[no_mangle]
 #[inline(never)]
 pub fn planner_quick(job: &Job, room: &mut Room) -> u32 {
-    planner_divides(exported_heuristic, job, room)
+    asked!(exported_heuristic(), job; room.separators, room.answer)
 }
 
 #[no_mangle]
 #[inline(never)]
 pub fn planner_halving(job: &Job, room: &mut Room) -> u32 {
-    planner_divides(exported_halving, job, room)
+    asked!(exported_halving(), job; room.separators, room.answer)
 }
 
 #[no_mangle]
 #[inline(never)]
 pub fn planner_trial(job: &Job, room: &mut Room) -> u32 {
-    // SAFETY: as above.
-    unsafe {
-        exported_probe(
-            job.second,
-            job.startup,
-            job.speeds.as_ptr(),
-            job.speeds.len(),
-            job.holds.as_ptr(),
-            job.holds.len(),
-            job.weights.as_ptr(),
-            job.weights.len(),
-            job.trial.load,
-            job.trial.speed,
-            room.separators.as_mut_ptr(),
-            room.separators.len(),
-            room.answer.as_mut_ptr(),
-            room.answer.len(),
-        )
-    }
+    asked!(exported_probe(), job, job.trial.load, job.trial.speed; room.separators, room.answer)
 }
 
 #[no_mangle]
 #[inline(never)]
 pub fn planner_grade(job: &Job, room: &mut Room) -> u32 {
-    // SAFETY: as above.
-    unsafe {
-        exported_grade(
-            job.second,
-            job.startup,
-            job.speeds.as_ptr(),
-            job.speeds.len(),
-            job.holds.as_ptr(),
-            job.holds.len(),
-            job.weights.as_ptr(),
-            job.weights.len(),
-            job.plan.as_ptr(),
-            job.plan.len(),
-            room.answer.as_mut_ptr(),
-            room.answer.len(),
-        )
-    }
+    asked!(exported_grade(), job, job.plan.as_ptr(), job.plan.len(); room.answer)
 }
 
 /// A plan by plain Rust, its figures in the order of the planner's.
