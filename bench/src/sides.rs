@@ -71,7 +71,18 @@ impl Job {
 /// A call by one side: 0 or the refusal's number, the results in the room.
 pub type Call = fn(&Job, &mut Room) -> u32;
 
-/// One of these calls on a job, with the numbers behind it, then the lists that it writes.
+/// Calls that are kept whole, each under its name.
+macro_rules! sides {
+    ($($name:ident: |$job:ident, $room:ident| $call:expr;)*) => {
+        $(#[no_mangle]
+        #[inline(never)]
+        pub fn $name($job: &Job, $room: &mut Room) -> u32 {
+            $call
+        })*
+    };
+}
+
+/// A call of the planner on a job, with the numbers behind it, then the lists that it writes.
 macro_rules! asked {
     ($call:ident($($front:expr)?), $job:ident $(, $number:expr)*; $($list:expr),*) => {
         // SAFETY: each pointer comes with the length of the list that it is taken from.
@@ -97,52 +108,15 @@ fn planner_plan(method: u32, job: &Job, room: &mut Room) -> u32 {
     asked!(exported_plan(method), job; room.separators, room.scratch, room.answer)
 }
 
-#[no_mangle]
-#[inline(never)]
-pub fn planner_table(job: &Job, room: &mut Room) -> u32 {
-    planner_plan(1, job, room)
-}
-
-#[no_mangle]
-#[inline(never)]
-pub fn planner_bidding(job: &Job, room: &mut Room) -> u32 {
-    planner_plan(2, job, room)
-}
-
-#[no_mangle]
-#[inline(never)]
-pub fn planner_bisection(job: &Job, room: &mut Room) -> u32 {
-    planner_plan(3, job, room)
-}
-
-#[no_mangle]
-#[inline(never)]
-pub fn planner_nicol(job: &Job, room: &mut Room) -> u32 {
-    planner_plan(4, job, room)
-}
-
-#[no_mangle]
-#[inline(never)]
-pub fn planner_quick(job: &Job, room: &mut Room) -> u32 {
-    asked!(exported_heuristic(), job; room.separators, room.answer)
-}
-
-#[no_mangle]
-#[inline(never)]
-pub fn planner_halving(job: &Job, room: &mut Room) -> u32 {
-    asked!(exported_halving(), job; room.separators, room.answer)
-}
-
-#[no_mangle]
-#[inline(never)]
-pub fn planner_trial(job: &Job, room: &mut Room) -> u32 {
-    asked!(exported_probe(), job, job.trial.load, job.trial.speed; room.separators, room.answer)
-}
-
-#[no_mangle]
-#[inline(never)]
-pub fn planner_grade(job: &Job, room: &mut Room) -> u32 {
-    asked!(exported_grade(), job, job.plan.as_ptr(), job.plan.len(); room.answer)
+sides! {
+    planner_table: |job, room| planner_plan(1, job, room);
+    planner_bidding: |job, room| planner_plan(2, job, room);
+    planner_bisection: |job, room| planner_plan(3, job, room);
+    planner_nicol: |job, room| planner_plan(4, job, room);
+    planner_quick: |job, room| asked!(exported_heuristic(), job; room.separators, room.answer);
+    planner_halving: |job, room| asked!(exported_halving(), job; room.separators, room.answer);
+    planner_trial: |job, room| asked!(exported_probe(), job, job.trial.load, job.trial.speed; room.separators, room.answer);
+    planner_grade: |job, room| asked!(exported_grade(), job, job.plan.as_ptr(), job.plan.len(); room.answer);
 }
 
 /// A plan by plain Rust, its figures in the order of the planner's.
@@ -173,40 +147,13 @@ fn plain_plan(method: Method, job: &Job, room: &mut Room) -> u32 {
     }
 }
 
-#[no_mangle]
-#[inline(never)]
-pub fn plain_table(job: &Job, room: &mut Room) -> u32 {
-    plain_plan(Method::Table, job, room)
-}
-
-#[no_mangle]
-#[inline(never)]
-pub fn plain_bidding(job: &Job, room: &mut Room) -> u32 {
-    plain_plan(Method::Bidding, job, room)
-}
-
-#[no_mangle]
-#[inline(never)]
-pub fn plain_resumed(job: &Job, room: &mut Room) -> u32 {
-    plain_plan(Method::BiddingResumed, job, room)
-}
-
-#[no_mangle]
-#[inline(never)]
-pub fn plain_bisection(job: &Job, room: &mut Room) -> u32 {
-    plain_plan(Method::Bisection, job, room)
-}
-
-#[no_mangle]
-#[inline(never)]
-pub fn plain_nicol(job: &Job, room: &mut Room) -> u32 {
-    plain_plan(Method::Nicol, job, room)
-}
-
-#[no_mangle]
-#[inline(never)]
-pub fn plain_nicolwalk(job: &Job, room: &mut Room) -> u32 {
-    plain_plan(Method::NicolByWalk, job, room)
+sides! {
+    plain_table: |job, room| plain_plan(Method::Table, job, room);
+    plain_bidding: |job, room| plain_plan(Method::Bidding, job, room);
+    plain_resumed: |job, room| plain_plan(Method::BiddingResumed, job, room);
+    plain_bisection: |job, room| plain_plan(Method::Bisection, job, room);
+    plain_nicol: |job, room| plain_plan(Method::Nicol, job, room);
+    plain_nicolwalk: |job, room| plain_plan(Method::NicolByWalk, job, room);
 }
 
 /// The bottleneck of a quick plan as the planner answers it.
@@ -222,22 +169,10 @@ fn plain_bottleneck(answered: Result<Bound, u32>, room: &mut Room) -> u32 {
     }
 }
 
-#[no_mangle]
-#[inline(never)]
-pub fn plain_quick(job: &Job, room: &mut Room) -> u32 {
-    plain_bottleneck(plain::heuristic(job.lists(), &mut room.separators), room)
-}
-
-#[no_mangle]
-#[inline(never)]
-pub fn plain_halving(job: &Job, room: &mut Room) -> u32 {
-    plain_bottleneck(plain::halving(job.lists(), &mut room.separators), room)
-}
-
-#[no_mangle]
-#[inline(never)]
-pub fn plain_halvingsides(job: &Job, room: &mut Room) -> u32 {
-    plain_bottleneck(plain::halving_by_sides(job.lists(), &mut room.separators), room)
+sides! {
+    plain_quick: |job, room| plain_bottleneck(plain::heuristic(job.lists(), &mut room.separators), room);
+    plain_halving: |job, room| plain_bottleneck(plain::halving(job.lists(), &mut room.separators), room);
+    plain_halvingsides: |job, room| plain_bottleneck(plain::halving_by_sides(job.lists(), &mut room.separators), room);
 }
 
 #[no_mangle]
