@@ -208,20 +208,19 @@ fn least_bound(job: &Job, machines: usize) -> Bound {
 
 /// The plan file of the best plan, or of another: the quick plan, with holds what a trial at twice the least bottleneck gives. By plain Rust.
 fn plan_file(job: &Job, best: bool) -> Vec<u8> {
-    let Job { second, startup, speeds, holds, weights, .. } = job;
     let mut room = Room::new();
     let (separators, scratch) = (&mut room.separators, &mut room.scratch);
     if best {
-        let planned = plain::plan(Method::Bisection, *second, *startup, speeds, holds, weights, separators, scratch);
+        let planned = plain::plan(Method::Bisection, job.second, job.startup, &job.speeds, &job.holds, &job.weights, separators, scratch);
         assert!(planned.is_ok(), "refused");
-    } else if holds.iter().all(|&hold| hold == 0) {
-        let quick = plain::heuristic(*second, *startup, speeds, holds, weights, separators);
+    } else if job.holds.iter().all(|&hold| hold == 0) {
+        let quick = plain::heuristic(job.lists(), separators);
         assert!(quick.is_ok(), "refused");
     } else {
-        let least = least_bound(job, speeds.len());
+        let least = least_bound(job, job.speeds.len());
         let twice = Bound { load: 2 * least.load, ..least };
-        let outcome = plain::probe(*second, *startup, speeds, holds, weights, twice, separators);
+        let outcome = plain::probe(job.lists(), twice, separators);
         assert!(matches!(outcome, Ok(Outcome::Fits(_))), "no fit");
     }
-    plain::plan_file(*startup, speeds, weights, &room.separators)
+    plain::plan_file(job.startup, &job.speeds, &job.weights, &room.separators)
 }

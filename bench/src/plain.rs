@@ -72,6 +72,16 @@ pub enum Method {
     NicolByWalk,
 }
 
+/// A job by lists, as a call is lent it.
+#[derive(Clone, Copy)]
+pub struct Lists<'a> {
+    pub second: bool,
+    pub startup: u32,
+    pub speeds: &'a [u32],
+    pub holds: &'a [u16],
+    pub weights: &'a [u32],
+}
+
 /// What a plan file is beside its job.
 #[derive(Clone, Copy, Debug, PartialEq)]
 pub enum Grade {
@@ -84,29 +94,42 @@ fn each_between(lo: u32, hi: u32, values: &[u32]) -> bool {
     values.iter().fold(true, |all, v| all & (lo..=hi).contains(v))
 }
 
-/// The start-up work that counts.
-fn effective(second: bool, startup: u32) -> u32 {
-    if second { startup } else { 0 }
-}
+impl Lists<'_> {
+    /// The start-up work that counts.
+    fn effective(self) -> u32 {
+        if self.second { self.startup } else { 0 }
+    }
 
-/// The tests of the start-up work and the two lists, in the scope's order.
-fn test_job(second: bool, startup: u32, speeds: &[u32], weights: &[u32]) -> Result<(), u32> {
-    if effective(second, startup) > MAX_STARTUP {
-        return Err(16);
+    /// The tests of the start-up work and the two lists, in the scope's order.
+    fn test(self) -> Result<(), u32> {
+        if self.effective() > MAX_STARTUP {
+            return Err(16);
+        }
+        if !each_between(1, MAX_SPEED, self.speeds) {
+            return Err(5);
+        }
+        if !each_between(0, MAX_WEIGHT, self.weights) {
+            return Err(6);
+        }
+        if self.speeds.is_empty() || self.speeds.len() > MAX_PROCESSORS {
+            return Err(7);
+        }
+        if self.weights.len() > MAX_TASKS {
+            return Err(8);
+        }
+        Ok(())
     }
-    if !each_between(1, MAX_SPEED, speeds) {
-        return Err(5);
+
+    /// The tests of a quick plan behind them: the lengths of the lists, then the holds.
+    fn test_quick(self, separators: &[u32]) -> Result<(), u32> {
+        if self.holds.len() < self.speeds.len() || separators.len() <= self.speeds.len() {
+            return Err(9);
+        }
+        if is_held(&self.holds[..self.speeds.len()]) {
+            return Err(18);
+        }
+        Ok(())
     }
-    if !each_between(0, MAX_WEIGHT, weights) {
-        return Err(6);
-    }
-    if speeds.is_empty() || speeds.len() > MAX_PROCESSORS {
-        return Err(7);
-    }
-    if weights.len() > MAX_TASKS {
-        return Err(8);
-    }
-    Ok(())
 }
 
 /// Whether any hold is set. No early end, as above.
@@ -662,7 +685,7 @@ fn plan_in<H: Holds>(
     scratch: &mut [u32],
 ) -> Figures {
     let (front, rows) = scratch.split_at_mut(weights.len() + 1);
-    let tiles = Tiles::new(effective(second, startup), weights, front);
+    let tiles = Tiles::new(if second { startup } else { 0 }, weights, front);
     let found = match method {
         Method::Table => table(speeds, holds, tiles, rows),
         Method::Bidding => bidding(speeds, holds, tiles, separators),
@@ -684,7 +707,7 @@ fn plan_in<H: Holds>(
     }
 }
 
-/// A plan by a method.
+/// A plan by a method. Its arguments come one by one: with a job in their place Nicol's search takes more instructions.
 pub fn plan(
     method: Method,
     second: bool,
@@ -695,7 +718,7 @@ pub fn plan(
     separators: &mut [u32],
     scratch: &mut [u32],
 ) -> Result<Figures, u32> {
-    test_job(second, startup, speeds, weights)?;
+    Lists { second, startup, speeds, holds, weights }.test()?;
     if holds.len() < speeds.len() || separators.len() <= speeds.len() || scratch.len() < 5 * (weights.len() + 1) {
         return Err(9);
     }
@@ -713,25 +736,13 @@ pub fn plan(
 }
 
 /// The quick plan and its bottleneck.
-pub fn heuristic(
-    second: bool,
-    startup: u32,
-    speeds: &[u32],
-    holds: &[u16],
-    weights: &[u32],
-    separators: &mut [u32],
-) -> Result<Bound, u32> {
-    test_job(second, startup, speeds, weights)?;
-    if holds.len() < speeds.len() || separators.len() <= speeds.len() {
-        return Err(9);
-    }
-    if is_held(&holds[..speeds.len()]) {
-        return Err(18);
-    }
+pub fn heuristic(job: Lists, separators: &mut [u32]) -> Result<Bound, u32> {
+    job.test()?;
+    job.test_quick(separators)?;
     let mut room = [0; MAX_TASKS + 1];
-    let tiles = Tiles::new(effective(second, startup), weights, &mut room);
-    quick(speeds, tiles.sums, separators);
-    Ok(bottleneck(speeds, tiles, separators))
+    let tiles = Tiles::new(job.effective(), job.weights, &mut room);
+    quick(job.speeds, tiles.sums, separators);
+    Ok(bottleneck(job.speeds, tiles, separators))
 }
 
 /// The smallest index from a to b whose sum is nearest to half of the sums at a and b together. Doubled sums fit 32 bits. Between a
@@ -793,32 +804,20 @@ fn halve_sides(sums: &[u32], a: usize, b: usize, ends: &mut [u32]) {
 /// Halving by either form, and the bottleneck: the speeds are equal, so the greatest load has it. Where there is a tile that is the
 /// greatest weight and the start-up work.
 #[inline(always)]
-fn halved(
-    second: bool,
-    startup: u32,
-    speeds: &[u32],
-    holds: &[u16],
-    weights: &[u32],
-    separators: &mut [u32],
-    halve: impl Fn(&[u32], &mut [u32]),
-) -> Result<Bound, u32> {
-    test_job(second, startup, speeds, weights)?;
+fn halved(job: Lists, separators: &mut [u32], halve: impl Fn(&[u32], &mut [u32])) -> Result<Bound, u32> {
+    let Lists { speeds, weights, .. } = job;
+    job.test()?;
     if !speeds.len().is_power_of_two() || !each_between(speeds[0], speeds[0], speeds) {
         return Err(14);
     }
-    if holds.len() < speeds.len() || separators.len() <= speeds.len() {
-        return Err(9);
-    }
-    if is_held(&holds[..speeds.len()]) {
-        return Err(18);
-    }
+    job.test_quick(separators)?;
     let mut room = [0; MAX_TASKS + 1];
     let sums = prefix_sums(weights, &mut room);
     let separators = &mut separators[..=speeds.len()];
     halve(sums, separators);
     let parts = separators.windows(2).map(|pair| sums[pair[1] as usize] - sums[pair[0] as usize]);
     let greatest = parts.max().unwrap_or(0);
-    let load = if weights.is_empty() { 0 } else { effective(second, startup) + greatest };
+    let load = if weights.is_empty() { 0 } else { job.effective() + greatest };
     Ok(Bound {
         load: load as u64,
         speed: speeds[0] as u64,
@@ -826,27 +825,13 @@ fn halved(
 }
 
 /// Halving the row, level by level.
-pub fn halving(
-    second: bool,
-    startup: u32,
-    speeds: &[u32],
-    holds: &[u16],
-    weights: &[u32],
-    separators: &mut [u32],
-) -> Result<Bound, u32> {
-    halved(second, startup, speeds, holds, weights, separators, halve_levels)
+pub fn halving(job: Lists, separators: &mut [u32]) -> Result<Bound, u32> {
+    halved(job, separators, halve_levels)
 }
 
 /// Halving the row, one side after the other.
-pub fn halving_by_sides(
-    second: bool,
-    startup: u32,
-    speeds: &[u32],
-    holds: &[u16],
-    weights: &[u32],
-    separators: &mut [u32],
-) -> Result<Bound, u32> {
-    halved(second, startup, speeds, holds, weights, separators, |sums, separators| {
+pub fn halving_by_sides(job: Lists, separators: &mut [u32]) -> Result<Bound, u32> {
+    halved(job, separators, |sums, separators| {
         separators[0] = 0;
         halve_sides(sums, 0, sums.len() - 1, &mut separators[1..]);
     })
@@ -865,16 +850,9 @@ fn probe_in<H: Holds>(speeds: &[u32], holds: H, tiles: Tiles, bound: Bound, sepa
 }
 
 /// The trial at a lent bound. It writes the separators whether it fits or fails.
-pub fn probe(
-    second: bool,
-    startup: u32,
-    speeds: &[u32],
-    holds: &[u16],
-    weights: &[u32],
-    bound: Bound,
-    separators: &mut [u32],
-) -> Result<Outcome, u32> {
-    test_job(second, startup, speeds, weights)?;
+pub fn probe(job: Lists, bound: Bound, separators: &mut [u32]) -> Result<Outcome, u32> {
+    job.test()?;
+    let Lists { speeds, holds, weights, .. } = job;
     if holds.len() < speeds.len() || separators.len() <= speeds.len() {
         return Err(9);
     }
@@ -887,7 +865,7 @@ pub fn probe(
         return Err(10);
     }
     let mut room = [0; MAX_TASKS + 1];
-    let tiles = Tiles::new(effective(second, startup), weights, &mut room);
+    let tiles = Tiles::new(job.effective(), weights, &mut room);
     Ok(if held {
         probe_in(speeds, holds, tiles, bound, separators)
     } else {
@@ -939,15 +917,9 @@ fn records_true(speeds: &[u32], tiles: Tiles, separators: &[u32], records: &[[u8
 
 /// The grade of a plan file: best where no division has a smaller bottleneck. The bisection writes over the plan's separators,
 /// which are its first hint.
-pub fn grade(
-    second: bool,
-    startup: u32,
-    speeds: &[u32],
-    holds: &[u16],
-    weights: &[u32],
-    plan: &[u8],
-) -> Result<Grade, u32> {
-    test_job(second, startup, speeds, weights)?;
+pub fn grade(job: Lists, plan: &[u8]) -> Result<Grade, u32> {
+    job.test()?;
+    let Lists { speeds, holds, weights, .. } = job;
     if holds.len() < speeds.len() {
         return Err(9);
     }
@@ -963,7 +935,7 @@ pub fn grade(
         return Err(11);
     }
     let mut room = [0; MAX_TASKS + 1];
-    let tiles = Tiles::new(effective(second, startup), weights, &mut room);
+    let tiles = Tiles::new(job.effective(), weights, &mut room);
     if !records_true(speeds, tiles, separators, records) {
         return Err(13);
     }

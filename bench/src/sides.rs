@@ -1,87 +1,33 @@
 //! The two sides of the comparison behind one signature each: the planner's archive and plain Rust. Every function is kept
 //! whole, under a name of its own, so that callgrind can count inside it.
-use crate::plain::{self, Bound, Grade, Method, Outcome};
+use crate::plain::{self, Bound, Grade, Lists, Method, Outcome};
 
-extern "C" {
-    fn exported_heuristic(
-        second: bool,
-        startup: u32,
-        speeds: *const u32,
-        speeds_len: usize,
-        holds: *const u16,
-        holds_len: usize,
-        weights: *const u32,
-        weights_len: usize,
-        separators: *mut u32,
-        separators_len: usize,
-        answer: *mut u64,
-        answer_len: usize,
-    ) -> u32;
+/// The planner's calls: numbers in front of the job, the job, and what comes behind it.
+macro_rules! exported {
+    ($($name:ident($($front:ident: $number:ty)?; $($behind:ident: $kind:ty),*);)*) => {
+        extern "C" {
+            $(fn $name(
+                $($front: $number,)?
+                second: bool,
+                startup: u32,
+                speeds: *const u32,
+                speeds_len: usize,
+                holds: *const u16,
+                holds_len: usize,
+                weights: *const u32,
+                weights_len: usize,
+                $($behind: $kind),*
+            ) -> u32;)*
+        }
+    };
+}
 
-    fn exported_halving(
-        second: bool,
-        startup: u32,
-        speeds: *const u32,
-        speeds_len: usize,
-        holds: *const u16,
-        holds_len: usize,
-        weights: *const u32,
-        weights_len: usize,
-        separators: *mut u32,
-        separators_len: usize,
-        answer: *mut u64,
-        answer_len: usize,
-    ) -> u32;
-
-    fn exported_probe(
-        second: bool,
-        startup: u32,
-        speeds: *const u32,
-        speeds_len: usize,
-        holds: *const u16,
-        holds_len: usize,
-        weights: *const u32,
-        weights_len: usize,
-        load: u64,
-        speed: u64,
-        separators: *mut u32,
-        separators_len: usize,
-        answer: *mut u64,
-        answer_len: usize,
-    ) -> u32;
-
-    fn exported_plan(
-        method: u32,
-        second: bool,
-        startup: u32,
-        speeds: *const u32,
-        speeds_len: usize,
-        holds: *const u16,
-        holds_len: usize,
-        weights: *const u32,
-        weights_len: usize,
-        separators: *mut u32,
-        separators_len: usize,
-        scratch: *mut u32,
-        scratch_len: usize,
-        answer: *mut u64,
-        answer_len: usize,
-    ) -> u32;
-
-    fn exported_grade(
-        second: bool,
-        startup: u32,
-        speeds: *const u32,
-        speeds_len: usize,
-        holds: *const u16,
-        holds_len: usize,
-        weights: *const u32,
-        weights_len: usize,
-        plan: *const u8,
-        plan_len: usize,
-        answer: *mut u64,
-        answer_len: usize,
-    ) -> u32;
+exported! {
+    exported_heuristic(; separators: *mut u32, separators_len: usize, answer: *mut u64, answer_len: usize);
+    exported_halving(; separators: *mut u32, separators_len: usize, answer: *mut u64, answer_len: usize);
+    exported_probe(; load: u64, speed: u64, separators: *mut u32, separators_len: usize, answer: *mut u64, answer_len: usize);
+    exported_plan(method: u32; separators: *mut u32, separators_len: usize, scratch: *mut u32, scratch_len: usize, answer: *mut u64, answer_len: usize);
+    exported_grade(; plan: *const u8, plan_len: usize, answer: *mut u64, answer_len: usize);
 }
 
 /// The grades as answers.
@@ -116,139 +62,61 @@ pub struct Job {
     pub plan: Vec<u8>,
 }
 
+impl Job {
+    pub fn lists(&self) -> Lists<'_> {
+        Lists { second: self.second, startup: self.startup, speeds: &self.speeds, holds: &self.holds, weights: &self.weights }
+    }
+}
+
 /// A call by one side: 0 or the refusal's number, the results in the room.
 pub type Call = fn(&Job, &mut Room) -> u32;
 
+/// Calls that are kept whole, each under its name.
+macro_rules! sides {
+    ($($name:ident: |$job:ident, $room:ident| $call:expr;)*) => {
+        $(#[no_mangle]
+        #[inline(never)]
+        pub fn $name($job: &Job, $room: &mut Room) -> u32 {
+            $call
+        })*
+    };
+}
+
+/// A call of the planner on a job, with the numbers behind it, then the lists that it writes.
+macro_rules! asked {
+    ($call:ident($($front:expr)?), $job:ident $(, $number:expr)*; $($list:expr),*) => {
+        // SAFETY: each pointer comes with the length of the list that it is taken from.
+        unsafe {
+            $call(
+                $($front,)?
+                $job.second,
+                $job.startup,
+                $job.speeds.as_ptr(),
+                $job.speeds.len(),
+                $job.holds.as_ptr(),
+                $job.holds.len(),
+                $job.weights.as_ptr(),
+                $job.weights.len(),
+                $($number,)*
+                $($list.as_mut_ptr(), $list.len()),*
+            )
+        }
+    };
+}
+
 fn planner_plan(method: u32, job: &Job, room: &mut Room) -> u32 {
-    // SAFETY: each pointer comes with the length of the list that it is taken from.
-    unsafe {
-        exported_plan(
-            method,
-            job.second,
-            job.startup,
-            job.speeds.as_ptr(),
-            job.speeds.len(),
-            job.holds.as_ptr(),
-            job.holds.len(),
-            job.weights.as_ptr(),
-            job.weights.len(),
-            room.separators.as_mut_ptr(),
-            room.separators.len(),
-            room.scratch.as_mut_ptr(),
-            room.scratch.len(),
-            room.answer.as_mut_ptr(),
-            room.answer.len(),
-        )
-    }
+    asked!(exported_plan(method), job; room.separators, room.scratch, room.answer)
 }
 
-#[no_mangle]
-#[inline(never)]
-pub fn planner_table(job: &Job, room: &mut Room) -> u32 {
-    planner_plan(1, job, room)
-}
-
-#[no_mangle]
-#[inline(never)]
-pub fn planner_bidding(job: &Job, room: &mut Room) -> u32 {
-    planner_plan(2, job, room)
-}
-
-#[no_mangle]
-#[inline(never)]
-pub fn planner_bisection(job: &Job, room: &mut Room) -> u32 {
-    planner_plan(3, job, room)
-}
-
-#[no_mangle]
-#[inline(never)]
-pub fn planner_nicol(job: &Job, room: &mut Room) -> u32 {
-    planner_plan(4, job, room)
-}
-
-/// A call that divides a job: its edition and start-up work; then speeds, holds, weights, separators and answer, each a pointer and a
-/// length.
-#[rustfmt::skip]
-type Divide =
-    unsafe extern "C" fn(bool, u32, *const u32, usize, *const u16, usize, *const u32, usize, *mut u32, usize, *mut u64, usize) -> u32;
-
-#[inline(always)]
-fn planner_divides(call: Divide, job: &Job, room: &mut Room) -> u32 {
-    // SAFETY: as above.
-    unsafe {
-        call(
-            job.second,
-            job.startup,
-            job.speeds.as_ptr(),
-            job.speeds.len(),
-            job.holds.as_ptr(),
-            job.holds.len(),
-            job.weights.as_ptr(),
-            job.weights.len(),
-            room.separators.as_mut_ptr(),
-            room.separators.len(),
-            room.answer.as_mut_ptr(),
-            room.answer.len(),
-        )
-    }
-}
-
-#[no_mangle]
-#[inline(never)]
-pub fn planner_quick(job: &Job, room: &mut Room) -> u32 {
-    planner_divides(exported_heuristic, job, room)
-}
-
-#[no_mangle]
-#[inline(never)]
-pub fn planner_halving(job: &Job, room: &mut Room) -> u32 {
-    planner_divides(exported_halving, job, room)
-}
-
-#[no_mangle]
-#[inline(never)]
-pub fn planner_trial(job: &Job, room: &mut Room) -> u32 {
-    // SAFETY: as above.
-    unsafe {
-        exported_probe(
-            job.second,
-            job.startup,
-            job.speeds.as_ptr(),
-            job.speeds.len(),
-            job.holds.as_ptr(),
-            job.holds.len(),
-            job.weights.as_ptr(),
-            job.weights.len(),
-            job.trial.load,
-            job.trial.speed,
-            room.separators.as_mut_ptr(),
-            room.separators.len(),
-            room.answer.as_mut_ptr(),
-            room.answer.len(),
-        )
-    }
-}
-
-#[no_mangle]
-#[inline(never)]
-pub fn planner_grade(job: &Job, room: &mut Room) -> u32 {
-    // SAFETY: as above.
-    unsafe {
-        exported_grade(
-            job.second,
-            job.startup,
-            job.speeds.as_ptr(),
-            job.speeds.len(),
-            job.holds.as_ptr(),
-            job.holds.len(),
-            job.weights.as_ptr(),
-            job.weights.len(),
-            job.plan.as_ptr(),
-            job.plan.len(),
-            room.answer.as_mut_ptr(),
-            room.answer.len(),
-        )
-    }
+sides! {
+    planner_table: |job, room| planner_plan(1, job, room);
+    planner_bidding: |job, room| planner_plan(2, job, room);
+    planner_bisection: |job, room| planner_plan(3, job, room);
+    planner_nicol: |job, room| planner_plan(4, job, room);
+    planner_quick: |job, room| asked!(exported_heuristic(), job; room.separators, room.answer);
+    planner_halving: |job, room| asked!(exported_halving(), job; room.separators, room.answer);
+    planner_trial: |job, room| asked!(exported_probe(), job, job.trial.load, job.trial.speed; room.separators, room.answer);
+    planner_grade: |job, room| asked!(exported_grade(), job, job.plan.as_ptr(), job.plan.len(); room.answer);
 }
 
 /// A plan by plain Rust, its figures in the order of the planner's.
@@ -279,40 +147,13 @@ fn plain_plan(method: Method, job: &Job, room: &mut Room) -> u32 {
     }
 }
 
-#[no_mangle]
-#[inline(never)]
-pub fn plain_table(job: &Job, room: &mut Room) -> u32 {
-    plain_plan(Method::Table, job, room)
-}
-
-#[no_mangle]
-#[inline(never)]
-pub fn plain_bidding(job: &Job, room: &mut Room) -> u32 {
-    plain_plan(Method::Bidding, job, room)
-}
-
-#[no_mangle]
-#[inline(never)]
-pub fn plain_resumed(job: &Job, room: &mut Room) -> u32 {
-    plain_plan(Method::BiddingResumed, job, room)
-}
-
-#[no_mangle]
-#[inline(never)]
-pub fn plain_bisection(job: &Job, room: &mut Room) -> u32 {
-    plain_plan(Method::Bisection, job, room)
-}
-
-#[no_mangle]
-#[inline(never)]
-pub fn plain_nicol(job: &Job, room: &mut Room) -> u32 {
-    plain_plan(Method::Nicol, job, room)
-}
-
-#[no_mangle]
-#[inline(never)]
-pub fn plain_nicolwalk(job: &Job, room: &mut Room) -> u32 {
-    plain_plan(Method::NicolByWalk, job, room)
+sides! {
+    plain_table: |job, room| plain_plan(Method::Table, job, room);
+    plain_bidding: |job, room| plain_plan(Method::Bidding, job, room);
+    plain_resumed: |job, room| plain_plan(Method::BiddingResumed, job, room);
+    plain_bisection: |job, room| plain_plan(Method::Bisection, job, room);
+    plain_nicol: |job, room| plain_plan(Method::Nicol, job, room);
+    plain_nicolwalk: |job, room| plain_plan(Method::NicolByWalk, job, room);
 }
 
 /// The bottleneck of a quick plan as the planner answers it.
@@ -328,31 +169,16 @@ fn plain_bottleneck(answered: Result<Bound, u32>, room: &mut Room) -> u32 {
     }
 }
 
-#[no_mangle]
-#[inline(never)]
-pub fn plain_quick(job: &Job, room: &mut Room) -> u32 {
-    let answered = plain::heuristic(job.second, job.startup, &job.speeds, &job.holds, &job.weights, &mut room.separators);
-    plain_bottleneck(answered, room)
-}
-
-#[no_mangle]
-#[inline(never)]
-pub fn plain_halving(job: &Job, room: &mut Room) -> u32 {
-    let answered = plain::halving(job.second, job.startup, &job.speeds, &job.holds, &job.weights, &mut room.separators);
-    plain_bottleneck(answered, room)
-}
-
-#[no_mangle]
-#[inline(never)]
-pub fn plain_halvingsides(job: &Job, room: &mut Room) -> u32 {
-    let answered = plain::halving_by_sides(job.second, job.startup, &job.speeds, &job.holds, &job.weights, &mut room.separators);
-    plain_bottleneck(answered, room)
+sides! {
+    plain_quick: |job, room| plain_bottleneck(plain::heuristic(job.lists(), &mut room.separators), room);
+    plain_halving: |job, room| plain_bottleneck(plain::halving(job.lists(), &mut room.separators), room);
+    plain_halvingsides: |job, room| plain_bottleneck(plain::halving_by_sides(job.lists(), &mut room.separators), room);
 }
 
 #[no_mangle]
 #[inline(never)]
 pub fn plain_trial(job: &Job, room: &mut Room) -> u32 {
-    match plain::probe(job.second, job.startup, &job.speeds, &job.holds, &job.weights, job.trial, &mut room.separators) {
+    match plain::probe(job.lists(), job.trial, &mut room.separators) {
         Err(number) => number,
         Ok(Outcome::Fits(machines)) => {
             room.answer[0] = 1;
@@ -371,7 +197,7 @@ pub fn plain_trial(job: &Job, room: &mut Room) -> u32 {
 #[no_mangle]
 #[inline(never)]
 pub fn plain_grade(job: &Job, room: &mut Room) -> u32 {
-    match plain::grade(job.second, job.startup, &job.speeds, &job.holds, &job.weights, &job.plan) {
+    match plain::grade(job.lists(), &job.plan) {
         Err(number) => number,
         Ok(grade) => {
             room.answer[0] = match grade {
