@@ -1,4 +1,5 @@
 // Bidding: scope 5.10 and 5.11. All functions here are inner: their callers have tested the job.
+#![tactic(auto)]
 ghost use Rattle.std.specs.Prelude.{suc, ◌+◌, ◌-◌, ◌≤◌, ◌<◌, ◌≡◌, not, ◌++◌, T, length, drop};
 ghost use Rattle.bound.specs.Order.{◌≺◌};
 ghost use Rattle.chain.specs.Job as counts;
@@ -145,7 +146,7 @@ fn rest_at(
 }
 
 // Where a processor's part ends, and the processor's bid for one more task, if there is one.
-#[derive(Drop)]
+#[derive(Clone, Copy)]
 pub struct Share {
     pub end: usize,
     pub bid: Bound,

@@ -1,4 +1,5 @@
 // Bisection: scope 5.12 to 5.16. All functions here are inner: their callers have tested the job.
+#![tactic(auto)]
 ghost use Rattle.std.specs.Prelude.{suc, ◌<◌, ◌≡◌, length};
 ghost use Rattle.chain.specs.Ranges.{Small, Lendable};
 ghost use Rattle.chain.specs.Job as counts;
@@ -19,7 +20,7 @@ use refusals::MAX_PROCESSORS;
 
 // What bisection ends with: the bottleneck found, the count of its trials, and whether the plan stands in the list already; `measured` is then
 // its bottleneck.
-#[derive(Drop)]
+#[derive(Clone, Copy)]
 pub struct Ended {
     pub bound: Bound,
     pub count: u32,
@@ -28,7 +29,7 @@ pub struct Ended {
 }
 
 // The ends after a round, and whether the high end is the bottleneck of a trial, whose walk then stands in the list.
-#[derive(Drop)]
+#[derive(Clone, Copy)]
 pub struct Round {
     pub ends: Ends,
     pub fitted: bool,

@@ -1,8 +1,9 @@
 // A bound: a load over a speed, compared exactly by cross products.
+#![tactic(auto)]
 ghost use Rattle.std.specs.Prelude.{◌<◌, ◌*◌, ◌+◌, ◌^◌, ◌≡◌};
 ghost use Rattle.bound.specs.Order.{nought, le, greater, lesser, middle, rounded_up};
 
-#[derive(Drop)]
+#[derive(Clone, Copy)]
 pub struct Bound {
     pub load: u64,
     pub speed: u64,

@@ -1,6 +1,7 @@
 // The callable functions on a job by lists: measuring, the probe ("trial"), the heuristic ("quick plan") and halving the row.
 // These four have no `requires`: their tests are inside, and nothing lent is written before the last test has passed. The inner
 // functions below them ask for what has been tested.
+#![tactic(auto)]
 ghost use Rattle.std.specs.Prelude.{suc, ◌<◌, ◌≡◌, ◌++◌, not, T, length, take, drop};
 ghost use Rattle.chain.specs.Job as counts;
 ghost use Rattle.chain.specs.Job.{Job, job_of, Valid, processors, held, Partition, bottleneck};
@@ -20,14 +21,14 @@ use probe::walked_in;
 use refusals::{MAX_TASKS, effective, test_halving, test_heuristic, test_measure, test_probe};
 
 // The answer of measuring, of the heuristic and of halving the row: the bottleneck, or the refusal's number.
-#[derive(Drop)]
+#[derive(Clone, Copy)]
 pub enum Measured {
     Bottleneck(Bound),
     Refused(u32),
 }
 
 // The answer of a probe call: the probe's outcome, or the refusal's number.
-#[derive(Drop)]
+#[derive(Clone, Copy)]
 pub enum Probed {
     Answered(Outcome),
     Refused(u32),

@@ -1,5 +1,6 @@
 // The program: two names, of a job file and of a plan file, and one line to standard output. What the line is, is the library's
 // (`gradeline::put_grade`); here is only what is read and written.
+#![tactic(auto)]
 ghost use Rattle.std.specs.Prelude.{◌≡◌};
 ghost use Rattle.io.specs.Counts.{IsPrefixLen};
 ghost use Rattle.gradeline.specs.Line.{grade_line};
@@ -8,7 +9,7 @@ use gradeline::{LINE_ROOM, PLAN_INTAKE, put_grade};
 use listing::INTAKE;
 
 // What came of a file: the number of bytes, and whether it could not be read to its end.
-#[derive(Drop)]
+#[derive(Clone, Copy)]
 struct Input {
     bytes: usize,
     failed: bool,

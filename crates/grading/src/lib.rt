@@ -1,4 +1,5 @@
 // Grading: a plan file of any maker is read beside its job and called best or valid.
+#![tactic(auto)]
 ghost use Rattle.std.specs.Prelude.{suc, ◌*◌, ◌≤◌, ◌<◌, ◌≡◌, ◌&&◌, ◌++◌, eqb, length, take, drop};
 ghost use Rattle.chain.specs.Job as counts;
 ghost use Rattle.chain.specs.Job.{Job, job_of, processors, Valid, Partition};
@@ -23,7 +24,7 @@ use refusals::{
 const GRADE: usize = 1;
 
 // What grading answers: best, valid, or the refusal's number.
-#[derive(Drop)]
+#[derive(Clone, Copy)]
 pub enum Graded {
     Best,
     Valid,

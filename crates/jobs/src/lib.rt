@@ -1,4 +1,5 @@
 // Job files: reading and writing.
+#![tactic(auto)]
 ghost use Rattle.std.specs.Prelude.{◌+◌, ◌*◌, ◌%◌, ◌<◌, ◌≤◌, ◌≡◌, ◌++◌, length, get_or, take, drop};
 ghost use Rattle.chain.specs.Job.{startup_of, edition_of, job_of};
 ghost use Rattle.chain.specs.Refusal.{first_refusal};
@@ -32,7 +33,7 @@ const STARTUP_KIND: u8 = 3;
 
 // What reading a job file answers: whether it is of the second edition, the start-up work that counts, and the counts of processors
 // and tasks; or the refusal's number.
-#[derive(Drop)]
+#[derive(Clone, Copy)]
 pub enum JobRead {
     Read {
         second: bool,

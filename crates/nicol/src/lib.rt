@@ -1,4 +1,5 @@
 // Nicol's search: scope 5.17 to 5.22. All functions here are inner: their callers have tested the job.
+#![tactic(auto)]
 ghost use Rattle.std.specs.Prelude.{suc, ◌+◌, ◌/◌, ◌≤◌, ◌<◌, ◌^◌, ◌≡◌, T, length};
 ghost use Rattle.chain.specs.Lists.{is_first};
 ghost use Rattle.chain.specs.Ranges.{Small, Lendable};
@@ -14,7 +15,7 @@ use parts::{Found, part_bound};
 use probe::{first_point, walk_from};
 
 // The smallest index that fits, and the trials that found it.
-#[derive(Drop)]
+#[derive(Clone, Copy)]
 struct FirstFit {
     index: usize,
     trials: u32,

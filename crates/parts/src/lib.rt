@@ -1,5 +1,6 @@
 // Prefix sums of the weights, and what is read off them: loads and bounds of parts, the bottleneck of a partition, and the last
 // index whose sum is at most a cap. All functions here are inner: their callers have tested the job.
+#![tactic(auto)]
 ghost use Rattle.std.specs.Prelude.{suc, ◌+◌, ◌≤◌, ◌<◌, ◌^◌, ◌≡◌, ◌++◌, length, get_or, take, drop};
 ghost use Rattle.bound.specs.Order.{over};
 ghost use Rattle.chain.specs.Lists.{sum};
@@ -11,7 +12,7 @@ ghost use Rattle.parts.specs.Rising.{Rising, near, Spanned, LastAtMost};
 use bound::Bound;
 
 // What a method ends with: the bottleneck found, and the count of its moves or trials.
-#[derive(Drop)]
+#[derive(Clone, Copy)]
 pub struct Found {
     pub bound: Bound,
     pub count: u32,
@@ -300,7 +301,7 @@ pub fn measure_in(
 const NEAR: usize = 8;
 
 // An index whose entry is at most a cap, and a step: the entry a step on is above the cap, or past the last.
-#[derive(Drop)]
+#[derive(Clone, Copy)]
 pub struct Span {
     pub low: usize,
     pub step: usize,

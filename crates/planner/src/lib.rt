@@ -1,4 +1,5 @@
 // Planning by table, bidding, bisection or Nicol's search: every method ends at the least bottleneck, and one walk there writes the plan.
+#![tactic(auto)]
 ghost use Rattle.std.specs.Prelude.{suc, ◌≤◌, ◌<◌, ◌≡◌, false, ◌++◌, length, drop};
 ghost use Rattle.chain.specs.Ranges.{Lendable};
 ghost use Rattle.chain.specs.Job as counts;
@@ -38,7 +39,7 @@ pub const SCRATCH: usize = SCRATCH_LISTS * (MAX_TASKS + 1);
 const SUMS: usize = MAX_TASKS + 1;
 
 // What a plan carries beside its separators.
-#[derive(Drop)]
+#[derive(Clone, Copy)]
 pub struct Figures {
     pub count: u32,
     pub allowance: u32,
@@ -47,7 +48,7 @@ pub struct Figures {
 }
 
 // The answer of planning: the figures of an accepted plan, or the refusal's number.
-#[derive(Drop)]
+#[derive(Clone, Copy)]
 pub enum Planned {
     Accepted(Figures),
     Refused(u32),

@@ -1,5 +1,6 @@
 // The probe at a bound over prefix sums: the end of a part, the walk and the least next bid.
 // All functions here are inner: their callers have tested the job and the bound.
+#![tactic(auto)]
 ghost use Rattle.std.specs.Prelude.{suc, ◌+◌, ◌*◌, ◌/◌, ◌≤◌, ◌<◌, ◌^◌, ◌≡◌, ◌++◌, length, get_or, drop};
 ghost use Rattle.chain.specs.Ranges.{Lendable, Narrow};
 ghost use Rattle.chain.specs.Job as counts;
@@ -242,7 +243,7 @@ pub fn free_rest(
 }
 
 // Where a walk stands: before the part of a processor, with that part's start and the least bid of the processors before it.
-#[derive(Drop)]
+#[derive(Clone, Copy)]
 pub struct Point {
     pub processor: usize,
     pub start: usize,

@@ -1,4 +1,5 @@
 // The limits of the code, and the tests of every call by lists.
+#![tactic(auto)]
 ghost use Rattle.std.specs.Prelude.{suc, ◌≤◌, ◌<◌, ◌≡◌, ◌&&◌, [], ◌∷◌, length, take, leb};
 ghost use Rattle.chain.specs.Limits.{max_processors, max_tasks};
 ghost use Rattle.chain.specs.Lists.{power_of_two};
@@ -38,14 +39,14 @@ pub const RECORD: usize = 8;
 pub const PLAN_RECORD: usize = 16;
 
 // A method by its number, or a number that is no method's.
-#[derive(Drop)]
+#[derive(Clone, Copy)]
 pub enum Chosen {
     Known(Method),
     Unknown,
 }
 
 // What writing a file answers: the count of its bytes, or the refusal's number.
-#[derive(Drop)]
+#[derive(Clone, Copy)]
 pub enum Written {
     Bytes(usize),
     Refused(u32),

@@ -1,5 +1,6 @@
 // The program: a job file comes on standard input, and its listing goes to standard output. What the listing is, is the library's
 // (`listing::list`); here is only what is read and written.
+#![tactic(auto)]
 ghost use Rattle.std.specs.Prelude.{◌≡◌};
 ghost use Rattle.io.specs.Counts.{IsPrefixLen};
 ghost use Rattle.listing.specs.Listing.{listing};
@@ -8,7 +9,7 @@ use listing::{INTAKE, LISTING_ROOM, list};
 use refusals::Written;
 
 // What came on standard input: the number of bytes, and whether a read failed before the input ended.
-#[derive(Drop)]
+#[derive(Clone, Copy)]
 struct Input {
     bytes: usize,
     failed: bool,

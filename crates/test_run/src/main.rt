@@ -1,5 +1,6 @@
 // Runs edge lines and worked lines of the scope on the proved library. A line of the output is the number of a case, then each
 // answer: the number of the refusal, or 0 and what was answered; then what the lent lists hold. What a case is stands beside it.
+#![tactic(auto)]
 use bound::Bound;
 use calls::{Measured, Probed};
 use chain::Outcome;
