@@ -1,5 +1,6 @@
 // A bound: a load over a speed, compared exactly by cross products.
 #![tactic(auto)]
+
 ghost use Rattle.std.specs.Prelude.{◌<◌, ◌*◌, ◌+◌, ◌^◌, ◌≡◌};
 ghost use Rattle.bound.specs.Order.{nought, le, greater, lesser, middle, rounded_up};
 

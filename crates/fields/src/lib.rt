@@ -1,5 +1,6 @@
 // Fields of 32 bits and of 16 in a list of bytes, the least byte first: written and read.
 #![tactic(auto)]
+
 ghost use Rattle.std.specs.Prelude.{◌+◌, ◌≤◌, ◌<◌, ◌≡◌, ◌++◌, length, get_or, take, drop};
 ghost use Rattle.fields.specs.Field.{field_size, field_bytes, field_at, half_size, half_bytes, half_at};
 
