@@ -35,12 +35,10 @@ fn bid_at(
     a: usize,
     end: usize,
 ) -> Bound
-    ghost job: { Job }
-    requires weights_value { job_of startup speeds.now holds.now weights.now ≡ job }
-    requires ready { Ready job sums.now }
-    requires p_bound { (p < processors job) × (a ≤ end) × (end < tasks job) }
-    requires held_value { held ≡ counts.held job }
-    ensures value { result ≡ offer job p a (suc end) }
+    requires ready { let job : Job = job_of startup speeds.now holds.now weights.now in Ready job sums.now }
+    requires p_bound { let job : Job = job_of startup speeds.now holds.now weights.now in (p < processors job) × (a ≤ end) × (end < tasks job) }
+    requires held_value { let job : Job = job_of startup speeds.now holds.now weights.now in held ≡ counts.held job }
+    ensures value { let job : Job = job_of startup speeds.now holds.now weights.now in result ≡ offer job p a (suc end) }
     ensures narrow { Narrow result }
 {
     if held {
@@ -61,12 +59,10 @@ fn parting(
     next: Bound,
     separators: &[u32],
 ) -> Point
-    ghost job: { Job }
-    requires weights_value { job_of startup speeds.now holds.now weights.now ≡ job }
-    requires ready_kept { ReadyKept job sums.now }
-    requires failed_walk { FailedWalk job next separators.now }
-    requires held_value { held ≡ counts.held job }
-    ensures { Reached job next separators.now result }
+    requires ready_kept { let job : Job = job_of startup speeds.now holds.now weights.now in ReadyKept job sums.now }
+    requires failed_walk { let job : Job = job_of startup speeds.now holds.now weights.now in FailedWalk job next separators.now }
+    requires held_value { let job : Job = job_of startup speeds.now holds.now weights.now in held ≡ counts.held job }
+    ensures { let job : Job = job_of startup speeds.now holds.now weights.now in Reached job next separators.now result }
 {
     let last = speeds.len() - 1;
     let mut least = Bound::INFINITE;
@@ -106,13 +102,11 @@ fn end_at(
     bound: Bound,
     hint: usize,
 ) -> usize
-    ghost job: { Job }
-    requires weights_value { job_of startup speeds.now holds.now weights.now ≡ job }
-    requires ready { Ready job sums.now }
+    requires ready { let job : Job = job_of startup speeds.now holds.now weights.now in Ready job sums.now }
     requires lendable { Lendable bound }
-    requires p_bound { (p < processors job) × (a ≤ tasks job) }
-    requires held_value { held ≡ counts.held job }
-    ensures { result ≡ reach job p a bound }
+    requires p_bound { let job : Job = job_of startup speeds.now holds.now weights.now in (p < processors job) × (a ≤ tasks job) }
+    requires held_value { let job : Job = job_of startup speeds.now holds.now weights.now in held ≡ counts.held job }
+    ensures { let job : Job = job_of startup speeds.now holds.now weights.now in result ≡ reach job p a bound }
 {
     if held {
         return part_end(startup, speeds, holds, weights, sums, p, a, bound, hint);
@@ -131,12 +125,10 @@ fn rest_at(
     p: usize,
     a: usize,
 ) -> Bound
-    ghost job: { Job }
-    requires weights_value { job_of startup speeds.now holds.now weights.now ≡ job }
-    requires ready { Ready job sums.now }
-    requires p_bound { (p < processors job) × (a ≤ tasks job) }
-    requires held_value { held ≡ counts.held job }
-    ensures value { result ≡ offer job p a (tasks job) }
+    requires ready { let job : Job = job_of startup speeds.now holds.now weights.now in Ready job sums.now }
+    requires p_bound { let job : Job = job_of startup speeds.now holds.now weights.now in (p < processors job) × (a ≤ tasks job) }
+    requires held_value { let job : Job = job_of startup speeds.now holds.now weights.now in held ≡ counts.held job }
+    ensures value { let job : Job = job_of startup speeds.now holds.now weights.now in result ≡ offer job p a (tasks job) }
     ensures narrow { Narrow result }
 {
     if held {
@@ -165,13 +157,11 @@ fn found_share(
     a: usize,
     hint: usize,
 ) -> Share
-    ghost job: { Job }
-    requires weights_value { job_of startup speeds.now holds.now weights.now ≡ job }
-    requires ready { Ready job sums.now }
+    requires ready { let job : Job = job_of startup speeds.now holds.now weights.now in Ready job sums.now }
     requires lendable { Lendable bound }
-    requires p_bound { (p < processors job) × (a < tasks job) }
-    requires held_value { held ≡ counts.held job }
-    ensures { Shared job p a bound result }
+    requires p_bound { let job : Job = job_of startup speeds.now holds.now weights.now in (p < processors job) × (a < tasks job) }
+    requires held_value { let job : Job = job_of startup speeds.now holds.now weights.now in held ≡ counts.held job }
+    ensures { let job : Job = job_of startup speeds.now holds.now weights.now in Shared job p a bound result }
 {
     let end = end_at(
         startup, speeds, holds, weights, sums, held, p, a, bound, hint,
@@ -203,14 +193,12 @@ fn share_at(
     was: usize,
     old: usize,
 ) -> Share
-    ghost job: { Job }
-    requires weights_value { job_of startup speeds.now holds.now weights.now ≡ job }
-    requires ready { Ready job sums.now }
+    requires ready { let job : Job = job_of startup speeds.now holds.now weights.now in Ready job sums.now }
     requires lendable { Lendable bound × Narrow bound }
-    requires p_bound { (p < processors job) × (a < tasks job) }
-    requires was_le { (was ≤ old) × (old < tasks job) × T (within job p was old bound) }
-    requires held_value { held ≡ counts.held job }
-    ensures { Shared job p a bound result }
+    requires p_bound { let job : Job = job_of startup speeds.now holds.now weights.now in (p < processors job) × (a < tasks job) }
+    requires was_le { let job : Job = job_of startup speeds.now holds.now weights.now in (was ≤ old) × (old < tasks job) × T (within job p was old bound) }
+    requires held_value { let job : Job = job_of startup speeds.now holds.now weights.now in held ≡ counts.held job }
+    ensures { let job : Job = job_of startup speeds.now holds.now weights.now in Shared job p a bound result }
 {
     if a == was {
         let bid = bid_at(startup, speeds, holds, weights, sums, held, p, a, old);
@@ -248,15 +236,13 @@ fn walk_block(
     start: usize,
     separators: &mut [u32],
 ) -> Point
-    ghost job: { Job }
-    requires weights_value { job_of startup speeds.now holds.now weights.now ≡ job }
-    requires ready { Ready job sums.now }
+    requires ready { let job : Job = job_of startup speeds.now holds.now weights.now in Ready job sums.now }
     requires lendable { Lendable bound × Narrow bound }
-    requires job_in_bounds { processors job < length separators.old }
-    requires come { Come job bound separators.old first start }
-    requires first_le_stop { (first ≤ stop) × (stop ≤ last job) }
-    requires held_value { held ≡ counts.held job }
-    ensures { Passes job bound separators.old separators.new first stop result }
+    requires job_in_bounds { let job : Job = job_of startup speeds.now holds.now weights.now in processors job < length separators.old }
+    requires come { let job : Job = job_of startup speeds.now holds.now weights.now in Come job bound separators.old first start }
+    requires first_le_stop { let job : Job = job_of startup speeds.now holds.now weights.now in (first ≤ stop) × (stop ≤ last job) }
+    requires held_value { let job : Job = job_of startup speeds.now holds.now weights.now in held ≡ counts.held job }
+    ensures { let job : Job = job_of startup speeds.now holds.now weights.now in Passes job bound separators.old separators.new first stop result }
 {
     let n = weights.len();
     let mut least = Bound::INFINITE;
@@ -304,17 +290,15 @@ fn pass_block(
     known: Bound,
     separators: &mut [u32],
 ) -> Point
-    ghost job: { Job }
-    requires weights_value { job_of startup speeds.now holds.now weights.now ≡ job }
-    requires ready { Ready job sums.now }
+    requires ready { let job : Job = job_of startup speeds.now holds.now weights.now in Ready job sums.now }
     requires lendable { Lendable bound × Narrow bound }
-    requires job_in_bounds { processors job < length separators.old }
-    requires come { Come job bound separators.old first start }
-    requires first_le_stop { (first ≤ stop) × (stop ≤ last job) }
+    requires job_in_bounds { let job : Job = job_of startup speeds.now holds.now weights.now in processors job < length separators.old }
+    requires come { let job : Job = job_of startup speeds.now holds.now weights.now in Come job bound separators.old first start }
+    requires first_le_stop { let job : Job = job_of startup speeds.now holds.now weights.now in (first ≤ stop) × (stop ≤ last job) }
     requires narrow { Narrow known }
-    requires known_value { bound ≺ known → known ≡ least_from (laid_bid job separators.old) first (stop - first) }
-    requires held_value { held ≡ counts.held job }
-    ensures { Passes job bound separators.old separators.new first stop result }
+    requires known_value { let job : Job = job_of startup speeds.now holds.now weights.now in bound ≺ known → known ≡ least_from (laid_bid job separators.old) first (stop - first) }
+    requires held_value { let job : Job = job_of startup speeds.now holds.now weights.now in held ≡ counts.held job }
+    ensures { let job : Job = job_of startup speeds.now holds.now weights.now in Passes job bound separators.old separators.new first stop result }
 {
     if start == index(separators[first]) {
         if !Bound::at_most(known, bound) {
@@ -356,17 +340,15 @@ fn walk_blocks(
     loads: &mut [u64; BLOCKS],
     rates: &mut [u64; BLOCKS],
 ) -> Outcome
-    ghost job: { Job }
-    requires weights_value { job_of startup speeds.now holds.now weights.now ≡ job }
-    requires ready { Ready job sums.now }
+    requires ready { let job : Job = job_of startup speeds.now holds.now weights.now in Ready job sums.now }
     requires lendable { Lendable bound × Narrow bound }
-    requires job_in_bounds { processors job < length separators.old }
-    requires laid { 0 < tasks job → Laid job bound 0 separators.old }
-    requires known { Known job bound separators.old loads.old rates.old }
-    requires held_value { held ≡ counts.held job }
-    ensures value { result ≡ probe job bound }
-    ensures separators_after { separators.new ≡ begun job bound separators.old }
-    ensures leasts { T (not (fits job bound)) → Leasts job bound loads.new rates.new }
+    requires job_in_bounds { let job : Job = job_of startup speeds.now holds.now weights.now in processors job < length separators.old }
+    requires laid { let job : Job = job_of startup speeds.now holds.now weights.now in 0 < tasks job → Laid job bound 0 separators.old }
+    requires known { let job : Job = job_of startup speeds.now holds.now weights.now in Known job bound separators.old loads.old rates.old }
+    requires held_value { let job : Job = job_of startup speeds.now holds.now weights.now in held ≡ counts.held job }
+    ensures value { let job : Job = job_of startup speeds.now holds.now weights.now in result ≡ probe job bound }
+    ensures separators_after { let job : Job = job_of startup speeds.now holds.now weights.now in separators.new ≡ begun job bound separators.old }
+    ensures leasts { let job : Job = job_of startup speeds.now holds.now weights.now in T (not (fits job bound)) → Leasts job bound loads.new rates.new }
 {
     let last = speeds.len() - 1;
     let n = weights.len();
@@ -423,12 +405,10 @@ pub fn bidding_in(
     sums: &[u32],
     separators: &mut [u32],
 ) -> Found
-    ghost job: { Job }
-    requires weights_value { job_of startup speeds.now holds.now weights.now ≡ job }
-    requires ready_kept { ReadyKept job sums.now }
-    requires job_in_bounds { processors job < length separators.old }
-    ensures bidding_ends { BiddingEnds job result.count result.bound }
-    ensures separators_after { separators.new ≡ walk job result.bound ++ drop (suc (processors job)) separators.old }
+    requires ready_kept { let job : Job = job_of startup speeds.now holds.now weights.now in ReadyKept job sums.now }
+    requires job_in_bounds { let job : Job = job_of startup speeds.now holds.now weights.now in processors job < length separators.old }
+    ensures bidding_ends { let job : Job = job_of startup speeds.now holds.now weights.now in BiddingEnds job result.count result.bound }
+    ensures separators_after { let job : Job = job_of startup speeds.now holds.now weights.now in separators.new ≡ walk job result.bound ++ drop (suc (processors job)) separators.old }
 {
     let held = any_hold(startup, speeds, holds, weights);
     let mut bound = ideal_of(startup, speeds, holds, weights, sums);

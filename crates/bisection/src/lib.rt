@@ -52,16 +52,14 @@ fn next_ends(
     trial: &mut [u32],
     separators: &mut [u32],
 ) -> Round
-    ghost job: { Job }
-    requires weights_value { job_of startup speeds.now holds.now weights.now ≡ job }
-    requires ready_kept { ReadyKept job sums.now }
-    requires job_in_bounds { (processors job < length failed.old) × (processors job < length trial.old) × (processors job < length separators.old) }
+    requires ready_kept { let job : Job = job_of startup speeds.now holds.now weights.now in ReadyKept job sums.now }
+    requires job_in_bounds { let job : Job = job_of startup speeds.now holds.now weights.now in (processors job < length failed.old) × (processors job < length trial.old) × (processors job < length separators.old) }
     requires small { Small low × Small high }
-    requires held_value { held ≡ counts.held job }
-    requires fitted { Fitted job fitted high separators.old }
-    ensures ends_value { result.ends ≡ next_ends job (record { low = low; high = high }) }
-    ensures fitted_2 { Fitted job result.fitted result.ends.high separators.new }
-    ensures kept_from { KeptFrom (suc (processors job)) separators.old separators.new }
+    requires held_value { let job : Job = job_of startup speeds.now holds.now weights.now in held ≡ counts.held job }
+    requires fitted { let job : Job = job_of startup speeds.now holds.now weights.now in Fitted job fitted high separators.old }
+    ensures ends_value { let job : Job = job_of startup speeds.now holds.now weights.now in result.ends ≡ next_ends job (record { low = low; high = high }) }
+    ensures fitted_2 { let job : Job = job_of startup speeds.now holds.now weights.now in Fitted job result.fitted result.ends.high separators.new }
+    ensures kept_from { let job : Job = job_of startup speeds.now holds.now weights.now in KeptFrom (suc (processors job)) separators.old separators.new }
 {
     let middle = Bound::midpoint(low, high);
     let answer = probe_in(startup, speeds, holds, weights, sums, held, middle, trial);
@@ -83,10 +81,8 @@ fn next_ends(
 
 // Inner. All weight and the start-up work over the slowest speed.
 fn widest_of(startup: u32, speeds: &[u32], holds: &[u16], weights: &[u32], sums: &[u32]) -> Bound
-    ghost job: { Job }
-    requires weights_value { job_of startup speeds.now holds.now weights.now ≡ job }
-    requires ready { Ready job sums.now }
-    ensures { result ≡ widest job }
+    requires ready { let job : Job = job_of startup speeds.now holds.now weights.now in Ready job sums.now }
+    ensures { let job : Job = job_of startup speeds.now holds.now weights.now in result ≡ widest job }
 {
     Bound {
         load: wide(sums[weights.len()]) + wide(startup),
@@ -105,13 +101,11 @@ fn first_high(
     held: bool,
     separators: &mut [u32],
 ) -> Bound
-    ghost job: { Job }
-    requires weights_value { job_of startup speeds.now holds.now weights.now ≡ job }
-    requires ready { Ready job sums.now }
-    requires job_in_bounds { processors job < length separators.old }
-    requires held_value { held ≡ counts.held job }
-    ensures value { result ≡ (first_ends job).high }
-    ensures kept_from { KeptFrom (suc (processors job)) separators.old separators.new }
+    requires ready { let job : Job = job_of startup speeds.now holds.now weights.now in Ready job sums.now }
+    requires job_in_bounds { let job : Job = job_of startup speeds.now holds.now weights.now in processors job < length separators.old }
+    requires held_value { let job : Job = job_of startup speeds.now holds.now weights.now in held ≡ counts.held job }
+    ensures value { let job : Job = job_of startup speeds.now holds.now weights.now in result ≡ (first_ends job).high }
+    ensures kept_from { let job : Job = job_of startup speeds.now holds.now weights.now in KeptFrom (suc (processors job)) separators.old separators.new }
 {
     if held {
         return widest_of(startup, speeds, holds, weights, sums);
@@ -132,16 +126,14 @@ fn bisect(
     next: Bound,
     separators: &mut [u32],
 ) -> Ended
-    ghost job: { Job }
-    requires weights_value { job_of startup speeds.now holds.now weights.now ≡ job }
-    requires ready_kept { ReadyKept job sums.now }
-    requires job_in_bounds { processors job < length separators.old }
-    requires rejected { Rejected job (ideal job) next }
-    requires held_value { held ≡ counts.held job }
-    ensures bisection_ends { BisectionEnds job result.count result.bound }
+    requires ready_kept { let job : Job = job_of startup speeds.now holds.now weights.now in ReadyKept job sums.now }
+    requires job_in_bounds { let job : Job = job_of startup speeds.now holds.now weights.now in processors job < length separators.old }
+    requires rejected { let job : Job = job_of startup speeds.now holds.now weights.now in Rejected job (ideal job) next }
+    requires held_value { let job : Job = job_of startup speeds.now holds.now weights.now in held ≡ counts.held job }
+    ensures bisection_ends { let job : Job = job_of startup speeds.now holds.now weights.now in BisectionEnds job result.count result.bound }
     ensures lendable { Lendable result.bound }
-    ensures kept_from { KeptFrom (suc (processors job)) separators.old separators.new }
-    ensures closed { Closed job result.closed result.measured separators.new }
+    ensures kept_from { let job : Job = job_of startup speeds.now holds.now weights.now in KeptFrom (suc (processors job)) separators.old separators.new }
+    ensures closed { let job : Job = job_of startup speeds.now holds.now weights.now in Closed job result.closed result.measured separators.new }
 {
     let mut failed = [0u32; MAX_PROCESSORS + 1];
     let mut trial = [0u32; MAX_PROCESSORS + 1];
@@ -193,14 +185,12 @@ pub fn bisection_in(
     sums: &[u32],
     separators: &mut [u32],
 ) -> Ended
-    ghost job: { Job }
-    requires weights_value { job_of startup speeds.now holds.now weights.now ≡ job }
-    requires ready_kept { ReadyKept job sums.now }
-    requires job_in_bounds { processors job < length separators.old }
-    ensures bisection_ends { BisectionEnds job result.count result.bound }
+    requires ready_kept { let job : Job = job_of startup speeds.now holds.now weights.now in ReadyKept job sums.now }
+    requires job_in_bounds { let job : Job = job_of startup speeds.now holds.now weights.now in processors job < length separators.old }
+    ensures bisection_ends { let job : Job = job_of startup speeds.now holds.now weights.now in BisectionEnds job result.count result.bound }
     ensures lendable { Lendable result.bound }
-    ensures kept_from { KeptFrom (suc (processors job)) separators.old separators.new }
-    ensures closed { Closed job result.closed result.measured separators.new }
+    ensures kept_from { let job : Job = job_of startup speeds.now holds.now weights.now in KeptFrom (suc (processors job)) separators.old separators.new }
+    ensures closed { let job : Job = job_of startup speeds.now holds.now weights.now in Closed job result.closed result.measured separators.new }
 {
     let held = any_hold(startup, speeds, holds, weights);
     let bound = ideal_of(startup, speeds, holds, weights, sums);

@@ -42,11 +42,9 @@ fn measure_tested(
     weights: &[u32],
     separators: &[u32],
 ) -> Bound
-    ghost job: { Job }
-    requires weights_value { job_of startup speeds.now holds.now weights.now ≡ job }
-    requires valid { Valid job }
-    requires partition { Partition job (take (suc (processors job)) separators.now) }
-    ensures { result ≡ bottleneck job (take (suc (processors job)) separators.now) }
+    requires valid { let job : Job = job_of startup speeds.now holds.now weights.now in Valid job }
+    requires partition { let job : Job = job_of startup speeds.now holds.now weights.now in Partition job (take (suc (processors job)) separators.now) }
+    ensures { let job : Job = job_of startup speeds.now holds.now weights.now in result ≡ bottleneck job (take (suc (processors job)) separators.now) }
 {
     let mut sums = [0u32; MAX_TASKS + 1];
     prefix_sums(weights, &mut sums);
@@ -101,13 +99,11 @@ fn probe_tested(
     bound: Bound,
     separators: &mut [u32],
 ) -> Outcome
-    ghost job: { Job }
-    requires weights_value { job_of startup speeds.now holds.now weights.now ≡ job }
-    requires valid { Valid job }
+    requires valid { let job : Job = job_of startup speeds.now holds.now weights.now in Valid job }
     requires lendable { Lendable bound }
-    requires job_in_bounds { processors job < length separators.old }
-    ensures value { result ≡ trial.probe job bound }
-    ensures separators_after { separators.new ≡ trial.walked job bound ++ drop (suc (processors job)) separators.old }
+    requires job_in_bounds { let job : Job = job_of startup speeds.now holds.now weights.now in processors job < length separators.old }
+    ensures value { let job : Job = job_of startup speeds.now holds.now weights.now in result ≡ trial.probe job bound }
+    ensures separators_after { let job : Job = job_of startup speeds.now holds.now weights.now in separators.new ≡ trial.walked job bound ++ drop (suc (processors job)) separators.old }
 {
     let mut sums = [0u32; MAX_TASKS + 1];
     prefix_sums(weights, &mut sums);
@@ -173,12 +169,10 @@ fn heuristic_tested(
     weights: &[u32],
     separators: &mut [u32],
 ) -> Bound
-    ghost job: { Job }
-    requires weights_value { job_of startup speeds.now holds.now weights.now ≡ job }
-    requires valid { Valid job × T (not (held job)) }
-    requires job_in_bounds { processors job < length separators.old }
-    ensures value { result ≡ bottleneck job (quick.heuristic job) }
-    ensures separators_after { separators.new ≡ quick.heuristic job ++ drop (suc (processors job)) separators.old }
+    requires valid { let job : Job = job_of startup speeds.now holds.now weights.now in Valid job × T (not (held job)) }
+    requires job_in_bounds { let job : Job = job_of startup speeds.now holds.now weights.now in processors job < length separators.old }
+    ensures value { let job : Job = job_of startup speeds.now holds.now weights.now in result ≡ bottleneck job (quick.heuristic job) }
+    ensures separators_after { let job : Job = job_of startup speeds.now holds.now weights.now in separators.new ≡ quick.heuristic job ++ drop (suc (processors job)) separators.old }
 {
     let mut sums = [0u32; MAX_TASKS + 1];
     prefix_sums(weights, &mut sums);
@@ -238,13 +232,11 @@ fn halving_tested(
     weights: &[u32],
     separators: &mut [u32],
 ) -> Bound
-    ghost job: { Job }
-    requires weights_value { job_of startup speeds.now holds.now weights.now ≡ job }
-    requires valid { Valid job × T (not (held job)) }
+    requires valid { let job : Job = job_of startup speeds.now holds.now weights.now in Valid job × T (not (held job)) }
     requires halvable { Halvable speeds.now }
-    requires job_in_bounds { processors job < length separators.old }
-    ensures value { result ≡ bottleneck job (row.halving job) }
-    ensures separators_after { separators.new ≡ row.halving job ++ drop (suc (processors job)) separators.old }
+    requires job_in_bounds { let job : Job = job_of startup speeds.now holds.now weights.now in processors job < length separators.old }
+    ensures value { let job : Job = job_of startup speeds.now holds.now weights.now in result ≡ bottleneck job (row.halving job) }
+    ensures separators_after { let job : Job = job_of startup speeds.now holds.now weights.now in separators.new ≡ row.halving job ++ drop (suc (processors job)) separators.old }
 {
     let mut sums = [0u32; MAX_TASKS + 1];
     prefix_sums(weights, &mut sums);

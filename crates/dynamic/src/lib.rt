@@ -71,13 +71,11 @@ fn move_on(
     i: usize,
     start: Pointer,
 ) -> Pointer
-    ghost job: { Job }
-    requires weights_value { job_of startup speeds.now holds.now weights.now ≡ job }
-    requires row_ready { RowReady job scratch.now before p }
-    requires speed_value { speed ≡ speed_of job (suc p) }
-    requires i_bound { start_of job (suc p) i ≤ start.at }
-    requires i_bound_2 { (i ≤ tasks job) × (start.at ≤ crossing job p i) × (start.moves + i < 2 ^ 32 + start.at) }
-    ensures { Advanced job p i start.at start.moves result.at result.moves }
+    requires row_ready { let job : Job = job_of startup speeds.now holds.now weights.now in RowReady job scratch.now before p }
+    requires speed_value { let job : Job = job_of startup speeds.now holds.now weights.now in speed ≡ speed_of job (suc p) }
+    requires i_bound { let job : Job = job_of startup speeds.now holds.now weights.now in start_of job (suc p) i ≤ start.at }
+    requires i_bound_2 { let job : Job = job_of startup speeds.now holds.now weights.now in (i ≤ tasks job) × (start.at ≤ crossing job p i) × (start.moves + i < 2 ^ 32 + start.at) }
+    ensures { let job : Job = job_of startup speeds.now holds.now weights.now in Advanced job p i start.at start.moves result.at result.moves }
 {
     let mut at = start.at;
     let mut moves = start.moves;
@@ -104,13 +102,11 @@ fn advance(
     i: usize,
     start: Pointer,
 ) -> Pointer
-    ghost job: { Job }
-    requires weights_value { job_of startup speeds.now holds.now weights.now ≡ job }
-    requires row_ready { RowReady job scratch.now before p }
-    requires speed_value { speed ≡ speed_of job (suc p) }
-    requires i_bound { start_of job (suc p) i ≤ start.at }
-    requires i_bound_2 { (i ≤ tasks job) × (start.at ≤ crossing job p i) × (start.moves + i < 2 ^ 32 + start.at) }
-    ensures { Advanced job p i start.at start.moves result.at result.moves }
+    requires row_ready { let job : Job = job_of startup speeds.now holds.now weights.now in RowReady job scratch.now before p }
+    requires speed_value { let job : Job = job_of startup speeds.now holds.now weights.now in speed ≡ speed_of job (suc p) }
+    requires i_bound { let job : Job = job_of startup speeds.now holds.now weights.now in start_of job (suc p) i ≤ start.at }
+    requires i_bound_2 { let job : Job = job_of startup speeds.now holds.now weights.now in (i ≤ tasks job) × (start.at ≤ crossing job p i) × (start.moves + i < 2 ^ 32 + start.at) }
+    ensures { let job : Job = job_of startup speeds.now holds.now weights.now in Advanced job p i start.at start.moves result.at result.moves }
 {
     if startup == 0 {
         return move_on(
@@ -137,12 +133,10 @@ fn value_at(
     i: usize,
     at: usize,
 ) -> Bound
-    ghost job: { Job }
-    requires weights_value { job_of startup speeds.now holds.now weights.now ≡ job }
-    requires row_ready { RowReady job scratch.now before p }
-    requires speed_value { (speed ≡ speed_of job (suc p)) × (first ≡ start_of job (suc p) i) }
-    requires i_bound { (i ≤ tasks job) × (at ≡ crossing job p i) }
-    ensures { result ≡ table_value job (suc p) i }
+    requires row_ready { let job : Job = job_of startup speeds.now holds.now weights.now in RowReady job scratch.now before p }
+    requires speed_value { let job : Job = job_of startup speeds.now holds.now weights.now in (speed ≡ speed_of job (suc p)) × (first ≡ start_of job (suc p) i) }
+    requires i_bound { let job : Job = job_of startup speeds.now holds.now weights.now in (i ≤ tasks job) × (at ≡ crossing job p i) }
+    ensures { let job : Job = job_of startup speeds.now holds.now weights.now in result ≡ table_value job (suc p) i }
 {
     let here = entry(scratch, before, at);
     if at == first {
@@ -165,13 +159,11 @@ fn fill_free(
     end: usize,
     start: Pointer,
 ) -> Pointer
-    ghost job: { Job }
-    requires weights_value { job_of startup speeds.now holds.now weights.now ≡ job }
-    requires row_ready { RowReady job scratch.old before p }
-    requires places { Places (suc (tasks job)) before row (length scratch.old) }
-    requires at_value { (start.at ≡ 0) × (start.moves + tasks job < 2 ^ 32) }
-    requires free_to { FreeTo job p end }
-    ensures { FilledTo job scratch.old scratch.new row p end start.moves result.at result.moves }
+    requires row_ready { let job : Job = job_of startup speeds.now holds.now weights.now in RowReady job scratch.old before p }
+    requires places { let job : Job = job_of startup speeds.now holds.now weights.now in Places (suc (tasks job)) before row (length scratch.old) }
+    requires at_value { let job : Job = job_of startup speeds.now holds.now weights.now in (start.at ≡ 0) × (start.moves + tasks job < 2 ^ 32) }
+    requires free_to { let job : Job = job_of startup speeds.now holds.now weights.now in FreeTo job p end }
+    ensures { let job : Job = job_of startup speeds.now holds.now weights.now in FilledTo job scratch.old scratch.new row p end start.moves result.at result.moves }
 {
     let speed = speeds[p + 1]; // once, before the stores
     let mut pointer = start;
@@ -204,14 +196,12 @@ fn fill_held(
     hold: usize,
     start: Pointer,
 ) -> Pointer
-    ghost job: { Job }
-    requires weights_value { job_of startup speeds.now holds.now weights.now ≡ job }
-    requires row_ready { RowReady job scratch.old before p }
-    requires places { Places (suc (tasks job)) before row (length scratch.old) }
-    requires hold_value { (hold ≡ hold_of job (suc p)) × (0 < hold) }
-    requires filled_to { FilledTo job scratch.old scratch.old row p (hold + 1) (start.moves - start.at) start.at start.moves }
-    requires job_bound { start.moves - start.at + tasks job < 2 ^ 32 }
-    ensures { Filled job scratch.old scratch.new row p (start.moves - start.at) result.moves }
+    requires row_ready { let job : Job = job_of startup speeds.now holds.now weights.now in RowReady job scratch.old before p }
+    requires places { let job : Job = job_of startup speeds.now holds.now weights.now in Places (suc (tasks job)) before row (length scratch.old) }
+    requires hold_value { let job : Job = job_of startup speeds.now holds.now weights.now in (hold ≡ hold_of job (suc p)) × (0 < hold) }
+    requires filled_to { let job : Job = job_of startup speeds.now holds.now weights.now in FilledTo job scratch.old scratch.old row p (hold + 1) (start.moves - start.at) start.at start.moves }
+    requires job_bound { let job : Job = job_of startup speeds.now holds.now weights.now in start.moves - start.at + tasks job < 2 ^ 32 }
+    ensures { let job : Job = job_of startup speeds.now holds.now weights.now in Filled job scratch.old scratch.new row p (start.moves - start.at) result.moves }
 {
     let speed = speeds[p + 1];
     let mut pointer = start;
@@ -252,12 +242,10 @@ fn fill_row(
     p: usize,
     start: Pointer,
 ) -> Pointer
-    ghost job: { Job }
-    requires weights_value { job_of startup speeds.now holds.now weights.now ≡ job }
-    requires row_ready { RowReady job scratch.old before p }
-    requires places { Places (suc (tasks job)) before row (length scratch.old) }
-    requires at_value { (start.at ≡ 0) × (start.moves + tasks job < 2 ^ 32) }
-    ensures { Filled job scratch.old scratch.new row p start.moves result.moves }
+    requires row_ready { let job : Job = job_of startup speeds.now holds.now weights.now in RowReady job scratch.old before p }
+    requires places { let job : Job = job_of startup speeds.now holds.now weights.now in Places (suc (tasks job)) before row (length scratch.old) }
+    requires at_value { let job : Job = job_of startup speeds.now holds.now weights.now in (start.at ≡ 0) × (start.moves + tasks job < 2 ^ 32) }
+    ensures { let job : Job = job_of startup speeds.now holds.now weights.now in Filled job scratch.old scratch.new row p start.moves result.moves }
 {
     let all = weights.len() + 1;
     let hold = hold_of(startup, speeds, holds, weights, p + 1);
@@ -297,11 +285,9 @@ fn first_offer(
     scratch: &[u32],
     i: usize,
 ) -> Bound
-    ghost job: { Job }
-    requires weights_value { job_of startup speeds.now holds.now weights.now ≡ job }
-    requires ready { Ready job scratch.now }
-    requires i_bound { i ≤ tasks job }
-    ensures { result ≡ offer job 0 0 i }
+    requires ready { let job : Job = job_of startup speeds.now holds.now weights.now in Ready job scratch.now }
+    requires i_bound { let job : Job = job_of startup speeds.now holds.now weights.now in i ≤ tasks job }
+    ensures { let job : Job = job_of startup speeds.now holds.now weights.now in result ≡ offer job 0 0 i }
 {
     if !keeps_hold(startup, speeds, holds, weights, 0, 0, i) {
         return Bound::INFINITE;
@@ -318,11 +304,9 @@ fn first_row(
     scratch: &mut [u32],
     row: usize,
 )
-    ghost job: { Job }
-    requires weights_value { job_of startup speeds.now holds.now weights.now ≡ job }
-    requires ready { Ready job scratch.old }
-    requires job_bound { (suc (tasks job) ≤ row) × (row + 2 * suc (tasks job) ≤ length scratch.old) }
-    ensures { FirstRow job scratch.old scratch.new row }
+    requires ready { let job : Job = job_of startup speeds.now holds.now weights.now in Ready job scratch.old }
+    requires job_bound { let job : Job = job_of startup speeds.now holds.now weights.now in (suc (tasks job) ≤ row) × (row + 2 * suc (tasks job) ≤ length scratch.old) }
+    ensures { let job : Job = job_of startup speeds.now holds.now weights.now in FirstRow job scratch.old scratch.new row }
 {
     let mut i = 0;
     while i <= weights.len() {
@@ -341,11 +325,9 @@ pub fn table_in(
     weights: &[u32],
     scratch: &mut [u32],
 ) -> Found
-    ghost job: { Job }
-    requires weights_value { job_of startup speeds.now holds.now weights.now ≡ job }
-    requires ready { Ready job scratch.old }
-    requires job_in_bounds { 5 * suc (tasks job) ≤ length scratch.old }
-    ensures { Tabled job scratch.old scratch.new result.bound result.count }
+    requires ready { let job : Job = job_of startup speeds.now holds.now weights.now in Ready job scratch.old }
+    requires job_in_bounds { let job : Job = job_of startup speeds.now holds.now weights.now in 5 * suc (tasks job) ≤ length scratch.old }
+    ensures { let job : Job = job_of startup speeds.now holds.now weights.now in Tabled job scratch.old scratch.new result.bound result.count }
 {
     let n = weights.len() + 1;
     let mut row = n;

@@ -51,13 +51,11 @@ fn take_separators(
     plan: &[u8],
     separators: &mut [u32],
 ) -> bool
-    ghost job: { Job }
-    requires weights_value { job_of startup speeds.now holds.now weights.now ≡ job }
-    requires valid { Valid job }
-    requires job_in_bounds { plan_needed job ≤ length plan.now }
-    requires job_in_bounds_2 { processors job < length separators.old }
-    ensures value { result ≡ joined job (plan_read job plan.now) }
-    ensures separators_after { separators.new
+    requires valid { let job : Job = job_of startup speeds.now holds.now weights.now in Valid job }
+    requires job_in_bounds { let job : Job = job_of startup speeds.now holds.now weights.now in plan_needed job ≤ length plan.now }
+    requires job_in_bounds_2 { let job : Job = job_of startup speeds.now holds.now weights.now in processors job < length separators.old }
+    ensures value { let job : Job = job_of startup speeds.now holds.now weights.now in result ≡ joined job (plan_read job plan.now) }
+    ensures separators_after { let job : Job = job_of startup speeds.now holds.now weights.now in separators.new
         ≡ separators_of job (plan_read job plan.now) ++ drop (suc (processors job)) separators.old }
 {
     separators[0] = get_field(plan, 0);
@@ -83,13 +81,11 @@ fn tells_at(
     plan: &[u8],
     p: usize,
 ) -> bool
-    ghost job: { Job }
-    requires weights_value { job_of startup speeds.now holds.now weights.now ≡ job }
-    requires ready { Ready job sums.now }
-    requires partition { Partition job (take (suc (processors job)) separators.now) }
-    requires job_in_bounds { plan_needed job ≤ length plan.now }
-    requires p_bound { p < processors job }
-    ensures { result ≡ tells_at job separators.now plan.now p }
+    requires ready { let job : Job = job_of startup speeds.now holds.now weights.now in Ready job sums.now }
+    requires partition { let job : Job = job_of startup speeds.now holds.now weights.now in Partition job (take (suc (processors job)) separators.now) }
+    requires job_in_bounds { let job : Job = job_of startup speeds.now holds.now weights.now in plan_needed job ≤ length plan.now }
+    requires p_bound { let job : Job = job_of startup speeds.now holds.now weights.now in p < processors job }
+    ensures { let job : Job = job_of startup speeds.now holds.now weights.now in result ≡ tells_at job separators.now plan.now p }
 {
     let load = part_load(
         startup,
@@ -113,12 +109,10 @@ fn tells_all(
     separators: &[u32],
     plan: &[u8],
 ) -> bool
-    ghost job: { Job }
-    requires weights_value { job_of startup speeds.now holds.now weights.now ≡ job }
-    requires ready { Ready job sums.now }
-    requires partition { Partition job (take (suc (processors job)) separators.now) }
-    requires job_in_bounds { plan_needed job ≤ length plan.now }
-    ensures { result ≡ tells job separators.now plan.now }
+    requires ready { let job : Job = job_of startup speeds.now holds.now weights.now in Ready job sums.now }
+    requires partition { let job : Job = job_of startup speeds.now holds.now weights.now in Partition job (take (suc (processors job)) separators.now) }
+    requires job_in_bounds { let job : Job = job_of startup speeds.now holds.now weights.now in plan_needed job ≤ length plan.now }
+    ensures { let job : Job = job_of startup speeds.now holds.now weights.now in result ≡ tells job separators.now plan.now }
 {
     let mut p = 0;
     while p < speeds.len() {
@@ -139,11 +133,9 @@ fn grade_partition(
     sums: &[u32],
     separators: &mut [u32],
 ) -> Graded
-    ghost job: { Job }
-    requires weights_value { job_of startup speeds.now holds.now weights.now ≡ job }
-    requires ready { Ready job sums.now }
-    requires partition { Partition job (take (suc (processors job)) separators.old) }
-    ensures { result ≡ grade_of job (take (suc (processors job)) separators.old) }
+    requires ready { let job : Job = job_of startup speeds.now holds.now weights.now in Ready job sums.now }
+    requires partition { let job : Job = job_of startup speeds.now holds.now weights.now in Partition job (take (suc (processors job)) separators.old) }
+    ensures { let job : Job = job_of startup speeds.now holds.now weights.now in result ≡ grade_of job (take (suc (processors job)) separators.old) }
 {
     let measured = measure_in(startup, speeds, holds, weights, sums, separators);
     let found = bisection_in(startup, speeds, holds, weights, sums, separators);
@@ -162,12 +154,10 @@ fn grade_told(
     plan: &[u8],
     separators: &mut [u32],
 ) -> Graded
-    ghost job: { Job }
-    requires weights_value { job_of startup speeds.now holds.now weights.now ≡ job }
-    requires valid { Valid job }
-    requires job_in_bounds { plan_needed job ≤ length plan.now }
-    requires partition { Partition job (take (suc (processors job)) separators.old) }
-    ensures { result ≡ told_grade job separators.old plan.now }
+    requires valid { let job : Job = job_of startup speeds.now holds.now weights.now in Valid job }
+    requires job_in_bounds { let job : Job = job_of startup speeds.now holds.now weights.now in plan_needed job ≤ length plan.now }
+    requires partition { let job : Job = job_of startup speeds.now holds.now weights.now in Partition job (take (suc (processors job)) separators.old) }
+    ensures { let job : Job = job_of startup speeds.now holds.now weights.now in result ≡ told_grade job separators.old plan.now }
 {
     let mut sums = [0u32; MAX_TASKS + 1];
     prefix_sums(weights, &mut sums);
@@ -179,10 +169,8 @@ fn grade_told(
 
 // Inner. Grades the plan file of a job that has been tested: the grade, or the refusal: 12, 11 or 13, in this order.
 fn grade_in(startup: u32, speeds: &[u32], holds: &[u16], weights: &[u32], plan: &[u8]) -> Graded
-    ghost job: { Job }
-    requires weights_value { job_of startup speeds.now holds.now weights.now ≡ job }
-    requires valid { Valid job }
-    ensures { result ≡ plan_grade job plan.now }
+    requires valid { let job : Job = job_of startup speeds.now holds.now weights.now in Valid job }
+    ensures { let job : Job = job_of startup speeds.now holds.now weights.now in result ≡ plan_grade job plan.now }
 {
     if plan.len() != PLAN_RECORD * speeds.len() {
         return Graded::Refused(12);
@@ -233,10 +221,8 @@ fn grade_read(
     plan: &[u8],
     lent: usize,
 ) -> Graded
-    ghost job: { Job }
-    requires weights_value { job_of startup speeds.now holds.now weights.now ≡ job }
-    requires valid { Valid job }
-    ensures { result ≡ room_grade job plan.now grade_needed lent }
+    requires valid { let job : Job = job_of startup speeds.now holds.now weights.now in Valid job }
+    ensures { let job : Job = job_of startup speeds.now holds.now weights.now in result ≡ room_grade job plan.now grade_needed lent }
 {
     let number = test_length(GRADE, lent);
     if number != 0 {

@@ -59,12 +59,10 @@ pub fn halving_in(
     sums: &[u32],
     separators: &mut [u32],
 )
-    ghost job: { Job }
-    requires weights_value { job_of startup speeds.now holds.now weights.now ≡ job }
-    requires ready { Ready job sums.now }
+    requires ready { let job : Job = job_of startup speeds.now holds.now weights.now in Ready job sums.now }
     requires halvable { Halvable speeds.now }
-    requires job_in_bounds { processors job < length separators.old }
-    ensures { separators.new ≡ halving job ++ drop (suc (processors job)) separators.old }
+    requires job_in_bounds { let job : Job = job_of startup speeds.now holds.now weights.now in processors job < length separators.old }
+    ensures { let job : Job = job_of startup speeds.now holds.now weights.now in separators.new ≡ halving job ++ drop (suc (processors job)) separators.old }
 {
     separators[0] = 0;
     separators[speeds.len()] = narrow(weights.len());

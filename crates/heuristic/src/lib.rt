@@ -82,11 +82,9 @@ pub fn heuristic_in(
     sums: &[u32],
     separators: &mut [u32],
 )
-    ghost job: { Job }
-    requires weights_value { job_of startup speeds.now holds.now weights.now ≡ job }
-    requires ready { Ready job sums.now }
-    requires job_in_bounds { processors job < length separators.old }
-    ensures { separators.new ≡ heuristic job ++ drop (suc (processors job)) separators.old }
+    requires ready { let job : Job = job_of startup speeds.now holds.now weights.now in Ready job sums.now }
+    requires job_in_bounds { let job : Job = job_of startup speeds.now holds.now weights.now in processors job < length separators.old }
+    ensures { let job : Job = job_of startup speeds.now holds.now weights.now in separators.new ≡ heuristic job ++ drop (suc (processors job)) separators.old }
 {
     let all_speed = total(speeds);
     let weight = wide(sums[weights.len()]);

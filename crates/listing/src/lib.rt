@@ -88,12 +88,10 @@ fn list_method(
     at: usize,
     out: &mut [u8],
 ) -> usize
-    ghost job: { Job }
-    requires weights_value { job_of startup speeds.now holds.now weights.now ≡ job }
-    requires tested { Tested method job }
-    requires job_in_bounds { at + plan_room (processors job + 1) ≤ length out.old }
-    ensures put { Put (method_line (edition_of second startup) method job) at out.old out.new result }
-    ensures upper_bound { result ≤ at + plan_room (processors job + 1) }
+    requires tested { let job : Job = job_of startup speeds.now holds.now weights.now in Tested method job }
+    requires job_in_bounds { let job : Job = job_of startup speeds.now holds.now weights.now in at + plan_room (processors job + 1) ≤ length out.old }
+    ensures put { let job : Job = job_of startup speeds.now holds.now weights.now in Put (method_line (edition_of second startup) method job) at out.old out.new result }
+    ensures upper_bound { let job : Job = job_of startup speeds.now holds.now weights.now in result ≤ at + plan_room (processors job + 1) }
 {
     let mut separators = [0u32; SEPARATORS];
     let mut scratch = [0u32; SCRATCH];
@@ -121,12 +119,10 @@ fn list_last(
     at: usize,
     out: &mut [u8],
 ) -> usize
-    ghost job: { Job }
-    requires weights_value { job_of startup speeds.now holds.now weights.now ≡ job }
-    requires valid { Valid job × T (enough job) }
-    requires job_in_bounds { at + plan_room (processors job + 1) ≤ length out.old }
-    ensures put { Put (last_line (edition_of second startup) job) at out.old out.new result }
-    ensures upper_bound { result ≤ at + plan_room (processors job + 1) }
+    requires valid { let job : Job = job_of startup speeds.now holds.now weights.now in Valid job × T (enough job) }
+    requires job_in_bounds { let job : Job = job_of startup speeds.now holds.now weights.now in at + plan_room (processors job + 1) ≤ length out.old }
+    ensures put { let job : Job = job_of startup speeds.now holds.now weights.now in Put (last_line (edition_of second startup) job) at out.old out.new result }
+    ensures upper_bound { let job : Job = job_of startup speeds.now holds.now weights.now in result ≤ at + plan_room (processors job + 1) }
 {
     if any_hold(startup, speeds, holds, weights) {
         return at;
@@ -151,11 +147,9 @@ fn put_counts_line(
     weights: &[u32],
     out: &mut [u8],
 ) -> usize
-    ghost job: { Job }
-    requires weights_value { job_of startup speeds.now holds.now weights.now ≡ job }
-    requires valid { Valid job }
+    requires valid { let job : Job = job_of startup speeds.now holds.now weights.now in Valid job }
     requires counts_room_in_bounds { counts_room ≤ length out.old }
-    ensures put { Put (counts_line job) 0 out.old out.new result }
+    ensures put { let job : Job = job_of startup speeds.now holds.now weights.now in Put (counts_line job) 0 out.old out.new result }
     ensures upper_bound { result ≤ counts_room }
 {
     let weight = total(weights);
@@ -174,11 +168,9 @@ fn list_job(
     weights: &[u32],
     out: &mut [u8],
 ) -> usize
-    ghost job: { Job }
-    requires weights_value { job_of startup speeds.now holds.now weights.now ≡ job }
-    requires valid { Valid job × T (enough job) }
+    requires valid { let job : Job = job_of startup speeds.now holds.now weights.now in Valid job × T (enough job) }
     requires listing_room_in_bounds { listing_room ≤ length out.old }
-    ensures put { Put (job_listing (edition_of second startup) job) 0 out.old out.new result }
+    ensures put { let job : Job = job_of startup speeds.now holds.now weights.now in Put (job_listing (edition_of second startup) job) 0 out.old out.new result }
     ensures upper_bound { result ≤ listing_room }
 {
     let mut next = put_counts_line(startup, speeds, holds, weights, out);
@@ -224,11 +216,9 @@ fn list_read(
     weights: &[u32],
     out: &mut [u8],
 ) -> usize
-    ghost job: { Job }
-    requires weights_value { job_of startup speeds.now holds.now weights.now ≡ job }
-    requires valid { Valid job }
+    requires valid { let job : Job = job_of startup speeds.now holds.now weights.now in Valid job }
     requires listing_room_in_bounds { listing_room ≤ length out.old }
-    ensures fact { let number = first_refusal (enough_test job ∷ []) in
+    ensures fact { let job : Job = job_of startup speeds.now holds.now weights.now in let number = first_refusal (enough_test job ∷ []) in
         Put (listing_by number (edition_of second startup) job) 0 out.old out.new result }
     ensures upper_bound { result ≤ listing_room }
 {

@@ -40,11 +40,9 @@ fn bound_to(
     a: usize,
     j: usize,
 ) -> Bound
-    ghost job: { Job }
-    requires weights_value { job_of startup speeds.now holds.now weights.now ≡ job }
-    requires ready { Ready job sums.now }
-    requires p_bound { (p < processors job) × (a ≤ j) × (j ≤ tasks job) }
-    ensures value { result ≡ part_bound job p a j }
+    requires ready { let job : Job = job_of startup speeds.now holds.now weights.now in Ready job sums.now }
+    requires p_bound { let job : Job = job_of startup speeds.now holds.now weights.now in (p < processors job) × (a ≤ j) × (j ≤ tasks job) }
+    ensures value { let job : Job = job_of startup speeds.now holds.now weights.now in result ≡ part_bound job p a j }
     ensures small { Small result }
 {
     part_bound(startup, speeds[p], sums, a, j)
@@ -62,13 +60,11 @@ fn trial_at(
     j: usize,
     separators: &mut [u32],
 ) -> bool
-    ghost job: { Job }
-    requires weights_value { job_of startup speeds.now holds.now weights.now ≡ job }
-    requires ready_free { ReadyFree job sums.now }
-    requires job_in_bounds { processors job < length separators.old }
-    requires p_bound { (p < processors job) × (a ≤ j) × (j ≤ tasks job) }
-    ensures value { result ≡ fits_at job p a j }
-    ensures kept_from { KeptFrom (suc (processors job)) separators.old separators.new }
+    requires ready_free { let job : Job = job_of startup speeds.now holds.now weights.now in ReadyFree job sums.now }
+    requires job_in_bounds { let job : Job = job_of startup speeds.now holds.now weights.now in processors job < length separators.old }
+    requires p_bound { let job : Job = job_of startup speeds.now holds.now weights.now in (p < processors job) × (a ≤ j) × (j ≤ tasks job) }
+    ensures value { let job : Job = job_of startup speeds.now holds.now weights.now in result ≡ fits_at job p a j }
+    ensures kept_from { let job : Job = job_of startup speeds.now holds.now weights.now in KeptFrom (suc (processors job)) separators.old separators.new }
 {
     let bound = bound_to(startup, speeds, holds, weights, sums, p, a, j);
     let answer = walk_from(
@@ -100,13 +96,11 @@ fn fits_at(
     j: usize,
     separators: &mut [u32],
 ) -> bool
-    ghost job: { Job }
-    requires weights_value { job_of startup speeds.now holds.now weights.now ≡ job }
-    requires ready_free { ReadyFree job sums.now }
-    requires job_in_bounds { processors job < length separators.old }
-    requires p_bound { (p < processors job) × (a ≤ j) × (j ≤ tasks job) }
-    ensures value { result ≡ fits_at job p a j }
-    ensures kept_from { KeptFrom (suc (processors job)) separators.old separators.new }
+    requires ready_free { let job : Job = job_of startup speeds.now holds.now weights.now in ReadyFree job sums.now }
+    requires job_in_bounds { let job : Job = job_of startup speeds.now holds.now weights.now in processors job < length separators.old }
+    requires p_bound { let job : Job = job_of startup speeds.now holds.now weights.now in (p < processors job) × (a ≤ j) × (j ≤ tasks job) }
+    ensures value { let job : Job = job_of startup speeds.now holds.now weights.now in result ≡ fits_at job p a j }
+    ensures kept_from { let job : Job = job_of startup speeds.now holds.now weights.now in KeptFrom (suc (processors job)) separators.old separators.new }
 {
     if startup == 0 {
         return trial_at(0, speeds, holds, weights, sums, p, a, j, separators);
@@ -125,14 +119,12 @@ fn first_fit(
     a: usize,
     separators: &mut [u32],
 ) -> FirstFit
-    ghost job: { Job }
-    requires weights_value { job_of startup speeds.now holds.now weights.now ≡ job }
-    requires ready_free { ReadyFree job sums.now }
-    requires job_in_bounds { processors job < length separators.old }
-    requires p_bound { (p < last job) × (a ≡ start_on job p) × Comes job p }
-    ensures index_value { result.index ≡ first_fit job p a }
-    ensures t { T (is_first (settled job p) result.trials) }
-    ensures kept_from { KeptFrom (suc (processors job)) separators.old separators.new }
+    requires ready_free { let job : Job = job_of startup speeds.now holds.now weights.now in ReadyFree job sums.now }
+    requires job_in_bounds { let job : Job = job_of startup speeds.now holds.now weights.now in processors job < length separators.old }
+    requires p_bound { let job : Job = job_of startup speeds.now holds.now weights.now in (p < last job) × (a ≡ start_on job p) × Comes job p }
+    ensures index_value { let job : Job = job_of startup speeds.now holds.now weights.now in result.index ≡ first_fit job p a }
+    ensures t { let job : Job = job_of startup speeds.now holds.now weights.now in T (is_first (settled job p) result.trials) }
+    ensures kept_from { let job : Job = job_of startup speeds.now holds.now weights.now in KeptFrom (suc (processors job)) separators.old separators.new }
 {
     let mut low = a;
     let mut high = weights.len();
@@ -161,13 +153,11 @@ pub fn nicol_in(
     sums: &[u32],
     separators: &mut [u32],
 ) -> Found
-    ghost job: { Job }
-    requires weights_value { job_of startup speeds.now holds.now weights.now ≡ job }
-    requires ready_free { ReadyFree job sums.now }
-    requires job_in_bounds { processors job < length separators.old }
-    ensures nicol_ends { NicolEnds job result.count result.bound }
+    requires ready_free { let job : Job = job_of startup speeds.now holds.now weights.now in ReadyFree job sums.now }
+    requires job_in_bounds { let job : Job = job_of startup speeds.now holds.now weights.now in processors job < length separators.old }
+    ensures nicol_ends { let job : Job = job_of startup speeds.now holds.now weights.now in NicolEnds job result.count result.bound }
     ensures lendable { Lendable result.bound }
-    ensures kept_from { KeptFrom (suc (processors job)) separators.old separators.new }
+    ensures kept_from { let job : Job = job_of startup speeds.now holds.now weights.now in KeptFrom (suc (processors job)) separators.old separators.new }
 {
     let last = speeds.len() - 1;
     let mut least = Bound::INFINITE;

@@ -162,10 +162,8 @@ pub fn started_bound(startup: u32, speed: u32, sums: &[u32], a: usize, b: usize)
 
 // Inner. The ideal, all weight over all speed.
 pub fn ideal_of(startup: u32, speeds: &[u32], holds: &[u16], weights: &[u32], sums: &[u32]) -> Bound
-    ghost job: { Job }
-    requires weights_value { job_of startup speeds.now holds.now weights.now ≡ job }
-    requires ready { Ready job sums.now }
-    ensures { result ≡ ideal job }
+    requires ready { let job : Job = job_of startup speeds.now holds.now weights.now in Ready job sums.now }
+    ensures { let job : Job = job_of startup speeds.now holds.now weights.now in result ≡ ideal job }
 {
     Bound {
         load: wide(sums[weights.len()]),
@@ -175,11 +173,9 @@ pub fn ideal_of(startup: u32, speeds: &[u32], holds: &[u16], weights: &[u32], su
 
 // Inner. The hold of processor p, 0 for no limit.
 pub fn hold_of(startup: u32, speeds: &[u32], holds: &[u16], weights: &[u32], p: usize) -> usize
-    ghost job: { Job }
-    requires weights_value { job_of startup speeds.now holds.now weights.now ≡ job }
-    requires valid { Valid job }
-    requires p_bound { p < processors job }
-    ensures value { result ≡ hold_of job p }
+    requires valid { let job : Job = job_of startup speeds.now holds.now weights.now in Valid job }
+    requires p_bound { let job : Job = job_of startup speeds.now holds.now weights.now in p < processors job }
+    ensures value { let job : Job = job_of startup speeds.now holds.now weights.now in result ≡ hold_of job p }
     ensures upper_bound { result < 2 ^ 16 }
 {
     hold_count(holds[p])
@@ -195,11 +191,9 @@ pub fn keeps_hold(
     a: usize,
     b: usize,
 ) -> bool
-    ghost job: { Job }
-    requires weights_value { job_of startup speeds.now holds.now weights.now ≡ job }
-    requires valid { Valid job }
-    requires p_bound { (p < processors job) × (a ≤ b) }
-    ensures { result ≡ keeps job p a b }
+    requires valid { let job : Job = job_of startup speeds.now holds.now weights.now in Valid job }
+    requires p_bound { let job : Job = job_of startup speeds.now holds.now weights.now in (p < processors job) × (a ≤ b) }
+    ensures { let job : Job = job_of startup speeds.now holds.now weights.now in result ≡ keeps job p a b }
 {
     let hold = hold_of(startup, speeds, holds, weights, p);
     if hold == 0 {
@@ -210,10 +204,8 @@ pub fn keeps_hold(
 
 // Inner. Whether some hold is set. It reads them all, so that several are looked at at once.
 pub fn any_hold(startup: u32, speeds: &[u32], holds: &[u16], weights: &[u32]) -> bool
-    ghost job: { Job }
-    requires weights_value { job_of startup speeds.now holds.now weights.now ≡ job }
-    requires valid { Valid job }
-    ensures { result ≡ held job }
+    requires valid { let job : Job = job_of startup speeds.now holds.now weights.now in Valid job }
+    ensures { let job : Job = job_of startup speeds.now holds.now weights.now in result ≡ held job }
 {
     let mut any = false;
     let mut p = 0;
@@ -236,12 +228,10 @@ fn bound_at(
     separators: &[u32],
     p: usize,
 ) -> Bound
-    ghost job: { Job }
-    requires weights_value { job_of startup speeds.now holds.now weights.now ≡ job }
-    requires ready { Ready job sums.now }
-    requires partition { Partition job (take (suc (processors job)) separators.now) }
-    requires p_bound { p < processors job }
-    ensures { result ≡ bound_at job separators.now p }
+    requires ready { let job : Job = job_of startup speeds.now holds.now weights.now in Ready job sums.now }
+    requires partition { let job : Job = job_of startup speeds.now holds.now weights.now in Partition job (take (suc (processors job)) separators.now) }
+    requires p_bound { let job : Job = job_of startup speeds.now holds.now weights.now in p < processors job }
+    ensures { let job : Job = job_of startup speeds.now holds.now weights.now in result ≡ bound_at job separators.now p }
 {
     let a = index(separators[p]);
     let b = index(separators[p + 1]);
@@ -257,12 +247,10 @@ pub fn measure_parts(
     sums: &[u32],
     separators: &[u32],
 ) -> Bound
-    ghost job: { Job }
-    requires weights_value { job_of startup speeds.now holds.now weights.now ≡ job }
-    requires ready { Ready job sums.now }
-    requires partition { Partition job (take (suc (processors job)) separators.now) }
-    ensures value { result ≡ bottleneck job separators.now }
-    ensures value_2 { result ≡ bottleneck job (take (suc (processors job)) separators.now) }
+    requires ready { let job : Job = job_of startup speeds.now holds.now weights.now in Ready job sums.now }
+    requires partition { let job : Job = job_of startup speeds.now holds.now weights.now in Partition job (take (suc (processors job)) separators.now) }
+    ensures value { let job : Job = job_of startup speeds.now holds.now weights.now in result ≡ bottleneck job separators.now }
+    ensures value_2 { let job : Job = job_of startup speeds.now holds.now weights.now in result ≡ bottleneck job (take (suc (processors job)) separators.now) }
 {
     let last = speeds.len() - 1;
     let mut greatest = bound_at(startup, speeds, holds, weights, sums, separators, 0);
@@ -284,12 +272,10 @@ pub fn measure_in(
     sums: &[u32],
     separators: &[u32],
 ) -> Bound
-    ghost job: { Job }
-    requires weights_value { job_of startup speeds.now holds.now weights.now ≡ job }
-    requires ready { Ready job sums.now }
-    requires partition { Partition job (take (suc (processors job)) separators.now) }
-    ensures value { result ≡ bottleneck job separators.now }
-    ensures value_2 { result ≡ bottleneck job (take (suc (processors job)) separators.now) }
+    requires ready { let job : Job = job_of startup speeds.now holds.now weights.now in Ready job sums.now }
+    requires partition { let job : Job = job_of startup speeds.now holds.now weights.now in Partition job (take (suc (processors job)) separators.now) }
+    ensures value { let job : Job = job_of startup speeds.now holds.now weights.now in result ≡ bottleneck job separators.now }
+    ensures value_2 { let job : Job = job_of startup speeds.now holds.now weights.now in result ≡ bottleneck job (take (suc (processors job)) separators.now) }
 {
     if startup == 0 {
         return measure_parts(0, speeds, holds, weights, sums, separators);

@@ -23,12 +23,10 @@ fn put_plan_record(
     p: usize,
     plan: &mut [u8],
 )
-    ghost job: { Job }
-    requires weights_value { job_of startup speeds.now holds.now weights.now ≡ job }
-    requires ready { Ready job sums.now }
-    requires partition { Partition job (take (suc (processors job)) separators.now) }
-    requires p_bound { (p < processors job) × (plan_record_size * p + plan_record_size ≤ length plan.old) }
-    ensures { plan.new
+    requires ready { let job : Job = job_of startup speeds.now holds.now weights.now in Ready job sums.now }
+    requires partition { let job : Job = job_of startup speeds.now holds.now weights.now in Partition job (take (suc (processors job)) separators.now) }
+    requires p_bound { let job : Job = job_of startup speeds.now holds.now weights.now in (p < processors job) × (plan_record_size * p + plan_record_size ≤ length plan.old) }
+    ensures { let job : Job = job_of startup speeds.now holds.now weights.now in plan.new
         ≡ take (plan_record_size * p) plan.old ++ plan_record job separators.now p
         ++ drop (plan_record_size * p + plan_record_size) plan.old }
 {
@@ -52,12 +50,10 @@ pub fn put_plan(
     separators: &[u32],
     plan: &mut [u8],
 )
-    ghost job: { Job }
-    requires weights_value { job_of startup speeds.now holds.now weights.now ≡ job }
-    requires ready { Ready job sums.now }
-    requires partition { Partition job (take (suc (processors job)) separators.now) }
-    requires job_in_bounds { plan_needed job ≤ length plan.old }
-    ensures { plan.new ≡ plan_bytes job separators.now ++ drop (plan_needed job) plan.old }
+    requires ready { let job : Job = job_of startup speeds.now holds.now weights.now in Ready job sums.now }
+    requires partition { let job : Job = job_of startup speeds.now holds.now weights.now in Partition job (take (suc (processors job)) separators.now) }
+    requires job_in_bounds { let job : Job = job_of startup speeds.now holds.now weights.now in plan_needed job ≤ length plan.old }
+    ensures { let job : Job = job_of startup speeds.now holds.now weights.now in plan.new ≡ plan_bytes job separators.now ++ drop (plan_needed job) plan.old }
 {
     let mut p = 0;
     while p < speeds.len() {

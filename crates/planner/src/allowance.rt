@@ -25,10 +25,8 @@ fn greatest_of(values: &[u32]) -> u32
 
 // The weight and the start-up work in D: the heaviest weight, all weight where a hold is set. Inner.
 fn breadth_of(startup: u32, speeds: &[u32], holds: &[u16], weights: &[u32]) -> u64
-    ghost job: { Job }
-    requires weights_value { job_of startup speeds.now holds.now weights.now ≡ job }
-    requires valid { Valid job }
-    ensures { result ≡ breadth job }
+    requires valid { let job : Job = job_of startup speeds.now holds.now weights.now in Valid job }
+    ensures { let job : Job = job_of startup speeds.now holds.now weights.now in result ≡ breadth job }
 {
     if any_hold(startup, speeds, holds, weights) {
         return parts::total(weights) + wide(startup);
@@ -38,10 +36,8 @@ fn breadth_of(startup: u32, speeds: &[u32], holds: &[u16], weights: &[u32]) -> u
 
 // D, that weight and the start-up work, times the fastest speed squared, over the slowest speed. Inner.
 fn difference_of(startup: u32, speeds: &[u32], holds: &[u16], weights: &[u32]) -> u64
-    ghost job: { Job }
-    requires weights_value { job_of startup speeds.now holds.now weights.now ≡ job }
-    requires valid { Valid job }
-    ensures { result ≡ difference job }
+    requires valid { let job : Job = job_of startup speeds.now holds.now weights.now in Valid job }
+    ensures { let job : Job = job_of startup speeds.now holds.now weights.now in result ≡ difference job }
 {
     let breadth = breadth_of(startup, speeds, holds, weights);
     let fastest = wide(greatest_of(speeds));
@@ -82,10 +78,8 @@ pub fn allowance_of(
     holds: &[u16],
     weights: &[u32],
 ) -> u32
-    ghost job: { Job }
-    requires weights_value { job_of startup speeds.now holds.now weights.now ≡ job }
-    requires valid { Valid job }
-    ensures { result ≡ allowance (edition_of second startup) method job }
+    requires valid { let job : Job = job_of startup speeds.now holds.now weights.now in Valid job }
+    ensures { let job : Job = job_of startup speeds.now holds.now weights.now in result ≡ allowance (edition_of second startup) method job }
 {
     let last = speeds.len() - 1;
     let most = last * weights.len();

@@ -33,12 +33,10 @@ fn write_in(
     scratch: &mut [u32],
     plan: &mut [u8],
 )
-    ghost job: { Job }
-    requires weights_value { job_of startup speeds.now holds.now weights.now ≡ job }
-    requires tested { Tested method job }
-    requires room { Room method job scratch.old }
-    requires job_in_bounds { plan_needed job ≤ length plan.old }
-    ensures { plan.new ≡ plan_bytes job (plan_of job) ++ drop (plan_needed job) plan.old }
+    requires tested { let job : Job = job_of startup speeds.now holds.now weights.now in Tested method job }
+    requires room { let job : Job = job_of startup speeds.now holds.now weights.now in Room method job scratch.old }
+    requires job_in_bounds { let job : Job = job_of startup speeds.now holds.now weights.now in plan_needed job ≤ length plan.old }
+    ensures { let job : Job = job_of startup speeds.now holds.now weights.now in plan.new ≡ plan_bytes job (plan_of job) ++ drop (plan_needed job) plan.old }
 {
     let mut separators = [0u32; super::SEPARATORS];
     super::divide_in(
@@ -62,11 +60,9 @@ fn write_tabled(
     weights: &[u32],
     plan: &mut [u8],
 )
-    ghost job: { Job }
-    requires weights_value { job_of startup speeds.now holds.now weights.now ≡ job }
-    requires tested { Tested method job }
-    requires job_in_bounds { plan_needed job ≤ length plan.old }
-    ensures { plan.new ≡ plan_bytes job (plan_of job) ++ drop (plan_needed job) plan.old }
+    requires tested { let job : Job = job_of startup speeds.now holds.now weights.now in Tested method job }
+    requires job_in_bounds { let job : Job = job_of startup speeds.now holds.now weights.now in plan_needed job ≤ length plan.old }
+    ensures { let job : Job = job_of startup speeds.now holds.now weights.now in plan.new ≡ plan_bytes job (plan_of job) ++ drop (plan_needed job) plan.old }
 {
     let mut scratch = [0u32; super::SCRATCH];
     write_in(method, startup, speeds, holds, weights, &mut scratch, plan);
@@ -81,12 +77,10 @@ fn write_few(
     weights: &[u32],
     plan: &mut [u8],
 )
-    ghost job: { Job }
-    requires weights_value { job_of startup speeds.now holds.now weights.now ≡ job }
-    requires tested { Tested method job }
-    requires method_nonzero { (number_of method ≢ 1) × (tasks job < few) }
-    requires job_in_bounds { plan_needed job ≤ length plan.old }
-    ensures { plan.new ≡ plan_bytes job (plan_of job) ++ drop (plan_needed job) plan.old }
+    requires tested { let job : Job = job_of startup speeds.now holds.now weights.now in Tested method job }
+    requires method_nonzero { let job : Job = job_of startup speeds.now holds.now weights.now in (number_of method ≢ 1) × (tasks job < few) }
+    requires job_in_bounds { let job : Job = job_of startup speeds.now holds.now weights.now in plan_needed job ≤ length plan.old }
+    ensures { let job : Job = job_of startup speeds.now holds.now weights.now in plan.new ≡ plan_bytes job (plan_of job) ++ drop (plan_needed job) plan.old }
 {
     let mut sums = [0u32; FEW];
     write_in(method, startup, speeds, holds, weights, &mut sums, plan);
@@ -101,12 +95,10 @@ fn write_searched(
     weights: &[u32],
     plan: &mut [u8],
 )
-    ghost job: { Job }
-    requires weights_value { job_of startup speeds.now holds.now weights.now ≡ job }
-    requires tested { Tested method job }
+    requires tested { let job : Job = job_of startup speeds.now holds.now weights.now in Tested method job }
     requires method_nonzero { number_of method ≢ 1 }
-    requires job_in_bounds { plan_needed job ≤ length plan.old }
-    ensures { plan.new ≡ plan_bytes job (plan_of job) ++ drop (plan_needed job) plan.old }
+    requires job_in_bounds { let job : Job = job_of startup speeds.now holds.now weights.now in plan_needed job ≤ length plan.old }
+    ensures { let job : Job = job_of startup speeds.now holds.now weights.now in plan.new ≡ plan_bytes job (plan_of job) ++ drop (plan_needed job) plan.old }
 {
     let mut sums = [0u32; super::SUMS];
     write_in(method, startup, speeds, holds, weights, &mut sums, plan);
@@ -136,10 +128,8 @@ fn write_best(
 
 // Inner. The tests of the holds of a job that is to be planned by the method: 0, 17 or, for method 4, 18.
 fn test_kept(method: Method, startup: u32, speeds: &[u32], holds: &[u16], weights: &[u32]) -> u32
-    ghost job: { Job }
-    requires weights_value { job_of startup speeds.now holds.now weights.now ≡ job }
-    requires valid { Valid job }
-    ensures { result ≡ first_refusal (hold_tests (number_of method) job) }
+    requires valid { let job : Job = job_of startup speeds.now holds.now weights.now in Valid job }
+    ensures { let job : Job = job_of startup speeds.now holds.now weights.now in result ≡ first_refusal (hold_tests (number_of method) job) }
 {
     let by_holds = test_enough(startup, speeds, holds, weights);
     if by_holds != 0 {
@@ -160,10 +150,8 @@ fn plan_read(
     weights: &[u32],
     plan: &mut [u8],
 ) -> u32
-    ghost job: { Job }
-    requires weights_value { job_of startup speeds.now holds.now weights.now ≡ job }
-    requires valid { Valid job }
-    ensures { Host (number_of method) job plan.old plan.new result }
+    requires valid { let job : Job = job_of startup speeds.now holds.now weights.now in Valid job }
+    ensures { let job : Job = job_of startup speeds.now holds.now weights.now in Host (number_of method) job plan.old plan.new result }
 {
     if plan.len() < PLAN_RECORD * speeds.len() {
         return 9;

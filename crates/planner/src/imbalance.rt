@@ -17,11 +17,9 @@ pub fn imbalance_of(
     total: u64,
     bottleneck: Bound,
 ) -> u64
-    ghost job: { Job }
-    requires weights_value { job_of startup speeds.now holds.now weights.now ≡ job }
-    requires valid { Valid job }
-    requires total_value { (total ≡ sum weights.now) × Small bottleneck × (ideal job ≼ bottleneck) }
-    ensures { result ≡ imbalance job bottleneck }
+    requires valid { let job : Job = job_of startup speeds.now holds.now weights.now in Valid job }
+    requires total_value { let job : Job = job_of startup speeds.now holds.now weights.now in (total ≡ sum weights.now) × Small bottleneck × (ideal job ≼ bottleneck) }
+    ensures { let job : Job = job_of startup speeds.now holds.now weights.now in result ≡ imbalance job bottleneck }
 {
     let speed = parts::total(speeds);
     if Bound::is_nought(Bound { load: total, speed }) {

@@ -77,16 +77,14 @@ fn run_method(
     separators: &mut [u32],
     scratch: &mut [u32],
 ) -> Ended
-    ghost job: { Job }
-    requires weights_value { job_of startup speeds.now holds.now weights.now ≡ job }
-    requires ready { Ready job scratch.old × Tested method job }
-    requires job_in_bounds { (processors job < length separators.old) × Room method job scratch.old }
-    ensures method_ends { MethodEnds method job result.count result.bound }
+    requires ready { let job : Job = job_of startup speeds.now holds.now weights.now in Ready job scratch.old × Tested method job }
+    requires job_in_bounds { let job : Job = job_of startup speeds.now holds.now weights.now in (processors job < length separators.old) × Room method job scratch.old }
+    ensures method_ends { let job : Job = job_of startup speeds.now holds.now weights.now in MethodEnds method job result.count result.bound }
     ensures lendable { Lendable result.bound }
-    ensures kept_from { KeptFrom (suc (processors job)) separators.old separators.new }
-    ensures ready_2 { Ready job scratch.new }
-    ensures kept_from_2 { KeptFrom (scratch_needed job) scratch.old scratch.new }
-    ensures closed { Closed job result.closed result.measured separators.new }
+    ensures kept_from { let job : Job = job_of startup speeds.now holds.now weights.now in KeptFrom (suc (processors job)) separators.old separators.new }
+    ensures ready_2 { let job : Job = job_of startup speeds.now holds.now weights.now in Ready job scratch.new }
+    ensures kept_from_2 { let job : Job = job_of startup speeds.now holds.now weights.now in KeptFrom (scratch_needed job) scratch.old scratch.new }
+    ensures closed { let job : Job = job_of startup speeds.now holds.now weights.now in Closed job result.closed result.measured separators.new }
 {
     match method {
         Method::Table => open(table_in(startup, speeds, holds, weights, scratch)),
@@ -107,15 +105,13 @@ fn close_walk(
     ended: Ended,
     separators: &mut [u32],
 ) -> Bound
-    ghost job: { Job }
-    requires weights_value { job_of startup speeds.now holds.now weights.now ≡ job }
-    requires ready { Ready job sums.now }
-    requires job_in_bounds { processors job < length separators.old }
-    requires bound_value { (walk job ended.bound ≡ plan_of job) × Partition job (plan_of job) }
+    requires ready { let job : Job = job_of startup speeds.now holds.now weights.now in Ready job sums.now }
+    requires job_in_bounds { let job : Job = job_of startup speeds.now holds.now weights.now in processors job < length separators.old }
+    requires bound_value { let job : Job = job_of startup speeds.now holds.now weights.now in (walk job ended.bound ≡ plan_of job) × Partition job (plan_of job) }
     requires lendable { Lendable ended.bound }
-    requires closed { Closed job ended.closed ended.measured separators.old }
-    ensures value { result ≡ bottleneck job (plan_of job) }
-    ensures separators_after { separators.new ≡ plan_of job ++ drop (suc (processors job)) separators.old }
+    requires closed { let job : Job = job_of startup speeds.now holds.now weights.now in Closed job ended.closed ended.measured separators.old }
+    ensures value { let job : Job = job_of startup speeds.now holds.now weights.now in result ≡ bottleneck job (plan_of job) }
+    ensures separators_after { let job : Job = job_of startup speeds.now holds.now weights.now in separators.new ≡ plan_of job ++ drop (suc (processors job)) separators.old }
 {
     if ended.closed {
         return ended.measured;
@@ -138,14 +134,12 @@ fn divide_in(
     separators: &mut [u32],
     scratch: &mut [u32],
 ) -> Ended
-    ghost job: { Job }
-    requires weights_value { job_of startup speeds.now holds.now weights.now ≡ job }
-    requires tested { Tested method job }
-    requires job_in_bounds { (processors job < length separators.old) × Room method job scratch.old }
-    ensures method_ends { MethodEnds method job result.count result.bound × (result.measured ≡ bottleneck job (plan_of job)) }
-    ensures separators_after { separators.new ≡ plan_of job ++ drop (suc (processors job)) separators.old }
-    ensures kept_from { KeptFrom (scratch_needed job) scratch.old scratch.new }
-    ensures ready { Ready job scratch.new }
+    requires tested { let job : Job = job_of startup speeds.now holds.now weights.now in Tested method job }
+    requires job_in_bounds { let job : Job = job_of startup speeds.now holds.now weights.now in (processors job < length separators.old) × Room method job scratch.old }
+    ensures method_ends { let job : Job = job_of startup speeds.now holds.now weights.now in MethodEnds method job result.count result.bound × (result.measured ≡ bottleneck job (plan_of job)) }
+    ensures separators_after { let job : Job = job_of startup speeds.now holds.now weights.now in separators.new ≡ plan_of job ++ drop (suc (processors job)) separators.old }
+    ensures kept_from { let job : Job = job_of startup speeds.now holds.now weights.now in KeptFrom (scratch_needed job) scratch.old scratch.new }
+    ensures ready { let job : Job = job_of startup speeds.now holds.now weights.now in Ready job scratch.new }
 {
     prefix_sums(weights, scratch);
     let ended = run_method(method, startup, speeds, holds, weights, separators, scratch);
@@ -171,11 +165,9 @@ fn figures_of(
     sums: &[u32],
     ended: Ended,
 ) -> Figures
-    ghost job: { Job }
-    requires weights_value { job_of startup speeds.now holds.now weights.now ≡ job }
-    requires ready { Ready job sums.now × Tested method job }
-    requires method_ends { MethodEnds method job ended.count ended.bound × (ended.measured ≡ bottleneck job (plan_of job)) }
-    ensures { result ≡ plan_figures (edition_of second startup) method job }
+    requires ready { let job : Job = job_of startup speeds.now holds.now weights.now in Ready job sums.now × Tested method job }
+    requires method_ends { let job : Job = job_of startup speeds.now holds.now weights.now in MethodEnds method job ended.count ended.bound × (ended.measured ≡ bottleneck job (plan_of job)) }
+    ensures { let job : Job = job_of startup speeds.now holds.now weights.now in result ≡ plan_figures (edition_of second startup) method job }
 {
     let counted = ended.count;
     let bottleneck = ended.measured;
@@ -201,14 +193,12 @@ pub fn plan_in(
     separators: &mut [u32],
     scratch: &mut [u32],
 ) -> Figures
-    ghost job: { Job }
-    requires weights_value { job_of startup speeds.now holds.now weights.now ≡ job }
-    requires tested { Tested method job }
-    requires job_in_bounds { (processors job < length separators.old) × (scratch_needed job ≤ length scratch.old) }
-    ensures value { result ≡ plan_figures (edition_of second startup) method job }
-    ensures separators_after { separators.new ≡ plan_of job ++ drop (suc (processors job)) separators.old }
-    ensures kept_from { KeptFrom (scratch_needed job) scratch.old scratch.new }
-    ensures ready { Ready job scratch.new }
+    requires tested { let job : Job = job_of startup speeds.now holds.now weights.now in Tested method job }
+    requires job_in_bounds { let job : Job = job_of startup speeds.now holds.now weights.now in (processors job < length separators.old) × (scratch_needed job ≤ length scratch.old) }
+    ensures value { let job : Job = job_of startup speeds.now holds.now weights.now in result ≡ plan_figures (edition_of second startup) method job }
+    ensures separators_after { let job : Job = job_of startup speeds.now holds.now weights.now in separators.new ≡ plan_of job ++ drop (suc (processors job)) separators.old }
+    ensures kept_from { let job : Job = job_of startup speeds.now holds.now weights.now in KeptFrom (scratch_needed job) scratch.old scratch.new }
+    ensures ready { let job : Job = job_of startup speeds.now holds.now weights.now in Ready job scratch.new }
 {
     let ended = divide_in(method, startup, speeds, holds, weights, separators, scratch);
     figures_of(

@@ -73,12 +73,10 @@ pub fn bound_end(
     bound: Bound,
     hint: usize,
 ) -> usize
-    ghost job: { Job }
-    requires weights_value { job_of startup speeds.now holds.now weights.now ≡ job }
-    requires ready { Ready job sums.now }
+    requires ready { let job : Job = job_of startup speeds.now holds.now weights.now in Ready job sums.now }
     requires lendable { Lendable bound }
-    requires p_bound { (p < processors job) × (a ≤ tasks job) }
-    ensures { EndsBy job p a bound result }
+    requires p_bound { let job : Job = job_of startup speeds.now holds.now weights.now in (p < processors job) × (a ≤ tasks job) }
+    ensures { let job : Job = job_of startup speeds.now holds.now weights.now in EndsBy job p a bound result }
 {
     let n = weights.len();
     let limit = most_load(bound, speeds[p]);
@@ -120,12 +118,10 @@ pub fn part_end(
     bound: Bound,
     hint: usize,
 ) -> usize
-    ghost job: { Job }
-    requires weights_value { job_of startup speeds.now holds.now weights.now ≡ job }
-    requires ready { Ready job sums.now }
+    requires ready { let job : Job = job_of startup speeds.now holds.now weights.now in Ready job sums.now }
     requires lendable { Lendable bound }
-    requires p_bound { (p < processors job) × (a ≤ tasks job) }
-    ensures { result ≡ reach job p a bound }
+    requires p_bound { let job : Job = job_of startup speeds.now holds.now weights.now in (p < processors job) × (a ≤ tasks job) }
+    ensures { let job : Job = job_of startup speeds.now holds.now weights.now in result ≡ reach job p a bound }
 {
     let end = bound_end(startup, speeds, holds, weights, sums, p, a, bound, hint);
     kept_end(hold_of(startup, speeds, holds, weights, p), a, end)
@@ -143,11 +139,9 @@ pub fn bid_of(
     a: usize,
     end: usize,
 ) -> Bound
-    ghost job: { Job }
-    requires weights_value { job_of startup speeds.now holds.now weights.now ≡ job }
-    requires ready { Ready job sums.now }
-    requires p_bound { (p < processors job) × (a ≤ end) × (end < tasks job) }
-    ensures value { result ≡ offer job p a (suc end) }
+    requires ready { let job : Job = job_of startup speeds.now holds.now weights.now in Ready job sums.now }
+    requires p_bound { let job : Job = job_of startup speeds.now holds.now weights.now in (p < processors job) × (a ≤ end) × (end < tasks job) }
+    ensures value { let job : Job = job_of startup speeds.now holds.now weights.now in result ≡ offer job p a (suc end) }
     ensures narrow { Narrow result }
 {
     if !keeps_hold(startup, speeds, holds, weights, p, a, end + 1) {
@@ -166,11 +160,9 @@ pub fn rest_of(
     p: usize,
     a: usize,
 ) -> Bound
-    ghost job: { Job }
-    requires weights_value { job_of startup speeds.now holds.now weights.now ≡ job }
-    requires ready { Ready job sums.now }
-    requires p_bound { (p < processors job) × (a ≤ tasks job) }
-    ensures value { result ≡ offer job p a (tasks job) }
+    requires ready { let job : Job = job_of startup speeds.now holds.now weights.now in Ready job sums.now }
+    requires p_bound { let job : Job = job_of startup speeds.now holds.now weights.now in (p < processors job) × (a ≤ tasks job) }
+    ensures value { let job : Job = job_of startup speeds.now holds.now weights.now in result ≡ offer job p a (tasks job) }
     ensures narrow { Narrow result }
 {
     if !keeps_hold(startup, speeds, holds, weights, p, a, weights.len()) {
@@ -191,12 +183,10 @@ pub fn free_end(
     bound: Bound,
     hint: usize,
 ) -> usize
-    ghost job: { Job }
-    requires weights_value { job_of startup speeds.now holds.now weights.now ≡ job }
-    requires ready_free { ReadyFree job sums.now }
+    requires ready_free { let job : Job = job_of startup speeds.now holds.now weights.now in ReadyFree job sums.now }
     requires lendable { Lendable bound }
-    requires p_bound { (p < processors job) × (a ≤ tasks job) }
-    ensures { result ≡ reach job p a bound }
+    requires p_bound { let job : Job = job_of startup speeds.now holds.now weights.now in (p < processors job) × (a ≤ tasks job) }
+    ensures { let job : Job = job_of startup speeds.now holds.now weights.now in result ≡ reach job p a bound }
 {
     bound_end(startup, speeds, holds, weights, sums, p, a, bound, hint)
 }
@@ -212,11 +202,9 @@ pub fn free_bid(
     a: usize,
     end: usize,
 ) -> Bound
-    ghost job: { Job }
-    requires weights_value { job_of startup speeds.now holds.now weights.now ≡ job }
-    requires ready_free { ReadyFree job sums.now }
-    requires p_bound { (p < processors job) × (a ≤ end) × (end < tasks job) }
-    ensures value { result ≡ offer job p a (suc end) }
+    requires ready_free { let job : Job = job_of startup speeds.now holds.now weights.now in ReadyFree job sums.now }
+    requires p_bound { let job : Job = job_of startup speeds.now holds.now weights.now in (p < processors job) × (a ≤ end) × (end < tasks job) }
+    ensures value { let job : Job = job_of startup speeds.now holds.now weights.now in result ≡ offer job p a (suc end) }
     ensures narrow { Narrow result }
 {
     started_bound(startup, speeds[p], sums, a, end + 1)
@@ -232,11 +220,9 @@ pub fn free_rest(
     p: usize,
     a: usize,
 ) -> Bound
-    ghost job: { Job }
-    requires weights_value { job_of startup speeds.now holds.now weights.now ≡ job }
-    requires ready_free { ReadyFree job sums.now }
-    requires p_bound { (p < processors job) × (a ≤ tasks job) }
-    ensures value { result ≡ offer job p a (tasks job) }
+    requires ready_free { let job : Job = job_of startup speeds.now holds.now weights.now in ReadyFree job sums.now }
+    requires p_bound { let job : Job = job_of startup speeds.now holds.now weights.now in (p < processors job) × (a ≤ tasks job) }
+    ensures value { let job : Job = job_of startup speeds.now holds.now weights.now in result ≡ offer job p a (tasks job) }
     ensures narrow { Narrow result }
 {
     part_bound(startup, speeds[p], sums, a, weights.len())
@@ -275,14 +261,12 @@ fn walk_held(
     point: Point,
     separators: &mut [u32],
 ) -> Outcome
-    ghost job: { Job }
-    requires weights_value { job_of startup speeds.now holds.now weights.now ≡ job }
-    requires ready { Ready job sums.now }
+    requires ready { let job : Job = job_of startup speeds.now holds.now weights.now in Ready job sums.now }
     requires lendable { Lendable bound }
-    requires job_in_bounds { processors job < length separators.old }
-    requires reached { Reached job bound separators.old point }
-    ensures value { result ≡ probe job bound }
-    ensures separators_after { separators.new ≡ begun job bound separators.old }
+    requires job_in_bounds { let job : Job = job_of startup speeds.now holds.now weights.now in processors job < length separators.old }
+    requires reached { let job : Job = job_of startup speeds.now holds.now weights.now in Reached job bound separators.old point }
+    ensures value { let job : Job = job_of startup speeds.now holds.now weights.now in result ≡ probe job bound }
+    ensures separators_after { let job : Job = job_of startup speeds.now holds.now weights.now in separators.new ≡ begun job bound separators.old }
 {
     let count = speeds.len();
     let last = count - 1;
@@ -326,14 +310,12 @@ fn walk_free(
     point: Point,
     separators: &mut [u32],
 ) -> Outcome
-    ghost job: { Job }
-    requires weights_value { job_of startup speeds.now holds.now weights.now ≡ job }
-    requires ready_free { ReadyFree job sums.now }
+    requires ready_free { let job : Job = job_of startup speeds.now holds.now weights.now in ReadyFree job sums.now }
     requires lendable { Lendable bound }
-    requires job_in_bounds { processors job < length separators.old }
-    requires reached { Reached job bound separators.old point }
-    ensures value { result ≡ probe job bound }
-    ensures separators_after { separators.new ≡ begun job bound separators.old }
+    requires job_in_bounds { let job : Job = job_of startup speeds.now holds.now weights.now in processors job < length separators.old }
+    requires reached { let job : Job = job_of startup speeds.now holds.now weights.now in Reached job bound separators.old point }
+    ensures value { let job : Job = job_of startup speeds.now holds.now weights.now in result ≡ probe job bound }
+    ensures separators_after { let job : Job = job_of startup speeds.now holds.now weights.now in separators.new ≡ begun job bound separators.old }
 {
     let count = speeds.len();
     let last = count - 1;
@@ -378,15 +360,13 @@ pub fn walk_from(
     point: Point,
     separators: &mut [u32],
 ) -> Outcome
-    ghost job: { Job }
-    requires weights_value { job_of startup speeds.now holds.now weights.now ≡ job }
-    requires ready { Ready job sums.now }
+    requires ready { let job : Job = job_of startup speeds.now holds.now weights.now in Ready job sums.now }
     requires lendable { Lendable bound }
-    requires job_in_bounds { processors job < length separators.old }
-    requires reached { Reached job bound separators.old point }
-    requires held_value { held ≡ counts.held job }
-    ensures value { result ≡ probe job bound }
-    ensures separators_after { separators.new ≡ begun job bound separators.old }
+    requires job_in_bounds { let job : Job = job_of startup speeds.now holds.now weights.now in processors job < length separators.old }
+    requires reached { let job : Job = job_of startup speeds.now holds.now weights.now in Reached job bound separators.old point }
+    requires held_value { let job : Job = job_of startup speeds.now holds.now weights.now in held ≡ counts.held job }
+    ensures value { let job : Job = job_of startup speeds.now holds.now weights.now in result ≡ probe job bound }
+    ensures separators_after { let job : Job = job_of startup speeds.now holds.now weights.now in separators.new ≡ begun job bound separators.old }
 {
     if held {
         return walk_held(
@@ -420,14 +400,12 @@ pub fn probe_in(
     bound: Bound,
     separators: &mut [u32],
 ) -> Outcome
-    ghost job: { Job }
-    requires weights_value { job_of startup speeds.now holds.now weights.now ≡ job }
-    requires ready { Ready job sums.now }
+    requires ready { let job : Job = job_of startup speeds.now holds.now weights.now in Ready job sums.now }
     requires lendable { Lendable bound }
-    requires job_in_bounds { processors job < length separators.old }
-    requires held_value { held ≡ counts.held job }
-    ensures value { result ≡ probe job bound }
-    ensures separators_after { separators.new ≡ walk job bound ++ drop (suc (processors job)) separators.old }
+    requires job_in_bounds { let job : Job = job_of startup speeds.now holds.now weights.now in processors job < length separators.old }
+    requires held_value { let job : Job = job_of startup speeds.now holds.now weights.now in held ≡ counts.held job }
+    ensures value { let job : Job = job_of startup speeds.now holds.now weights.now in result ≡ probe job bound }
+    ensures separators_after { let job : Job = job_of startup speeds.now holds.now weights.now in separators.new ≡ walk job bound ++ drop (suc (processors job)) separators.old }
 {
     let count = speeds.len();
     let n = narrow(weights.len());
@@ -459,14 +437,12 @@ pub fn walked_in(
     bound: Bound,
     separators: &mut [u32],
 ) -> Outcome
-    ghost job: { Job }
-    requires weights_value { job_of startup speeds.now holds.now weights.now ≡ job }
-    requires ready { Ready job sums.now }
+    requires ready { let job : Job = job_of startup speeds.now holds.now weights.now in Ready job sums.now }
     requires lendable { Lendable bound }
-    requires job_in_bounds { processors job < length separators.old }
-    requires held_value { held ≡ counts.held job }
-    ensures value { result ≡ probe job bound }
-    ensures separators_after { separators.new ≡ walked job bound ++ drop (suc (processors job)) separators.old }
+    requires job_in_bounds { let job : Job = job_of startup speeds.now holds.now weights.now in processors job < length separators.old }
+    requires held_value { let job : Job = job_of startup speeds.now holds.now weights.now in held ≡ counts.held job }
+    ensures value { let job : Job = job_of startup speeds.now holds.now weights.now in result ≡ probe job bound }
+    ensures separators_after { let job : Job = job_of startup speeds.now holds.now weights.now in separators.new ≡ walked job bound ++ drop (suc (processors job)) separators.old }
 {
     let answer = probe_in(
         startup, speeds, holds, weights, sums, held, bound, separators,

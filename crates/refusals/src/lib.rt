@@ -159,10 +159,8 @@ pub fn test_job(second: bool, startup: u32, speeds: &[u32], holds: &[u16], weigh
 
 // Inner. Whether the holds are enough: some processor has none, or all together they hold the tasks.
 pub fn enough_holds(startup: u32, speeds: &[u32], holds: &[u16], weights: &[u32]) -> bool
-    ghost job: { Job }
-    requires weights_value { job_of startup speeds.now holds.now weights.now ≡ job }
-    requires valid { Valid job }
-    ensures { result ≡ enough job }
+    requires valid { let job : Job = job_of startup speeds.now holds.now weights.now in Valid job }
+    ensures { let job : Job = job_of startup speeds.now holds.now weights.now in result ≡ enough job }
 {
     let mut sum = 0usize;
     let mut p = 0;
@@ -179,10 +177,8 @@ pub fn enough_holds(startup: u32, speeds: &[u32], holds: &[u16], weights: &[u32]
 
 // Inner. The test of the holds of a job that is to be divided: 0 or 17.
 pub fn test_enough(startup: u32, speeds: &[u32], holds: &[u16], weights: &[u32]) -> u32
-    ghost job: { Job }
-    requires weights_value { job_of startup speeds.now holds.now weights.now ≡ job }
-    requires valid { Valid job }
-    ensures { result ≡ first_refusal (enough_test job ∷ []) }
+    requires valid { let job : Job = job_of startup speeds.now holds.now weights.now in Valid job }
+    ensures { let job : Job = job_of startup speeds.now holds.now weights.now in result ≡ first_refusal (enough_test job ∷ []) }
 {
     if !enough_holds(startup, speeds, holds, weights) {
         return 17;
@@ -192,10 +188,8 @@ pub fn test_enough(startup: u32, speeds: &[u32], holds: &[u16], weights: &[u32])
 
 // Inner. The test of a call that takes no holds: 0 or 18.
 pub fn test_free(startup: u32, speeds: &[u32], holds: &[u16], weights: &[u32]) -> u32
-    ghost job: { Job }
-    requires weights_value { job_of startup speeds.now holds.now weights.now ≡ job }
-    requires valid { Valid job }
-    ensures { result ≡ first_refusal (free_test job ∷ []) }
+    requires valid { let job : Job = job_of startup speeds.now holds.now weights.now in Valid job }
+    ensures { let job : Job = job_of startup speeds.now holds.now weights.now in result ≡ first_refusal (free_test job ∷ []) }
 {
     if any_hold(startup, speeds, holds, weights) {
         return 18;
@@ -211,11 +205,9 @@ pub fn is_partition(
     weights: &[u32],
     separators: &[u32],
 ) -> bool
-    ghost job: { Job }
-    requires weights_value { job_of startup speeds.now holds.now weights.now ≡ job }
-    requires valid { Valid job }
-    requires job_in_bounds { processors job < length separators.now }
-    ensures { result ≡ is_partition job (take (suc (processors job)) separators.now) }
+    requires valid { let job : Job = job_of startup speeds.now holds.now weights.now in Valid job }
+    requires job_in_bounds { let job : Job = job_of startup speeds.now holds.now weights.now in processors job < length separators.now }
+    ensures { let job : Job = job_of startup speeds.now holds.now weights.now in result ≡ is_partition job (take (suc (processors job)) separators.now) }
 {
     if separators[0] != 0 {
         return false;
@@ -314,11 +306,9 @@ fn test_division(
     weights: &[u32],
     separators: &[u32],
 ) -> u32
-    ghost job: { Job }
-    requires weights_value { job_of startup speeds.now holds.now weights.now ≡ job }
-    requires valid { Valid job }
-    requires job_in_bounds { processors job < length separators.now }
-    ensures { result ≡ first_refusal (partition_test job separators.now ∷ []) }
+    requires valid { let job : Job = job_of startup speeds.now holds.now weights.now in Valid job }
+    requires job_in_bounds { let job : Job = job_of startup speeds.now holds.now weights.now in processors job < length separators.now }
+    ensures { let job : Job = job_of startup speeds.now holds.now weights.now in result ≡ first_refusal (partition_test job separators.now ∷ []) }
 {
     if !is_partition(startup, speeds, holds, weights, separators) {
         return 11;
@@ -346,10 +336,8 @@ pub fn test_separators(
 
 // Inner. The tests of a quick plan past those of the job, and of its row: 0, or the refusal: 9 or 18.
 fn test_quick(startup: u32, speeds: &[u32], holds: &[u16], weights: &[u32], lent: usize) -> u32
-    ghost job: { Job }
-    requires weights_value { job_of startup speeds.now holds.now weights.now ≡ job }
-    requires job_value { first_refusal (job_tests job) ≡ 0 }
-    ensures { result ≡ first_refusal (holds_test job ∷ length_test (separators_needed job) lent ∷ free_test job ∷ []) }
+    requires job_value { let job : Job = job_of startup speeds.now holds.now weights.now in first_refusal (job_tests job) ≡ 0 }
+    ensures { let job : Job = job_of startup speeds.now holds.now weights.now in result ≡ first_refusal (holds_test job ∷ length_test (separators_needed job) lent ∷ free_test job ∷ []) }
 {
     let by_holds = test_holds(startup, speeds, holds, weights);
     if by_holds != 0 {

@@ -1,0 +1,14 @@
+use Prim.Native.Nat.{◌+◌, ◌-◌, ◌≤◌}
+use mathlib.Core.Path.{subst, sym}
+use mathlib.Core.Logic.{⊎_elim}
+use native.Mathlib.Omega.{arith}
+use lib.ListN.{length}
+use Rattle.chain.proofs.Cut.{holds_long}
+use Rattle.parts.proofs.Held.{Seen, seen_start, seen_set, seen_zero, seen_end}
+use Rattle.parts.proofs.any_hold.Given as goal
+
+abbrev pub invariant-loop-p : goal.invariant-loop-p
+invariant-loop-p l = (l.p ≤ length l.speeds) × (length l.speeds ≤ length l.holds) × Seen l.holds l.p l.any
+
+abbrev pub decreases-loop-p : goal.decreases-loop-p
+decreases-loop-p l = length l.speeds - l.p

@@ -1,0 +1,25 @@
+-- `halve` meets its contract: a halved step goes on, or the entry there is above the cap.
+use Prim.Native.Nat.{◌-◌, ◌/◌}
+use native.Mathlib.Omega.{arith}
+use Rattle.parts.specs.Rising.{near, Rising, Spanned}
+use Rattle.parts.proofs.Search.{half_stays, half_goes, step_at_most}
+use Rattle.parts.proofs.halve.Goals as goal
+
+pub loop-step-init : goal.loop-step-init
+loop-step-init c = (c.requires.rising, c.requires.spanned)
+
+pub loop-step-preserved-then-xs-low : goal.loop-step-preserved-then-xs-low
+loop-step-preserved-then-xs-low c =
+    (c.loop-step.invariant.0, half_goes c.loop-step.invariant.0 c.loop-step.invariant.1 (c.loop-step.step - c.loop-step.step / 2) (omega arith) (omega arith) (omega arith))
+
+pub loop-step-preserved-else-xs-low : goal.loop-step-preserved-else-xs-low
+loop-step-preserved-else-xs-low c =
+    (c.loop-step.invariant.0, half_stays (c.loop-step.step - c.loop-step.step / 2) c.loop-step.invariant.1 (λ h. omega arith))
+
+pub loop-step-preserved : goal.loop-step-preserved
+loop-step-preserved c =
+    (c.loop-step.invariant.0, half_stays (c.loop-step.step - c.loop-step.step / 2) c.loop-step.invariant.1 (λ h. absurd (let z : ⊥ = omega arith in z)))
+
+pub returns : goal.returns
+returns c =
+    step_at_most c.loop-step.invariant.0 c.loop-step.invariant.1 near (omega arith)

@@ -1,0 +1,14 @@
+use Prim.Native.Nat.{◌-◌}
+use mathlib.Core.Path.{◌∙◌}
+use native.Mathlib.Omega.{arith}
+use lib.ListN.{length}
+use borrow.Author.Rules.{rules}
+use Rattle.chain.specs.Job.{job_of}
+use Rattle.parts.proofs.Measure.{Measured, bottleneck-take, measured_start, measured_products, measured_turn, measured_end}
+use Rattle.parts.proofs.measure_parts.Given as goal
+
+abbrev pub invariant-loop-p : goal.invariant-loop-p
+invariant-loop-p l = Measured (job_of l.startup l.speeds l.holds l.weights) l.separators l.p l.greatest
+
+abbrev pub decreases-loop-p : goal.decreases-loop-p
+decreases-loop-p l = length l.speeds - l.p

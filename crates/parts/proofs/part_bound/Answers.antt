@@ -1,0 +1,8 @@
+-- `part_bound` meets its contract.
+use mathlib.Core.Path.{ap₂, ◌∙◌}
+use Rattle.bound.specs.Order.{over}
+use borrow.Author.Rules.{rules}
+use Rattle.parts.proofs.part_bound.Goals as goal
+
+pub returns : goal.returns
+returns c = ap₂ over (c.wide.ensures ∙ c.part_load.ensures) c.wide-2.ensures

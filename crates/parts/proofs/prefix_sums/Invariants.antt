@@ -1,0 +1,11 @@
+use Prim.Native.Nat.{◌-◌, ◌<◌}
+use native.Mathlib.Omega.{arith}
+use lib.ListN.{length, length-set}
+use Rattle.parts.proofs.Laws.{Summed, summed_start, summed_fits, summed_turn, summed_end}
+use Rattle.parts.proofs.prefix_sums.Given as goal
+
+abbrev pub invariant-loop-i : goal.invariant-loop-i
+invariant-loop-i l = (length l.weights < length l.initial.sums) × Summed l.weights l.initial.sums l.sums l.i l.sum
+
+abbrev pub decreases-loop-i : goal.decreases-loop-i
+decreases-loop-i l = length l.weights - l.i
