@@ -1,6 +1,7 @@
 // The table (dynamic programming): scope 5.4 to 5.9. All functions here are inner: their callers have
 // tested the job. The scratch list holds the N + 1 prefix sums, and behind them two rows of N + 1 pairs, load and speed.
 #![tactic(auto)]
+
 ghost use Rattle.std.specs.Prelude.{suc, ◌+◌, ◌-◌, ◌*◌, ◌≤◌, ◌<◌, ◌^◌, ◌≡◌, length};
 ghost use Rattle.chain.specs.Job.{Job, job_of, tasks, speed_of, hold_of, offer};
 ghost use Rattle.chain.specs.Dynamic.{start_of, table_value, crossing};

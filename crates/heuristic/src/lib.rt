@@ -1,6 +1,7 @@
 // The heuristic of Miguet and Pierson ("quick plan", scope, section 4) over prefix sums.
 // All functions here are inner: their callers have tested the job.
 #![tactic(auto)]
+
 ghost use Rattle.std.specs.Prelude.{suc, ◌-◌, ◌*◌, ◌/◌, ◌^◌, ◌≤◌, ◌<◌, ◌≡◌, ◌++◌, ltb, length, get_or, drop};
 ghost use Rattle.chain.specs.Lists.{distance};
 ghost use Rattle.chain.specs.Job.{Job, job_of, processors};

@@ -1,6 +1,7 @@
 // The probe at a bound over prefix sums: the end of a part, the walk and the least next bid.
 // All functions here are inner: their callers have tested the job and the bound.
 #![tactic(auto)]
+
 ghost use Rattle.std.specs.Prelude.{suc, ◌+◌, ◌*◌, ◌/◌, ◌≤◌, ◌<◌, ◌^◌, ◌≡◌, ◌++◌, length, get_or, drop};
 ghost use Rattle.chain.specs.Ranges.{Lendable, Narrow};
 ghost use Rattle.chain.specs.Job as counts;

@@ -1,5 +1,6 @@
 // The limits of the code, and the tests of every call by lists.
 #![tactic(auto)]
+
 ghost use Rattle.std.specs.Prelude.{suc, ◌≤◌, ◌<◌, ◌≡◌, ◌&&◌, [], ◌∷◌, length, take, leb};
 ghost use Rattle.chain.specs.Limits.{max_processors, max_tasks};
 ghost use Rattle.chain.specs.Lists.{power_of_two};

@@ -1,0 +1,10 @@
+-- `entry` meets its contract.
+use borrow.Author.Rules.{rules}
+use mathlib.Core.Path.{ap₂}
+use Rattle.bound.specs.Order.{over}
+use Rattle.dynamic.specs.Rows.{entry_at}
+use Rattle.dynamic.proofs.entry.Goals as goal
+
+pub returns : goal.returns
+unfolding entry_at
+returns c = ap₂ over c.wide.ensures c.wide-2.ensures

@@ -1,0 +1,17 @@
+use Prim.Native.Nat.{suc, ◌-◌, ◌<◌}
+use mathlib.Core.Path.{◌≡◌, sym}
+use native.Mathlib.Omega.{arith}
+use lib.ListN.{length}
+use Rattle.chain.specs.Job.{Job, job_of}
+use Rattle.chain.specs.Dynamic.{start_of}
+use Rattle.chain.proofs.Ranges.{index_fits}
+use Rattle.dynamic.specs.Rows.{RowReady, FilledTo}
+use Rattle.dynamic.proofs.Crossing.{next_speed, start_behind}
+use Rattle.dynamic.proofs.Laws.{begun_advanced, writing_ready, filling_begun, filling_entry, filling_turn, filling_end}
+use Rattle.dynamic.proofs.fill_held.Given as goal
+
+abbrev pub invariant-loop-i : goal.invariant-loop-i
+invariant-loop-i l = (l.hold < l.i) × FilledTo (job_of l.startup l.speeds l.holds l.weights) l.initial.scratch l.scratch l.row l.p l.i (l.initial.pointer.moves - l.initial.pointer.at) l.pointer.at l.pointer.moves
+
+abbrev pub decreases-loop-i : goal.decreases-loop-i
+decreases-loop-i l = suc (length l.weights) - l.i

@@ -1,0 +1,9 @@
+-- `put` meets its contract.
+use borrow.Author.Rules.{rules}
+use mathlib.Core.Path.{refl}
+use Rattle.dynamic.specs.Rows.{stored}
+use Rattle.dynamic.proofs.put.Goals as goal
+
+pub returns : goal.returns
+unfolding stored
+returns c = refl
