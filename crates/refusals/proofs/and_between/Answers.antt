@@ -1,8 +1,8 @@
 -- `and_between` meets its contract.
 use mathlib.Core.Path.{◌∙◌}
-use mathlib.Core.Logic.{⊎_elim}
 use Rattle.refusals.proofs.Each.{among_low, among_high, among_in}
 use Rattle.refusals.proofs.and_between.Goals as goal
+use Rattle.refusals.proofs.and_between.Goals.{then-value-lo, else-value-lo}
 
 pub returns-then-hi-value : goal.returns-then-hi-value
 returns-then-hi-value c = let a = c.args in among_high a.all a.lo a.hi a.value c.if-hi-value.true
@@ -10,5 +10,7 @@ returns-then-hi-value c = let a = c.args in among_high a.all a.lo a.hi a.value c
 pub returns-else-hi-value : goal.returns-else-hi-value
 returns-else-hi-value c =
     let a = c.args in
-    ⊎_elim (λ w. w.1 ∙ among_low a.all a.lo a.hi a.value w.0.taken) (λ w. w.1 ∙ among_in a.all a.lo a.hi a.value w.0.left c.if-hi-value.false)
-    c.if-value-lo.branch
+    elim c.if-value-lo.branch [
+      | then-value-lo w ↦ w.still-is ∙ among_low a.all a.lo a.hi a.value w.if-value-lo.true
+      | else-value-lo w ↦ w.still-is ∙ among_in a.all a.lo a.hi a.value w.if-value-lo.false c.if-hi-value.false
+    ]

@@ -22,9 +22,6 @@ loop-p-init c =
       λ k h. absurd (let z : ⊥ = omega arith in z),
     )
 
-cast-hold : tie.Need-overflow-cast-hold invariant-loop decreases-loop
-cast-hold c = omega (arith, c.shared-slice-known.given c.before.before.loop.p)
-
 pub returns-then-hold-eq0 : goal.returns-then-hold-eq0
 returns-then-hold-eq0 c =
     let a = c.args in
