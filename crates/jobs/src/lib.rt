@@ -1,5 +1,6 @@
 // Job files: reading and writing.
 #![tactic(auto)]
+
 ghost use Rattle.std.specs.Prelude.{◌+◌, ◌*◌, ◌%◌, ◌<◌, ◌≤◌, ◌≡◌, ◌++◌, length, get_or, take, drop};
 ghost use Rattle.chain.specs.Job.{startup_of, edition_of, job_of};
 ghost use Rattle.chain.specs.Refusal.{first_refusal};

@@ -1,5 +1,6 @@
 // Nicol's search: scope 5.17 to 5.22. All functions here are inner: their callers have tested the job.
 #![tactic(auto)]
+
 ghost use Rattle.std.specs.Prelude.{suc, ◌+◌, ◌/◌, ◌≤◌, ◌<◌, ◌^◌, ◌≡◌, T, length};
 ghost use Rattle.chain.specs.Lists.{is_first};
 ghost use Rattle.chain.specs.Ranges.{Small, Lendable};

@@ -1,0 +1,27 @@
+-- `all_tasks` meets its contract: after j turns the first j records are tested.
+use Prim.Native.Nat.{◌-◌, ◌≤◌}
+use mathlib.Core.Path.{◌≡◌, refl, ap, ◌∙◌}
+use native.Mathlib.Omega.{arith}
+use Rattle.chain.specs.Limits.{max_weight}
+use Rattle.jobs.specs.Inner.{plain_tasks}
+use Rattle.jobs.proofs.AllTasks.{plain_next}
+use borrow.Author.Rules.{rules}
+use Rattle.jobs.proofs.all_tasks.Goals as goal
+
+pub loop-j-init : goal.loop-j-init
+unfolding plain_tasks
+loop-j-init c = (omega arith, refl)
+
+pub loop-j-preserved : goal.loop-j-preserved
+unfolding max_weight
+loop-j-preserved c =
+    let a = c.args in (
+      omega arith,
+      plain_next a.file.now a.from c.loop-j.j c.loop-j.invariant.1 c.front_at.ensures c.and_between-all.ensures c.value_at.ensures (omega arith)
+          c.and_between-all-in-loop-j.ensures,
+    )
+
+pub returns : goal.returns
+returns c =
+    let a = c.args in
+    c.loop-j.invariant.1 ∙ ap (plain_tasks a.file.now a.from) (let e : c.loop-j.j ≡ a.count = omega arith in e)

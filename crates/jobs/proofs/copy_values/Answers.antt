@@ -1,0 +1,20 @@
+-- `copy_values` meets its contract: after j turns the first j entries are the values.
+use Prim.Native.Nat.{◌+◌, ◌-◌}
+use native.Mathlib.Omega.{arith}
+use Rattle.jobs.specs.Parse.{value_at}
+use Rattle.jobs.proofs.Copying.{Copying, copying_none, copying_next, copying_all}
+use Rattle.jobs.proofs.copy_values.Goals as goal
+
+pub loop-j-init : goal.loop-j-init
+loop-j-init c =
+    copying_none (λ j. value_at c.args.file.now (c.args.from + j)) c.args.count c.args.out.now c.requires.1
+
+pub loop-j-preserved : goal.loop-j-preserved
+loop-j-preserved c =
+    copying_next (λ j. value_at c.args.file.now (c.args.from + j)) c.args.count c.args.out.now c.requires.1
+    c.loop-j.invariant c.loop-j-test.true c.value_at.ensures
+
+pub returns : goal.returns
+returns c =
+    copying_all (λ j. value_at c.args.file.now (c.args.from + j)) c.args.count c.args.out.now c.requires.1
+    c.loop-j.invariant c.loop-j-test.false

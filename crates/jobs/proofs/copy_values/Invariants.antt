@@ -1,0 +1,11 @@
+use Prim.Native.Nat.{◌+◌, ◌-◌}
+use native.Mathlib.Omega.{arith}
+use Rattle.jobs.specs.Parse.{value_at}
+use Rattle.jobs.proofs.Copying.{Copying, copying_none, copying_next, copying_all}
+use Rattle.jobs.proofs.copy_values.Given as goal
+
+abbrev pub invariant-loop-j : goal.invariant-loop-j
+invariant-loop-j l = Copying (λ j. value_at l.file (l.from + j)) l.count l.initial.out l.out l.j
+
+abbrev pub decreases-loop-j : goal.decreases-loop-j
+decreases-loop-j l = l.count - l.j

@@ -1,0 +1,10 @@
+-- `write_plan` meets its contract: with the start-up work that counts.
+use borrow.Author.Rules.{rules}
+use Rattle.planfile.proofs.write_plan.Goals as goal
+
+pub returns : goal.returns
+returns c =
+    record {
+      answer = rw (← c.effective.ensures) c.write_plan_with.ensures.answer;
+      bytes = rw (← c.effective.ensures) c.write_plan_with.ensures.bytes;
+    }
