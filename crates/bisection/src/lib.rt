@@ -1,5 +1,6 @@
 // Bisection: scope 5.12 to 5.16. All functions here are inner: their callers have tested the job.
 #![tactic(auto)]
+
 ghost use Rattle.std.specs.Prelude.{suc, ◌<◌, ◌≡◌, length};
 ghost use Rattle.chain.specs.Ranges.{Small, Lendable};
 ghost use Rattle.chain.specs.Job as counts;

@@ -1,6 +1,7 @@
 // Halving the row ("recursive bisection", scope, section 16) over prefix sums.
 // All functions here are inner: their callers have tested the job and its row.
 #![tactic(auto)]
+
 ghost use Rattle.std.specs.Prelude.{suc, ◌+◌, ◌-◌, ◌^◌, ◌≤◌, ◌<◌, ◌≡◌, ◌++◌, length, get_or, take, drop};
 ghost use Rattle.chain.specs.Lists.{levels};
 ghost use Rattle.chain.specs.Job.{Job, job_of, processors};

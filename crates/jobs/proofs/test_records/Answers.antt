@@ -5,6 +5,7 @@ use native.Mathlib.Omega.{arith}
 use Rattle.jobs.proofs.AllRecords.{Tested, tested_none, tested_processor, tested_task, tested_neither, multiple_fails, answer_refused, tested_refused, tested_all}
 use Rattle.jobs.proofs.AllTasks.{tasks-all}
 use Rattle.jobs.proofs.test_records.Goals as goal
+use Rattle.jobs.proofs.test_records.Goals.{then-kind-eq-PROCESSOR_KIND, else-kind-eq-PROCESSOR_KIND+then-kind-eq-TASK_KIND-2, else-kind-eq-PROCESSOR_KIND+else-kind-eq-TASK_KIND-2}
 
 pub returns-then-file-ne0 : goal.returns-then-file-ne0
 returns-then-file-ne0 c =
@@ -34,3 +35,19 @@ read_as-requires-2 c = c.loop-i.invariant.multiple
 pub returns : goal.returns
 returns c =
     tested_all c.args.file.now c.loop-i.invariant c.loop-i-test.false c.read_as-2.ensures
+
+pub loop-i-preserved : goal.loop-i-preserved
+loop-i-preserved c =
+    let more = c.loop-i-test.true in
+    let passed = c.if-found-ne0.false in
+    elim c.if-kind-eq-PROCESSOR_KIND.branch [
+      | then-kind-eq-PROCESSOR_KIND w ↦
+          tested_processor c.loop-i.invariant more c.test_record-found.ensures passed c.kind_at-kind.ensures w.if-kind-eq-PROCESSOR_KIND.true
+          w.processors-is w.tasks-is
+      | else-kind-eq-PROCESSOR_KIND+then-kind-eq-TASK_KIND-2 w ↦
+          tested_task c.loop-i.invariant more c.test_record-found.ensures passed c.kind_at-kind.ensures w.if-kind-eq-TASK_KIND-2.true
+          w.processors-is w.tasks-is
+      | else-kind-eq-PROCESSOR_KIND+else-kind-eq-TASK_KIND-2 w ↦
+          tested_neither c.loop-i.invariant more c.test_record-found.ensures passed c.kind_at-kind.ensures w.if-kind-eq-PROCESSOR_KIND.false
+          w.if-kind-eq-TASK_KIND-2.false w.processors-is w.tasks-is
+    ]

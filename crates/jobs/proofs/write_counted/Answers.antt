@@ -21,7 +21,7 @@ put_head-requires c = omega (arith, (accepted ((sym c.test_write_job-number.ensu
 pub put_processors-requires : goal.put_processors-requires
 put_processors-requires c =
     let a = c.args in
-    let w = accepted ((sym c.test_write_job-number.ensures ∙ c.if-number-ne0.false)) in let h = omega (arith, w.lists.0, c.head_records-head.ensures.value, holds_long a.startup a.speeds.now a.holds.now a.weights.now w.valid) in record { speeds_in_bounds = h.0; speeds_in_bounds_2 = h.1 }
+    let w = accepted ((sym c.test_write_job-number.ensures ∙ c.if-number-ne0.false)) in record { speeds_in_bounds = omega (arith, w.lists.0, c.head_records-head.ensures.value, holds_long a.startup a.speeds.now a.holds.now a.weights.now w.valid); speeds_in_bounds_2 = omega (arith, w.lists.0, c.head_records-head.ensures.value, holds_long a.startup a.speeds.now a.holds.now a.weights.now w.valid) }
 
 pub put_tasks-requires : goal.put_tasks-requires
 put_tasks-requires c =

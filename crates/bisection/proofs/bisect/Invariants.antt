@@ -1,0 +1,25 @@
+use Prim.Native.Nat.{ℕ, suc, ◌-◌, ◌<◌}
+use mathlib.Core.Path.{◌≡◌, refl, sym, ◌∙◌}
+use native.Mathlib.Omega.{arith}
+use borrow.Author.Rules.{rules}
+use lib.ListN.{length, drop}
+use Rattle.bound.proofs.Order.{true_le}
+use Rattle.chain.specs.Limits.{max_processors}
+use Rattle.chain.specs.Lists.{digits}
+use Rattle.chain.specs.Job.{Job, job_of}
+use Rattle.chain.specs.Plan.{difference}
+use Rattle.chain.proofs.Parts.{valid_plannable}
+use Rattle.chain.proofs.Ranges.{small_lendable, small_products}
+use Rattle.parts.specs.Kept.{KeptFrom}
+use Rattle.parts.proofs.Front.{kept_start, kept_trans}
+use Rattle.bisection.specs.Closed.{Fitted}
+use Rattle.bisection.proofs.Laws.{Halved, halved_start, halved_room, halved_next, halved_end, halved_least, rounds_fit, fit_plan}
+use Rattle.bisection.proofs.bisect.Given as goal
+
+abbrev pub invariant-loop-failed : goal.invariant-loop-failed
+invariant-loop-failed l =    Halved (job_of l.startup l.speeds l.holds l.weights) l.low l.high l.rounds × KeptFrom (suc (length l.speeds)) l.initial.separators l.separators
+    × (length l.speeds < length l.separators) × Fitted (job_of l.startup l.speeds l.holds l.weights) l.closed l.high l.separators
+    × (length l.failed ≡ suc max_processors) × (length l.trial ≡ suc max_processors)
+
+abbrev pub decreases-loop-failed : goal.decreases-loop-failed
+decreases-loop-failed l =    digits (difference (job_of l.startup l.speeds l.holds l.weights)) - l.rounds
