@@ -1,5 +1,6 @@
 // Bidding: scope 5.10 and 5.11. All functions here are inner: their callers have tested the job.
 #![tactic(auto)]
+
 ghost use Rattle.std.specs.Prelude.{suc, ◌+◌, ◌-◌, ◌≤◌, ◌<◌, ◌≡◌, not, ◌++◌, T, length, drop};
 ghost use Rattle.bound.specs.Order.{◌≺◌};
 ghost use Rattle.chain.specs.Job as counts;

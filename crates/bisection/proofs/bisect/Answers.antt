@@ -41,15 +41,14 @@ copy_front-requires-2 c =
 
 pub loop-failed-init : goal.loop-failed-init
 unfolding max_processors
-loop-failed-init c =
-     (
-      halved_start c.requires.ready_kept.ready.valid c.requires.ready_kept.enough-holds c.requires.rejected.failed c.requires.rejected.bids c.first_high-high.ensures.value,
-      kept_start (suc (length c.args.speeds.now)) _,
-      omega (arith, c.requires.job_in_bounds, c.first_high-high.ensures.kept_from.same),
-      (λ e. let z : ◌≡◌ {A = ℕ} 0 1 = cc in absurd (omega arith)),
-      c.copy_front.auto.1.1.0,
-      c.copy_front-2.auto.1.1.0,
-    )
+loop-failed-init c = (
+  halved_start c.requires.ready_kept.ready.valid c.requires.ready_kept.enough-holds c.requires.rejected.failed c.requires.rejected.bids c.first_high-high.ensures.value,
+  kept_start (suc (length c.args.speeds.now)) _,
+  omega (arith, c.requires.job_in_bounds, c.first_high-high.ensures.kept_from.same),
+  (λ e. let z : ◌≡◌ {A = ℕ} 0 1 = cc in absurd (omega arith)),
+  c.copy_front.auto.to,
+  c.copy_front-2.auto.to,
+)
 
 pub at_most-requires : goal.at_most-requires
 at_most-requires c = search (small_products, c.loop-failed.invariant.0.high_small, c.loop-failed.invariant.0.low_small)
@@ -75,15 +74,14 @@ loop-failed-smaller c =
     omega (arith, halved_room c.requires.ready_kept.ready.valid c.requires.ready_kept.enough-holds c.loop-failed.invariant.0 (sym c.at_most.ensures ∙ c.if-at_most.false))
 
 pub loop-failed-preserved : goal.loop-failed-preserved
-loop-failed-preserved c =
-     (
-      halved_next c.requires.ready_kept.ready.valid c.requires.ready_kept.enough-holds c.loop-failed.invariant.0 c.next_ends-round.result.ends (sym c.at_most.ensures ∙ c.if-at_most.false) c.next_ends-round.ensures.ends_value,
-      kept_trans c.loop-failed.invariant.1 c.next_ends-round.ensures.kept_from,
-      omega (arith, c.loop-failed.invariant.2, c.next_ends-round.ensures.kept_from.same),
-      c.next_ends-round.ensures.fitted_2,
-      c.next_ends-round.auto.1.1.1.1.1.1.1.1.1.0 ∙ c.loop-failed.invariant.4,
-      c.next_ends-round.auto.1.1.1.1.1.1.1.1.1.1.0 ∙ c.loop-failed.invariant.5,
-    )
+loop-failed-preserved c = (
+  halved_next c.requires.ready_kept.ready.valid c.requires.ready_kept.enough-holds c.loop-failed.invariant.0 c.next_ends-round.result.ends (sym c.at_most.ensures ∙ c.if-at_most.false) c.next_ends-round.ensures.ends_value,
+  kept_trans c.loop-failed.invariant.1 c.next_ends-round.ensures.kept_from,
+  omega (arith, c.loop-failed.invariant.2, c.next_ends-round.ensures.kept_from.same),
+  c.next_ends-round.ensures.fitted_2,
+  c.next_ends-round.auto.failed ∙ c.loop-failed.invariant.4,
+  c.next_ends-round.auto.trial ∙ c.loop-failed.invariant.5,
+)
 
 pub overflow_add-result : goal.overflow_add-result
 overflow_add-result c = omega (arith, rounds_fit c.loop-failed.rounds c.requires.ready_kept.ready.valid c.requires.ready_kept.enough-holds c.loop-failed.invariant.0)

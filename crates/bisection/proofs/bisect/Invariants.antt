@@ -17,9 +17,9 @@ use Rattle.bisection.proofs.Laws.{Halved, halved_start, halved_room, halved_next
 use Rattle.bisection.proofs.bisect.Given as goal
 
 abbrev pub invariant-loop-failed : goal.invariant-loop-failed
-invariant-loop-failed l =    Halved (job_of l.startup l.speeds l.holds l.weights) l.low l.high l.rounds × KeptFrom (suc (length l.speeds)) l.initial.separators l.separators
+invariant-loop-failed l = Halved (job_of l.startup l.speeds l.holds l.weights) l.low l.high l.rounds × KeptFrom (suc (length l.speeds)) l.initial.separators l.separators
     × (length l.speeds < length l.separators) × Fitted (job_of l.startup l.speeds l.holds l.weights) l.closed l.high l.separators
     × (length l.failed ≡ suc max_processors) × (length l.trial ≡ suc max_processors)
 
 abbrev pub decreases-loop-failed : goal.decreases-loop-failed
-decreases-loop-failed l =    digits (difference (job_of l.startup l.speeds l.holds l.weights)) - l.rounds
+decreases-loop-failed l = digits (difference (job_of l.startup l.speeds l.holds l.weights)) - l.rounds

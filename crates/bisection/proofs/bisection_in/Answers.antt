@@ -32,10 +32,15 @@ bisect-requires c =
     let v = c.requires.ready_kept.ready.valid in
     let b = kept_start (suc (length c.args.speeds.now)) c.args.separators.now in
     let I : Bound = c.ideal_of-bound.result in
-    let f = fails_outcome job I (sym c.probe_in-answer.ensures.value ∙ c.in-Fails.is) in record { ready_kept = c.requires.ready_kept; job_in_bounds = omega (arith, c.requires.job_in_bounds, (kept_written (walk job I) _ b c.requires.job_in_bounds (walk_count v I) c.probe_in-answer.ensures.separators_after).same); rejected = record {
-            failed = subst (λ (B : Bound). T (not (fits job B))) c.ideal_of-bound.ensures f.0;
-            bids = f.1 ∙ ap (next_bid job) c.ideal_of-bound.ensures;
-          }; held_value = c.any_hold-held.ensures }
+    let f = fails_outcome job I (sym c.probe_in-answer.ensures.value ∙ c.in-Fails.is) in record {
+      ready_kept = c.requires.ready_kept;
+      job_in_bounds = omega (arith, c.requires.job_in_bounds, (kept_written (walk job I) _ b c.requires.job_in_bounds (walk_count v I) c.probe_in-answer.ensures.separators_after).same);
+      rejected = record {
+        failed = subst (λ (B : Bound). T (not (fits job B))) c.ideal_of-bound.ensures f.0;
+        bids = f.1 ∙ ap (next_bid job) c.ideal_of-bound.ensures;
+      };
+      held_value = c.any_hold-held.ensures;
+    }
 
 pub returns-in-Fits : goal.returns-in-Fits
 returns-in-Fits c =
