@@ -2,6 +2,7 @@
 // These four have no `requires`: their tests are inside, and nothing lent is written before the last test has passed. The inner
 // functions below them ask for what has been tested.
 #![tactic(auto)]
+
 ghost use Rattle.std.specs.Prelude.{suc, ◌<◌, ◌≡◌, ◌++◌, not, T, length, take, drop};
 ghost use Rattle.chain.specs.Job as counts;
 ghost use Rattle.chain.specs.Job.{Job, job_of, Valid, processors, held, Partition, bottleneck};

@@ -1,5 +1,6 @@
 // Grading: a plan file of any maker is read beside its job and called best or valid.
 #![tactic(auto)]
+
 ghost use Rattle.std.specs.Prelude.{suc, ◌*◌, ◌≤◌, ◌<◌, ◌≡◌, ◌&&◌, ◌++◌, eqb, length, take, drop};
 ghost use Rattle.chain.specs.Job as counts;
 ghost use Rattle.chain.specs.Job.{Job, job_of, processors, Valid, Partition};

@@ -1,5 +1,6 @@
 // Text put into a buffer, one piece behind another. All functions here are inner: their callers have room for what is put.
 #![tactic(auto)]
+
 ghost use Rattle.std.specs.Prelude.{◌+◌, ◌≤◌, ◌≡◌, ◌++◌, length};
 ghost use Rattle.texts.specs.Text.{decimal, field, refusal_line};
 ghost use Rattle.texts.specs.Room.{number_room, field_room, refusal_room, Put};
