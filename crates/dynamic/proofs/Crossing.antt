@@ -3,6 +3,7 @@
 use Prim.Native.Nat.{ℕ, zero, suc, ◌+◌, ◌-◌, ◌*◌, ◌^◌, ◌≤◌, ◌<◌}
 use mathlib.Core.Path.{◌≡◌, sym, ap, ap₂, subst, ◌∙◌}
 use mathlib.Core.Bool.{Bool}
+use mathlib.Core.List.{List}
 use mathlib.Core.Logic.{◌≢◌}
 use native.Mathlib.Omega.{arith}
 use native.Mathlib.Nat.{mul-le-mul}
@@ -10,7 +11,7 @@ use native.Mathlib.Decide.{ℕ_discrete}
 use lib.Dec.{lit<}
 use lib.ListN.{get_or}
 use Rattle.bound.specs.declared.Bound.{Bound}
-use Rattle.bound.specs.Order.{le, lesser, Finite}
+use Rattle.bound.specs.Order.{over, le, lesser, Finite}
 use Rattle.bound.proofs.Order.{greater_cases}
 use Rattle.chain.specs.Limits.{max_tasks, max_processors}
 use Rattle.chain.specs.Lists.{sum_to}
@@ -19,9 +20,11 @@ use Rattle.chain.specs.Dynamic.{start_of, candidate, table_value, crossing, move
 use Rattle.chain.proofs.Parts.{valid_proper}
 use Rattle.chain.specs.Ranges.{Small, Narrow}
 use Rattle.chain.proofs.Ranges.{offer_small, offer_narrow}
-use Rattle.chain.proofs.Table.{start_unlimited, start_limited, crossing-le, value_first, value_later, table_attained, moves_to_crossing}
-use Rattle.parts.proofs.Laws.{speed_read}
-use Rattle.dynamic.specs.Rows.{FreeTo}
+use Rattle.chain.proofs.Table.{start_unlimited, start_limited, start_keeps, crossing_is, crossing-le, value_first, value_later, table_attained, moves_to_crossing}
+use Rattle.chain.proofs.Within.{offer_part}
+use Rattle.parts.specs.Prefix.{load_between, Ready}
+use Rattle.parts.proofs.Laws.{speed_read, speed_bound}
+use Rattle.dynamic.specs.Rows.{entry_at, RowReady, FreeTo}
 
 -- What the code's test of two bounds says of the bounds that they are.
 pub tested : {B C X Y : Bound} {r t : Bool} → B ≡ X → C ≡ Y → r ≡ le B C → r ≡ t → le X Y ≡ t
@@ -34,6 +37,22 @@ narrow_same e s = subst Narrow (sym e) s
 -- The speed that the code reads is that of the processor after p.
 pub next_speed : (job : Job) (p : ℕ) {k : ℕ} → k ≡ suc p → suc p < processors job → get_or job.speeds k 0 ≡ speed_of job (suc p)
 next_speed job p e h = ap (λ (q : ℕ). get_or job.speeds q 0) e ∙ speed_read job (suc p) h
+
+-- What is read of the row before is its value,
+pub row_read : {job : Job} {xs : List ℕ} {o p k : ℕ} {B : Bound} → RowReady job xs o p → k ≤ tasks job → B ≡ entry_at xs o k
+    → B ≡ table_value job p k
+row_read {job} {xs} {o} {p} {k} r h f = f ∙ r.row.entries k (omega arith)
+
+-- and the bound of a part that keeps the hold is what it offers.
+pub part_offered : {job : Job} {xs : List ℕ} {e k i : ℕ} {B : Bound} (p : ℕ) → Ready job xs → start_of job (suc p) i ≤ k → k ≤ i → i ≤ tasks job
+    → e ≡ speed_of job (suc p) → B ≡ over (load_between job.startup xs k i) e → B ≡ offer job (suc p) k i
+part_offered {job} {xs} {e} {k} {i} p r s h l x f =
+    speed_bound r.prefix (suc p) k i h l x f ∙ sym (offer_part job (suc p) k i (start_keeps job (suc p) i k s))
+
+-- A crossing that is not where j begins is past it.
+pub crossing_later : (job : Job) (p i : ℕ) {first at : ℕ} → first ≡ start_of job (suc p) i → at ≡ crossing job p i → at ≢ first
+    → start_of job (suc p) i < at
+crossing_later job p i e f n = omega (arith, (crossing_is job p i).from)
 
 -- Where j begins: with a limit, at i less the hold; at 0 up to the hold, and everywhere without a limit.
 module _ (job : Job) (p : ℕ) {h : ℕ} (e : h ≡ hold_of job (suc p)) where

@@ -2,7 +2,7 @@
 -- Assumes nothing.
 use Prim.Native.Nat.{ℕ, zero, suc, ◌+◌, ◌-◌, ◌*◌, ◌^◌, ◌≤◌, ◌<◌}
 use mathlib.Core.Path.{◌≡◌, refl, sym, ap, subst, ◌∙◌}
-use mathlib.Core.Bool.{true, false}
+use mathlib.Core.Bool.{Bool, true, false}
 use mathlib.Core.List.{List}
 use native.Mathlib.Omega.{arith}
 use native.Mathlib.Numerals.{add-one}
@@ -10,17 +10,18 @@ use lib.Dec.{T}
 use lib.ListN.{length, get_or}
 use lib.Seq.{get_or-take}
 use Rattle.bound.specs.declared.Bound.{Bound}
-use Rattle.bound.specs.Order.{le}
+use Rattle.bound.specs.Order.{over, le}
 use Rattle.chain.specs.Lists.{sum_to}
-use Rattle.chain.specs.Job.{Job, Valid, tasks, processors, last, enough, offer}
+use Rattle.chain.specs.Job.{Job, Valid, tasks, processors, speed_of, last, enough, offer}
 use Rattle.chain.specs.Dynamic.{start_of, table_value, crossing, moves_to, moves}
 use Rattle.chain.proofs.Parts.{valid_proper, valid_plannable}
 use Rattle.chain.specs.Ranges.{Small}
+use Rattle.chain.proofs.Ranges.{offer_narrow, narrow_products}
 use Rattle.chain.proofs.Table.{crossing_is, crossing-le, crossing_grows, moves_to_crossing, crossing_here, crossing_past}
 use Rattle.chain.proofs.Demand.{table_least_bound}
-use Rattle.parts.specs.Prefix.{Ready}
-use Rattle.dynamic.specs.Rows.{entry_at, stored, RowAt, Kept, RowReady, Places, Begun, Advanced, Writing, passed, FilledTo, Filled, FirstRow, Tabled}
-use Rattle.dynamic.proofs.Crossing.{table_narrow, narrow_same, table_small}
+use Rattle.parts.specs.Prefix.{load_between, Ready}
+use Rattle.dynamic.specs.Rows.{entry_at, stored, RowAt, Kept, RowReady, Places, Begun, Advanced, Writing, passed, FreeTo, FilledTo, Filled, FirstRow, Tabled}
+use Rattle.dynamic.proofs.Crossing.{tested, row_read, part_offered, table_narrow, narrow_same, table_small}
 use Rattle.dynamic.proofs.Scratch.{kept_refl, kept_trans, kept_wider, kept_stored, kept_take, kept_drop, kept_ready, row_kept, row_none, row_stored, places_swap}
 
 -- The pointer on its way to the crossing of i.
@@ -57,6 +58,28 @@ begun_here = record { past = omega arith; least = λ k h l. l; carried = omega a
 pub begun_advanced : {job : Job} {p i first from count at counted at' counted' : ℕ} → Begun first from count at counted → Advanced job p i at counted at' counted'
     → Advanced job p i from count at' counted'
 begun_advanced w a = record { arrived = a.arrived; carried = omega (arith, w.carried, a.carried) }
+
+-- A pointer on its way is at most i.
+pub moving-le : {job : Job} {p i from count at counted : ℕ} → Valid job → Moving job p i from count at counted → at ≤ i
+moving-le {job} {p} {i} v w = omega (arith, w.to, crossing-le (valid_proper v) p i)
+
+-- The two bounds that are compared there: what the part offers, and the value of the row before.
+module _ {job : Job} {xs : List ℕ} {o p i from count at counted e : ℕ} {B C : Bound} (r : RowReady job xs o p)
+    (h : i ≤ tasks job) (x : e ≡ speed_of job (suc p)) (w : Moving job p i from count at counted)
+    (f : B ≡ over (load_between job.startup xs at i) e) (g : C ≡ entry_at xs o at) where
+  part_there : B ≡ offer job (suc p) at i
+  part_there = part_offered p r.ready w.past (moving-le r.ready.valid w) h x f
+
+  value_there : C ≡ table_value job p at
+  value_there = row_read r (omega (arith, moving-le r.ready.valid w)) g
+
+  pub moving_products : (B.load * C.speed < 2 ^ 64) × (C.load * B.speed < 2 ^ 64)
+  moving_products =
+      narrow_products (narrow_same part_there (offer_narrow r.ready.valid (suc p) at i))
+      (narrow_same value_there (table_narrow r.ready.valid p at))
+
+  pub moving_test : {k t : Bool} → k ≡ le B C → k ≡ t → le (offer job (suc p) at i) (table_value job p at) ≡ t
+  moving_test = tested part_there value_there
 
 -- A pointer that does not stop is before i.
 pub moving_before : {job : Job} {p i from count at counted : ℕ} → Valid job → Moving job p i from count at counted
@@ -105,6 +128,10 @@ writing_ready r l w =
       inside = omega (arith, r.inside, w.kept.same);
       next = r.next;
     }
+
+-- The entries before `end` are entries of the row.
+pub free_inside : {job : Job} {p end i : ℕ} → FreeTo job p end → i < end → i ≤ tasks job
+free_inside f h = omega (arith, f.to)
 
 -- The pointer is not past the next crossing.
 pub passed-le : {job : Job} → Valid job → (p i : ℕ) → passed job p i ≤ crossing job p i

@@ -1,9 +1,16 @@
 -- `advance` meets its contract: without start-up work the job is the one with 0.
-use borrow.Author.Rules.{rules}
 use Rattle.dynamic.proofs.advance.Goals as goal
 
 pub move_on-requires : goal.move_on-requires
-move_on-requires c = let h = rw c.if-startup-eq0.true at (c.requires.row_ready, c.requires.speed_value, c.requires.i_bound, c.requires.i_bound_2) in record { row_ready = h.0; speed_value = h.1.0; i_bound = h.1.1.0; i_bound_2 = h.1.1.1 }
+move_on-requires c =
+    let e = c.if-startup-eq0.true in
+    let q = c.requires in
+    record {
+      row_ready = rw e at q.row_ready;
+      speed_value = rw e at q.speed_value;
+      i_bound = rw e at q.i_bound;
+      i_bound_2 = rw e at q.i_bound_2;
+    }
 
 pub returns-then-startup-eq0 : goal.returns-then-startup-eq0
 returns-then-startup-eq0 c = rw c.if-startup-eq0.true c.move_on.ensures

@@ -1,7 +1,6 @@
 -- `begin` meets its contract: the loop keeps `Nearing`.
-use Prim.Native.Nat.{◌-◌}
 use native.Mathlib.Omega.{arith}
-use Rattle.dynamic.proofs.Laws.{Nearing, nearing_start, nearing_turn, nearing_stop}
+use Rattle.dynamic.proofs.Laws.{nearing_start, nearing_turn, nearing_stop}
 use Rattle.dynamic.proofs.begin.Goals as goal
 
 pub loop-place-init : goal.loop-place-init

@@ -1,6 +1,5 @@
 use Prim.Native.Nat.{◌-◌}
-use native.Mathlib.Omega.{arith}
-use Rattle.dynamic.proofs.Laws.{Nearing, nearing_start, nearing_turn, nearing_stop}
+use Rattle.dynamic.proofs.Laws.{Nearing}
 use Rattle.dynamic.proofs.begin.Given as goal
 
 abbrev pub invariant-loop-place : goal.invariant-loop-place

@@ -1,5 +1,4 @@
 -- `entry` meets its contract.
-use borrow.Author.Rules.{rules}
 use mathlib.Core.Path.{ap₂}
 use Rattle.bound.specs.Order.{over}
 use Rattle.dynamic.specs.Rows.{entry_at}

@@ -1,12 +1,6 @@
-use Prim.Native.Nat.{suc, ◌-◌, ◌≤◌}
-use mathlib.Core.Path.{◌≡◌, sym}
-use native.Mathlib.Omega.{arith}
-use Rattle.chain.specs.Job.{Job, job_of, tasks}
-use Rattle.chain.specs.Dynamic.{start_of}
-use Rattle.chain.proofs.Ranges.{index_fits}
-use Rattle.dynamic.specs.Rows.{RowReady, FilledTo}
-use Rattle.dynamic.proofs.Crossing.{next_speed}
-use Rattle.dynamic.proofs.Laws.{begun_here, writing_ready, filling_start, filling_begun, filling_entry, filling_turn}
+use Prim.Native.Nat.{◌-◌, ◌≤◌}
+use Rattle.chain.specs.Job.{job_of}
+use Rattle.dynamic.specs.Rows.{FilledTo}
 use Rattle.dynamic.proofs.fill_free.Given as goal
 
 abbrev pub invariant-loop-i : goal.invariant-loop-i

@@ -1,13 +1,7 @@
 use Prim.Native.Nat.{suc, ◌-◌, ◌<◌}
-use mathlib.Core.Path.{◌≡◌, sym}
-use native.Mathlib.Omega.{arith}
 use lib.ListN.{length}
-use Rattle.chain.specs.Job.{Job, job_of}
-use Rattle.chain.specs.Dynamic.{start_of}
-use Rattle.chain.proofs.Ranges.{index_fits}
-use Rattle.dynamic.specs.Rows.{RowReady, FilledTo}
-use Rattle.dynamic.proofs.Crossing.{next_speed, start_behind}
-use Rattle.dynamic.proofs.Laws.{begun_advanced, writing_ready, filling_begun, filling_entry, filling_turn, filling_end}
+use Rattle.chain.specs.Job.{job_of}
+use Rattle.dynamic.specs.Rows.{FilledTo}
 use Rattle.dynamic.proofs.fill_held.Given as goal
 
 abbrev pub invariant-loop-i : goal.invariant-loop-i

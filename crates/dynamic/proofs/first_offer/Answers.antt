@@ -1,8 +1,7 @@
 -- `first_offer` meets its contract.
 use mathlib.Core.Path.{refl}
 use native.Mathlib.Omega.{arith}
-use borrow.Author.Rules.{rules}
-use Rattle.chain.specs.Job.{Job, job_of}
+use Rattle.chain.specs.Job.{job_of}
 use Rattle.chain.proofs.Within.{offered, not_offered}
 use Rattle.parts.proofs.Laws.{loads_to, prefix_bound}
 use mathlib.Core.Path.{ap}

@@ -1,13 +1,7 @@
 use Prim.Native.Nat.{suc, ◌-◌}
-use native.Mathlib.Omega.{arith}
 use lib.ListN.{length}
-use Rattle.chain.specs.Job.{Job, job_of}
-use Rattle.chain.specs.Dynamic.{table_value}
-use Rattle.chain.proofs.Ranges.{offer_narrow}
+use Rattle.chain.specs.Job.{job_of}
 use Rattle.dynamic.specs.Rows.{Writing}
-use Rattle.dynamic.proofs.Crossing.{narrow_same}
-use Rattle.dynamic.proofs.Scratch.{kept_ready}
-use Rattle.dynamic.proofs.Laws.{writing_start, writing_turn, writing_row}
 use Rattle.dynamic.proofs.first_row.Given as goal
 
 abbrev pub invariant-loop-i : goal.invariant-loop-i

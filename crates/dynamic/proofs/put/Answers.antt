@@ -1,5 +1,4 @@
 -- `put` meets its contract.
-use borrow.Author.Rules.{rules}
 use mathlib.Core.Path.{refl}
 use Rattle.dynamic.specs.Rows.{stored}
 use Rattle.dynamic.proofs.put.Goals as goal

@@ -1,12 +1,8 @@
 -- `table_in` meets its contract: the loop keeps `Tabling`.
-use Prim.Native.Nat.{◌-◌}
-use mathlib.Core.Path.{◌∙◌}
 use native.Mathlib.Omega.{arith}
-use lib.ListN.{length}
-use Rattle.chain.specs.Job.{job_of}
 use Rattle.dynamic.proofs.Crossing.{moves_fit}
 use Rattle.dynamic.proofs.Scratch.{places_start}
-use Rattle.dynamic.proofs.Laws.{Tabling, tabling_start, tabling_row, tabling_turn, tabling_end}
+use Rattle.dynamic.proofs.Laws.{tabling_start, tabling_row, tabling_turn, tabling_end}
 use Rattle.dynamic.proofs.table_in.Goals as goal
 
 pub first_row-requires : goal.first_row-requires

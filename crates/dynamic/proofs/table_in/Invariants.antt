@@ -1,11 +1,7 @@
 use Prim.Native.Nat.{◌-◌}
-use mathlib.Core.Path.{◌∙◌}
-use native.Mathlib.Omega.{arith}
 use lib.ListN.{length}
 use Rattle.chain.specs.Job.{job_of}
-use Rattle.dynamic.proofs.Crossing.{moves_fit}
-use Rattle.dynamic.proofs.Scratch.{places_start}
-use Rattle.dynamic.proofs.Laws.{Tabling, tabling_start, tabling_row, tabling_turn, tabling_end}
+use Rattle.dynamic.proofs.Laws.{Tabling}
 use Rattle.dynamic.proofs.table_in.Given as goal
 
 abbrev pub invariant-loop-p : goal.invariant-loop-p
