@@ -1,5 +1,6 @@
 // Planning by table, bidding, bisection or Nicol's search: every method ends at the least bottleneck, and one walk there writes the plan.
 #![tactic(auto)]
+
 ghost use Rattle.std.specs.Prelude.{suc, ◌≤◌, ◌<◌, ◌≡◌, false, ◌++◌, length, drop};
 ghost use Rattle.chain.specs.Ranges.{Lendable};
 ghost use Rattle.chain.specs.Job as counts;

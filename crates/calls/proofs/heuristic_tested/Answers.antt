@@ -22,10 +22,16 @@ heuristic_in-requires c = record { ready = sums_ready _ c.requires.valid.0 c.pre
 
 pub measure_in-requires : goal.measure_in-requires
 measure_in-requires c =
-    let job : Job = (job_of c.args.startup c.args.speeds.now c.args.holds.now c.args.weights.now) in record { ready = sums_ready _ c.requires.valid.0 c.prefix_sums.ensures; partition = front_partition (heuristic job) (drop (suc (length c.args.speeds.now)) c.args.separators.now) (heuristic_partition (valid_proper c.requires.valid.0) (free_of c.requires.valid.1))
-          c.heuristic_in.ensures }
+    let job : Job = (job_of c.args.startup c.args.speeds.now c.args.holds.now c.args.weights.now) in record {
+      ready = sums_ready _ c.requires.valid.0 c.prefix_sums.ensures;
+      partition = front_partition (heuristic job) (drop (suc (length c.args.speeds.now)) c.args.separators.now) (heuristic_partition (valid_proper c.requires.valid.0) (free_of c.requires.valid.1))
+          c.heuristic_in.ensures;
+    }
 
 pub returns : goal.returns
 returns c =
-    let job : Job = (job_of c.args.startup c.args.speeds.now c.args.holds.now c.args.weights.now) in record { value = front-bottleneck (heuristic job) (drop (suc (length c.args.speeds.now)) c.args.separators.now) (heuristic_partition (valid_proper c.requires.valid.0) (free_of c.requires.valid.1)) c.heuristic_in.ensures
-          c.measure_in.ensures.value_2; separators_after = c.heuristic_in.ensures }
+    let job : Job = (job_of c.args.startup c.args.speeds.now c.args.holds.now c.args.weights.now) in record {
+      value = front-bottleneck (heuristic job) (drop (suc (length c.args.speeds.now)) c.args.separators.now) (heuristic_partition (valid_proper c.requires.valid.0) (free_of c.requires.valid.1)) c.heuristic_in.ensures
+          c.measure_in.ensures.value_2;
+      separators_after = c.heuristic_in.ensures;
+    }

@@ -5,9 +5,6 @@ use Rattle.texts.proofs.Laws.{put_then}
 use borrow.Author.Rules.{rules}
 use Rattle.texts.proofs.put_field.Goals as goal
 
-slice-aggregate-put-text : tie.Need-slice-aggregate-put-text
-slice-aggregate-put-text c = search rules
-
 pub returns : goal.returns
 unfolding field text
 returns c = record { put = put_then c.put_text-next.ensures.put c.put_number.ensures.put; upper_bound = omega arith }

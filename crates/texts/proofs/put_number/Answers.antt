@@ -5,7 +5,7 @@ use Rattle.texts.proofs.Laws.{number-text, put_as, digits-few}
 use Rattle.texts.proofs.put_number.Goals as goal
 
 pub put_text-requires : goal.put_text-requires
-put_text-requires c = omega (arith, digits-few c.decimal-count.ensures.1.0 (omega arith))
+put_text-requires c = omega (arith, digits-few c.decimal-count.ensures.len (omega arith))
 
 pub returns : goal.returns
-returns c = record { put = put_as (number-text c.decimal-count.ensures.1.0 c.decimal-count.ensures.1.1) c.put_text.ensures.put; upper_bound = omega (arith, digits-few c.decimal-count.ensures.1.0 (omega arith)) }
+returns c = record { put = put_as (number-text c.decimal-count.ensures.len c.decimal-count.ensures.digits) c.put_text.ensures.put; upper_bound = omega (arith, digits-few c.decimal-count.ensures.len (omega arith)) }

@@ -6,12 +6,6 @@ use Rattle.texts.proofs.Laws.{put_then, put_as}
 use borrow.Author.Rules.{rules}
 use Rattle.texts.proofs.put_refusal_line.Goals as goal
 
-slice-aggregate-put-labelled : tie.Need-slice-aggregate-put-labelled
-slice-aggregate-put-labelled c = search rules
-
-slice-aggregate-put-text : tie.Need-slice-aggregate-put-text
-slice-aggregate-put-text c = search rules
-
 pub returns : goal.returns
 unfolding text labelled refusal_line
 returns c = record { put = put_then (put_as (ap (labelled "refused") c.wide.ensures) c.put_labelled-next.ensures.put) c.put_text.ensures.put; upper_bound = omega arith }
