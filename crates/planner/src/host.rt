@@ -223,9 +223,7 @@ fn plan_file(method: Method, job: &[u8], plan: &mut [u8]) -> u32
 
 // Plans the job file by the method with this number and writes its plan file: 0, or the refusal: 1, then 2 to 8, 15 and 16 on the file, then
 // 9, 17 or, for method 4, 18.
-// In C: uint32_t plan_job(const uint8_t *job, size_t job_len, uint32_t method, uint8_t *plan, size_t plan_len).
-#[unsafe(no_mangle)]
-pub extern "C" fn plan_job(job: &[u8], method: u32, plan: &mut [u8]) -> u32
+pub fn plan_job(job: &[u8], method: u32, plan: &mut [u8]) -> u32
     ensures answer { result ≡ host_answer job.now method (length plan.old) }
     ensures bytes { plan.new ≡ host_writes job.now method plan.old }
 {
@@ -238,9 +236,7 @@ pub extern "C" fn plan_job(job: &[u8], method: u32, plan: &mut [u8]) -> u32
 
 // Grades the plan file beside its job file, 1 best, 2 valid, in the buffer's first byte: 0, or the refusal: 2 to 8, 15
 // and 16 on the job file, then 9, 12, 11 or 13.
-// In C: uint32_t grade_plan(const uint8_t *job, size_t job_len, const uint8_t *plan, size_t plan_len, uint8_t *grade, size_t grade_len).
-#[unsafe(no_mangle)]
-pub extern "C" fn grade_plan(job: &[u8], plan: &[u8], grade: &mut [u8]) -> u32
+pub fn grade_plan(job: &[u8], plan: &[u8], grade: &mut [u8]) -> u32
     ensures answer { result ≡ host_grade job.now plan.now (length grade.old) }
     ensures bytes { grade.new ≡ host_grades job.now plan.now grade.old }
 {

@@ -12,7 +12,7 @@ use Rattle.planner.proofs.close_walk.Goals as goal
 
 pub returns-then-ended : goal.returns-then-ended
 returns-then-ended c =
-    let p = c.requires.closed c.if-ended.true in record { value = p.decreases; separators_after = stands_whole p }
+    let p = c.requires.closed c.if-ended.true in record { value = p.measured; separators_after = stands_whole p }
 
 pub probe_in-requires : goal.probe_in-requires
 probe_in-requires c = record { ready = c.requires.ready; lendable = c.requires.lendable; job_in_bounds = c.requires.job_in_bounds; held_value = c.any_hold-held.ensures }
