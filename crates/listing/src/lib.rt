@@ -1,6 +1,7 @@
 // The listing of a job file, as text in a lent buffer: its counts and the plan of each method, or the number that it is refused
 // with. What stands in it is a definition, `listing`, and `list` puts exactly these bytes.
 #![tactic(auto)]
+
 ghost use Rattle.std.specs.Prelude.{◌+◌, ◌*◌, ◌≤◌, ◌<◌, ◌≡◌, [], ◌∷◌, T, length};
 ghost use Rattle.chain.specs.Job.{edition_of, Job, job_of, Valid, processors, enough};
 ghost use Rattle.chain.specs.Refusal.{enough_test, first_refusal};

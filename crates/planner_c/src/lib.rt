@@ -1,5 +1,6 @@
 // The two calls for hosts in C, as they stand in `planner`: planning and grading by file.
 #![tactic(auto)]
+
 ghost use Rattle.std.specs.Prelude.{◌≡◌, length};
 ghost use Rattle.grading.specs.Files.{host_grade, host_grades};
 ghost use Rattle.planner.specs.HostCall.{host_answer, host_writes};
