@@ -1,6 +1,7 @@
 // The line that `grade` writes, as text in a buffer. What stands in it is a definition, `grade_line`. All functions here are inner: their
 // callers have room for the line.
 #![tactic(auto)]
+
 ghost use Rattle.std.specs.Prelude.{◌≤◌, length, take};
 ghost use Rattle.grading.specs.Files.{file_grade};
 ghost use Rattle.texts.specs.Room.{refusal_room, Put};

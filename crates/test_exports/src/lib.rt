@@ -2,6 +2,7 @@
 // Each wrapper returns 0 or the refusal's number. What the function answers goes into the lent `answer`, one number an entry;
 // entries past its end are dropped, and a refusal leaves `answer` as it was.
 #![tactic(auto)]
+
 ghost use Rattle.std.specs.Prelude.{◌≡◌, cond, [], ◌∷◌, set};
 ghost use Rattle.refusals.specs.Answers.{written_said};
 ghost use Rattle.jobs.specs.Answers.{read_said};

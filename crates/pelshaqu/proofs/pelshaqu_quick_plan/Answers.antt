@@ -1,0 +1,13 @@
+-- `pelshaqu_quick_plan` meets its contract: number, lists and figures are those of `heuristic`.
+use Prim.Native.Nat.{ℕ}
+use mathlib.Core.Path.{ap, ◌∙◌}
+use mathlib.Core.List.{List, [], ◌∷◌}
+use Rattle.calls.specs.declared.Measured.{Measured}
+use Rattle.calls.specs.Answers.{measured_said}
+use Rattle.pelshaqu.specs.Answer.{said_put}
+use borrow.Author.Rules.{rules}
+use Rattle.pelshaqu.proofs.pelshaqu_quick_plan.Goals as goal
+
+pub returns : goal.returns
+returns c =
+    let a = c.args in record { number = c.put_measured.ensures.number ∙ ap (λ (w : Measured). (measured_said w).number) c.heuristic-measured.ensures.answer; left = ap (λ (l : List ℕ). l ∷ []) c.heuristic-measured.ensures.separators; answer = c.put_measured.ensures.answer ∙ ap (λ (w : Measured). said_put (measured_said w) a.answer.now) c.heuristic-measured.ensures.answer }
