@@ -15,7 +15,7 @@ ghost use Rattle.bisection.specs.Closed.{Fitted, Closed};
 use bound::Bound;
 use chain::{Ends, Outcome};
 use heuristic::heuristic_in;
-use parts::{any_hold, copy_front, ideal_of, measure_in, slowest_of, wide};
+use parts::{Found, any_hold, copy_front, ideal_of, measure_in, slowest_of, wide};
 use probe::probe_in;
 use refusals::MAX_PROCESSORS;
 
@@ -178,7 +178,7 @@ fn bisect(
 
 // Inner. Bisection: a trial at the ideal; if it fails, rounds between its next bid and a bound that fits. It leaves the walk of the last trial
 // that fitted: where there is one that is the plan, and no walk at the bound found is needed.
-pub fn bisection_in(
+pub fn bisection_ended(
     startup: u32,
     speeds: &[u32],
     holds: &[u16],
@@ -211,5 +211,27 @@ pub fn bisection_in(
         Outcome::Fails(next) => bisect(
             startup, speeds, holds, weights, sums, held, next, separators,
         ),
+    }
+}
+
+// Inner. Bisection, and no word of the plan.
+pub fn bisection_in(
+    startup: u32,
+    speeds: &[u32],
+    holds: &[u16],
+    weights: &[u32],
+    sums: &[u32],
+    separators: &mut [u32],
+) -> Found
+    requires ready_kept { let job : Job = job_of startup speeds.now holds.now weights.now in ReadyKept job sums.now }
+    requires job_in_bounds { let job : Job = job_of startup speeds.now holds.now weights.now in processors job < length separators.old }
+    ensures bisection_ends { let job : Job = job_of startup speeds.now holds.now weights.now in BisectionEnds job result.count result.bound }
+    ensures lendable { Lendable result.bound }
+    ensures kept_from { let job : Job = job_of startup speeds.now holds.now weights.now in KeptFrom (suc (processors job)) separators.old separators.new }
+{
+    let ended = bisection_ended(startup, speeds, holds, weights, sums, separators);
+    Found {
+        bound: ended.bound,
+        count: ended.count,
     }
 }

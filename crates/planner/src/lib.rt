@@ -20,7 +20,7 @@ mod imbalance;
 
 use allowance::allowance_of;
 use bidding::bidding_in;
-use bisection::{Ended, bisection_in};
+use bisection::{Ended, bisection_ended};
 use bound::Bound;
 use chain::Method;
 use dynamic::table_in;
@@ -90,7 +90,7 @@ fn run_method(
     match method {
         Method::Table => open(table_in(startup, speeds, holds, weights, scratch)),
         Method::Bidding => open(bidding_in(startup, speeds, holds, weights, scratch, separators)),
-        Method::Bisection => bisection_in(startup, speeds, holds, weights, scratch, separators),
+        Method::Bisection => bisection_ended(startup, speeds, holds, weights, scratch, separators),
         Method::Nicol => open(nicol_in(startup, speeds, holds, weights, scratch, separators)),
     }
 }

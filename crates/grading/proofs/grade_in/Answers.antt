@@ -35,8 +35,12 @@ returns-then-not-is_partition c =
     (not-true _ (ap not c.if-not-is_partition.true))
 
 pub grade_told-requires : goal.grade_told-requires
-grade_told-requires c = record { valid = c.requires.valid; job_in_bounds = omega arith; partition = front_division (job_of c.args.startup c.args.speeds.now c.args.holds.now c.args.weights.now) c.args.plan.now c.if-plan-speeds.false c.take_separators.ensures.value (not-false _ (ap not c.if-not-take_separators.false)) _ _ c.take_separators.ensures.separators_after c.is_partition.ensures
-            (not-false _ (ap not c.if-not-is_partition.false)) }
+grade_told-requires c = record {
+  valid = c.requires.valid;
+  job_in_bounds = omega arith;
+  partition = front_division (job_of c.args.startup c.args.speeds.now c.args.holds.now c.args.weights.now) c.args.plan.now c.if-plan-speeds.false c.take_separators.ensures.value (not-false _ (ap not c.if-not-take_separators.false)) _ _ c.take_separators.ensures.separators_after c.is_partition.ensures
+      (not-false _ (ap not c.if-not-is_partition.false));
+}
 
 pub returns : goal.returns
 returns c =

@@ -31,7 +31,7 @@ returns-in-Bidding c =
     let o = open_ended c.args.method c.open-in-Bidding.ensures (ends-bidding c.in-Bidding.is c.bidding_in.ensures.bidding_ends) (ended_lendable v c.requires.ready.1.enough-holds c.bidding_in.ensures.bidding_ends) in record { method_ends = o.0; lendable = o.1; kept_from = kept_written (walk job c.bidding_in.result.bound) _ b c.requires.job_in_bounds.0 (walk_count v c.bidding_in.result.bound) c.bidding_in.ensures.separators_after; ready_2 = c.requires.ready.0; kept_from_2 = kept_start (scratch_needed job) c.args.scratch.now; closed = o.2 }
 
 pub returns-in-Bisection : goal.returns-in-Bisection
-returns-in-Bisection c = record { method_ends = ends_bisection c.in-Bisection.is c.bisection_in.ensures.bisection_ends; lendable = c.bisection_in.ensures.lendable; kept_from = c.bisection_in.ensures.kept_from; ready_2 = c.requires.ready.0; kept_from_2 = kept_start (scratch_needed ((job_of c.args.startup c.args.speeds.now c.args.holds.now c.args.weights.now))) c.args.scratch.now; closed = c.bisection_in.ensures.closed }
+returns-in-Bisection c = record { method_ends = ends_bisection c.in-Bisection.is c.bisection_ended.ensures.bisection_ends; lendable = c.bisection_ended.ensures.lendable; kept_from = c.bisection_ended.ensures.kept_from; ready_2 = c.requires.ready.0; kept_from_2 = kept_start (scratch_needed ((job_of c.args.startup c.args.speeds.now c.args.holds.now c.args.weights.now))) c.args.scratch.now; closed = c.bisection_ended.ensures.closed }
 
 pub returns-in-Nicol : goal.returns-in-Nicol
 returns-in-Nicol c =

@@ -1,4 +1,4 @@
--- `bisection_in` meets its contract, by what the trial at the ideal answers.
+-- `bisection_ended` meets its contract, by what the trial at the ideal answers.
 use Prim.Native.Nat.{suc}
 use mathlib.Core.Path.{subst, sym, ap, ◌∙◌}
 use native.Mathlib.Omega.{arith}
@@ -16,7 +16,7 @@ use Rattle.parts.proofs.Front.{kept_start, kept_trans, kept_written, front_parti
 use Rattle.probe.proofs.Answer.{walk_count, fits_outcome, fails_outcome}
 use Rattle.bisection.proofs.Laws.{ended_at_once, ideal_plan}
 use borrow.Author.Rules.{rules}
-use Rattle.bisection.proofs.bisection_in.Goals as goal
+use Rattle.bisection.proofs.bisection_ended.Goals as goal
 
 pub probe_in-answer-requires : goal.probe_in-answer-requires
 probe_in-answer-requires c = record { ready = c.requires.ready_kept.ready; lendable = subst Lendable (sym c.ideal_of-bound.ensures) (ideal_lendable c.requires.ready_kept.ready.valid); job_in_bounds = c.requires.job_in_bounds; held_value = c.any_hold-held.ensures }
