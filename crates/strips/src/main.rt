@@ -1,12 +1,17 @@
 // The program: a job file comes on standard input, and its listing goes to standard output. What the listing is, is the library's
 // (`listing::list`); here is only what is read and written.
 #![tactic(auto)]
-ghost use Rattle.std.specs.Prelude.{◌≡◌};
-ghost use Rattle.io.specs.Counts.{IsPrefixLen};
-ghost use Rattle.listing.specs.Listing.{listing};
+
+ghost use Rattle.std.specs.Prelude.{◌≡◌, ℕ, ◌<◌, ◌≤◌, List, false, length, take, IfSome, IsErrOf, OnOk};
+ghost use Rattle.std.specs.Counts.{IsPrefixLen};
+ghost use Rattle.std.specs.Io.KnownBytes.{Appends, Consumes, IsAtEnd, Keeps};
+ghost use Rattle.listing.specs.Listing.{intake, listing};
+ghost use Rattle.strips.specs.declared.Failure.TheVariants.{Unread};
 
 use listing::{INTAKE, LISTING_ROOM, list};
 use refusals::Written;
+use std::io::{Read, Write};
+use std::{fmt, io};
 
 // What came on standard input: the number of bytes, and whether a read failed before the input ended.
 #[derive(Clone, Copy)]
@@ -15,27 +20,45 @@ struct Input {
     failed: bool,
 }
 
+// Why there is no listing.
+#[derive(Clone, Copy)]
+enum Failure {
+    Unread,
+    Unwritten,
+}
+
+impl fmt::Display for Failure {
+    fn fmt<W: fmt::Write>(&self, f: &mut fmt::Formatter<W>) -> fmt::Result {
+        f.write_str(match self {
+            Failure::Unread => "standard input cannot be read",
+            Failure::Unwritten => "the listing cannot be written",
+        })
+    }
+}
+
 // Fills the buffer from standard input, however the bytes arrive, until it is full or the input ends.
-fn take_in(file: &mut [u8]) -> Input
-    ensures { IsPrefixLen result.bytes file.new }
+fn take_in<R: Read>(input: &mut R, file: &mut [u8]) -> Input
+    ensures prefix { IsPrefixLen result.bytes file.new }
+    ensures taken { Consumes (R.remaining input.old) (R.remaining input.new) (take result.bytes file.new) }
+    ensures all { result.failed ≡ false → result.bytes < length file.new → IsAtEnd (R.remaining input.new) }
 {
     let mut bytes = 0;
     while bytes < file.len() {
-        let got = libc::read(0, &mut file[bytes..]);
-        if got < 0 {
-            return Input {
-                bytes,
-                failed: true,
-            };
+        match input.read(&mut file[bytes..]) {
+            Ok(0) => {
+                return Input {
+                    bytes,
+                    failed: false,
+                };
+            }
+            Ok(more) => bytes += more,
+            Err(_) => {
+                return Input {
+                    bytes,
+                    failed: true,
+                };
+            }
         }
-        let more = io::count(got, &file[bytes..]);
-        if more == 0 {
-            return Input {
-                bytes,
-                failed: false,
-            };
-        }
-        bytes += more;
     }
     Input {
         bytes,
@@ -44,31 +67,49 @@ fn take_in(file: &mut [u8]) -> Input
 }
 
 // Hands the text to standard output: it has to be the listing of the file.
-fn send(file: &[u8], text: &[u8]) -> bool
+fn send<W: Write>(out: &mut W, file: &[u8], text: &[u8]) -> io::Result<()>
     requires { text.now ≡ listing file.now }
+    ensures { OnOk result (Appends (W.contents out.old) (W.contents out.new) (listing file.now)) }
 {
-    io::write_all(1, text)
+    out.write_all(text)
 }
 
 // Writes the listing of what came. The buffer has room for every listing, so that `list` refuses nothing.
-fn answer(file: &[u8]) {
-    let mut out = [0u8; LISTING_ROOM];
-    let listed = list(file, &mut out);
-    let Written::Bytes(n) = listed else {
-        return;
+fn answer<W: Write>(out: &mut W, file: &[u8]) -> io::Result<()>
+    ensures { OnOk result (Appends (W.contents out.old) (W.contents out.new) (listing file.now)) }
+{
+    let mut text = [0u8; LISTING_ROOM];
+    let Written::Bytes(n) = list(file, &mut text) else {
+        unreachable!();
     };
-    if !send(file, &out[..n]) {
-        io::write_all(2, b"strips: the listing cannot be written\n");
+    send(out, file, &text[..n])
+}
+
+// Writes the listing of all that comes, of which it reads as much as is judged.
+fn run<R: Read, W: Write>(input: &mut R, out: &mut W) -> Result<(), Failure>
+    ensures listed { IfSome (R.remaining input.old) (λ file.
+        OnOk result (Appends (W.contents out.old) (W.contents out.new) (listing file))) }
+    ensures taken { (bytes : List ℕ) × (length bytes ≤ intake) × Consumes (R.remaining input.old) (R.remaining input.new) bytes }
+    ensures unread { IsErrOf result Unread → Keeps (W.contents out.old) (W.contents out.new) }
+{
+    let mut file = [0u8; INTAKE];
+    let taken = take_in(input, &mut file);
+    if taken.failed {
+        return Err(Failure::Unread);
+    }
+    match answer(out, &file[..taken.bytes]) {
+        Ok(()) => Ok(()),
+        Err(_) => Err(Failure::Unwritten),
     }
 }
 
-fn main() {
-    let mut file = [0u8; INTAKE];
-    let input = take_in(&mut file);
-    if input.failed {
-        io::write_all(2, b"strips: standard input cannot be read\n");
-        return;
+// Says on standard error what cannot be done.
+fn complain(rt: &impl Eprint, failure: Failure) {
+    let _ = eprintln!(rt; "strips: {failure}");
+}
+
+fn main(rt: HostRuntime) {
+    if let Err(failure) = run(&mut rt.stdin(), &mut rt.stdout()) {
+        complain(&rt, failure);
     }
-    let n = input.bytes;
-    answer(&file[..n]);
 }
