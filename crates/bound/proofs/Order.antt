@@ -7,7 +7,7 @@ use mathlib.Core.Logic.{◌⊎◌, inl, inr}
 use native.Mathlib.Omega.{arith}
 use native.Mathlib.Decide.{dec_le}
 use native.Mathlib.Nat.{mul-le-mul_right, le_of_mul-le-mul_right, one-le-mul}
-use lib.Dec.{T, leb, leb→le, le→leb, nleb→lt, T_not, not_T}
+use lib.Dec.{T, leb→le, le→leb, nleb→lt, T_not, not_T}
 use borrow.Author.Tests.{leb-true, leb-false}
 use Rattle.bound.specs.declared.Bound.{Bound}
 use Rattle.bound.specs.Order.{nought, infinite, le, ◌≼◌, ◌≺◌, ◌≈◌, pick, greater, lesser, least_to, least_below, Real, Finite}

@@ -1,7 +1,7 @@
 -- The one thing that every method must reach: a bound that fits and is at most every bound that fits. The walk at any such
 -- bound is the best partition, and there is only one best partition.
 -- Assumes nothing.
-use Prim.Native.Nat.{ℕ, suc, ◌-◌, ◌≤◌}
+use Prim.Native.Nat.{ℕ, suc, ◌≤◌}
 use mathlib.Core.Path.{◌≡◌, sym, ap, subst, ◌∙◌}
 use mathlib.Core.List.{List}
 use native.Mathlib.Omega.{arith}

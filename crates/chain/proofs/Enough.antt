@@ -1,9 +1,9 @@
 -- The holds are enough exactly where some partition keeps them: the walk without a bound is one. Where they are, a bound at which a probe
 -- fails is a number, and there is a number that fits.
 -- Assumes nothing.
-use Prim.Native.Nat.{ℕ, zero, suc, ◌+◌, ◌-◌, ◌≤◌, ◌<◌}
+use Prim.Native.Nat.{ℕ, zero, suc, ◌+◌, ◌≤◌, ◌<◌}
 use mathlib.Core.Path.{◌≡◌, refl, sym, ap, subst, ◌∙◌}
-use mathlib.Core.Bool.{Bool, true, not, ◌&&◌}
+use mathlib.Core.Bool.{Bool, not, ◌&&◌}
 use mathlib.Core.List.{List}
 use mathlib.Core.Logic.{◌⊎◌, inl, inr, ◌↔◌}
 use native.Mathlib.Omega.{arith}
@@ -21,7 +21,7 @@ use Rattle.chain.proofs.Parts.{Proper, Plannable}
 use Rattle.chain.proofs.Within.{Free, keeps_cases, keeps_unlimited, keeps-limited, within_of}
 use Rattle.chain.proofs.Indices.{all-at, all_of}
 use Rattle.chain.proofs.Bottleneck.{processors-last, bottleneck_finite}
-use Rattle.chain.proofs.Walk.{separator_to, separator_grows, separator_past, separator_full, reaches_fits, walk_partition, bottleneck-fits}
+use Rattle.chain.proofs.Walk.{separator_to, separator_past, separator_full, reaches_fits, walk_partition, bottleneck-fits}
 
 module _ (job : Job) where
   -- The two tests of holds that fall short.

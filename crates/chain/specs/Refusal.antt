@@ -1,5 +1,5 @@
 -- The refusals that lists and a plan file can cause, by number, and the order of their tests. Scope, section 8.
-use Rattle.std.specs.Prelude.{ℕ, suc, ◌+◌, ◌≡◌, Bool, true, false, not, ◌&&◌, cond, length, take, T, leb, eqb}
+use Rattle.std.specs.Prelude.{ℕ, suc, ◌≡◌, Bool, true, false, not, ◌&&◌, cond, length, take, T, leb, eqb}
 use mathlib.Core.List.{List, [], ◌∷◌, ◌++◌, map, Memᴰ}
 use Rattle.bound.specs.declared.Bound.{Bound}
 use Rattle.chain.specs.Limits.{max_tasks, max_weight, max_startup, max_processors, max_speed, max_bound_load, max_bound_speed}

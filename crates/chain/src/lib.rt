@@ -1,5 +1,6 @@
 // The problem: definitions in specs/, theorems about them in proofs/, and the types that the definitions share with the code.
 #![tactic(auto)]
+
 use bound::Bound;
 
 // The methods of planning: the table, bidding, bisection and Nicol's search.

@@ -11,7 +11,7 @@ use lib.Dec.{T, eqb, eqb→eq}
 use lib.ListN.{length, take, drop, set, get_or-append}
 use borrow.Author.Tests.{ne_eqb, eq-eqb}
 use Rattle.chain.specs.Lists.{all}
-use Rattle.chain.specs.Job.{Job, job_of, Valid, processors, speed_of, part_load, at, Partition}
+use Rattle.chain.specs.Job.{Job, job_of, processors, speed_of, part_load, at, Partition}
 use Rattle.chain.specs.Grade.{unbeaten}
 use Rattle.chain.specs.Refusal.{Test, PlanRecords, separators_of, is_partition, length_test, plan_length_test, joined, joined_test, true_at, true_test, first_refusal, job_tests, nothing, plan_tests, call_tests, refusal}
 use Rattle.chain.proofs.Tests.{T_of}

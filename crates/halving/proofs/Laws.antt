@@ -7,11 +7,11 @@ use native.Mathlib.Omega.{arith}
 use native.Mathlib.Numerals.{add-one}
 use lib.ListN.{length, set, take, drop, length-append, length-set, take-append-drop}
 use lib.Seq.{length-take-le, append_snoc, drop-append-add, set_split, take-set-le, drop-set-lt, take-suc-set, drop-drop, take_at, drop_at}
-use Rattle.chain.specs.Lists.{smallest_least, distance, levels, digits, digits_within}
-use Rattle.chain.specs.Job.{Job, tasks, processors, part_weight, at}
+use Rattle.chain.specs.Lists.{smallest_least, levels, digits, digits_within}
+use Rattle.chain.specs.Job.{Job, tasks, processors, at}
 use Rattle.chain.specs.Halving.{uneven, split, splits_by, halving}
 use Rattle.chain.proofs.Parts.{weight_split}
-use Rattle.chain.proofs.Indices.{SmallestLeast, smallest_least_is}
+use Rattle.chain.proofs.Indices.{smallest_least_is}
 use Rattle.chain.proofs.Halving.{Halved, halved_power, split_from, split_to, length_splits}
 use Rattle.parts.specs.Prefix.{Ready}
 use Rattle.parts.specs.Rising.{LastAtMost}

@@ -1,6 +1,7 @@
 // Prefix sums of the weights, and what is read off them: loads and bounds of parts, the bottleneck of a partition, and the last
 // index whose sum is at most a cap. All functions here are inner: their callers have tested the job.
 #![tactic(auto)]
+
 ghost use Rattle.std.specs.Prelude.{suc, ◌+◌, ◌≤◌, ◌<◌, ◌^◌, ◌≡◌, ◌++◌, length, get_or, take, drop};
 ghost use Rattle.bound.specs.Order.{over};
 ghost use Rattle.chain.specs.Lists.{sum};

@@ -1,23 +1,23 @@
 -- Laws for the allowance: the greatest and the least of a list, and the methods one by one.
 -- Assumes nothing.
-use Prim.Native.Nat.{ℕ, suc, ◌+◌, ◌-◌, ◌*◌, ◌≤◌, ◌<◌, ◌^◌}
-use mathlib.Core.Path.{◌≡◌, sym, ap, ap₂, subst, ◌∙◌}
+use Prim.Native.Nat.{ℕ, suc, ◌+◌, ◌*◌, ◌≤◌, ◌<◌, ◌^◌}
+use mathlib.Core.Path.{◌≡◌, sym, ap, ap₂, ◌∙◌}
 use mathlib.Core.Bool.{Bool, true, false, not, cond, ◌&&◌}
-use mathlib.Core.List.{List, [], ◌∷◌}
+use mathlib.Core.List.{List}
 use native.Mathlib.Omega.{arith}
 use native.Mathlib.Nat.{mul-le-mul, le_trans as ≤_trans}
 use native.Mathlib.Decide.{dec_le}
-use lib.Dec.{leb, eqb, lit<}
+use lib.Dec.{eqb, lit<}
 use lib.ListN.{length, get_or}
 use borrow.Author.Tests.{eq-eqb, ne_eqb, not-true, not-false}
 use Rattle.chain.specs.declared.Method.{Method}
 use Rattle.chain.specs.declared.Method.TheVariants.{Table, Bidding, Bisection, Nicol}
-use Rattle.chain.specs.Lists.{greatest_of, least_of, digits}
+use Rattle.chain.specs.Lists.{greatest_of, digits}
 use Rattle.chain.specs.Limits.{max_processors}
-use Rattle.chain.specs.Job.{Edition, First, Second, edition_of, Job, Valid, tasks, processors, last, slowest_of}
+use Rattle.chain.specs.Job.{Edition, First, Second, edition_of, Job, Valid, tasks, processors, last}
 use Rattle.chain.specs.Plan.{difference, bidding_allowance, allowance}
 use Rattle.chain.proofs.Indices.{below_next}
-use Rattle.chain.proofs.Extremes.{same_default, greatest_of_le, greatest_cases, slowest-le}
+use Rattle.chain.proofs.Extremes.{greatest_of_le, greatest_cases}
 
 -- The same as code counts.
 more : {Q : ℕ → Type 0} {i : ℕ} → ((k : ℕ) → k < i → Q k) → Q i → (k : ℕ) → k < i + 1 → Q k

@@ -15,7 +15,7 @@ use Rattle.chain.specs.Job.{Edition, OfEdition, Job, Valid, processors, total_we
 use Rattle.chain.specs.Plan.{plan_of, Best, MethodEnds, count_by, found_by, Plan, PlanBy}
 use Rattle.refusals.specs.Inputs.{free_by}
 use Rattle.chain.proofs.Refusals.{Each}
-use Rattle.chain.proofs.Parts.{valid_plannable, valid_proper}
+use Rattle.chain.proofs.Parts.{valid_proper}
 use Rattle.chain.proofs.Demand.{method_is, method_allowed, plan_of_best}
 use Rattle.chain.proofs.Imbalance.{imbalance_none, division_least, division_nought, division_even}
 use Rattle.refusals.specs.declared.Chosen.{Chosen}

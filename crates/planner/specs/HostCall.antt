@@ -1,5 +1,5 @@
 -- What the C call answers and leaves in the plan buffer. Scope, sections 7 and 8.
-use Rattle.std.specs.Prelude.{ℕ, ◌≡◌, List, [], ◌∷◌, ◌++◌, map, length}
+use Rattle.std.specs.Prelude.{ℕ, ◌≡◌, List, ◌∷◌, ◌++◌, map, length}
 use Rattle.chain.specs.Job.{Job}
 use Rattle.chain.specs.Plan.{plan_of}
 use Rattle.chain.specs.Refusal.{Test, method_test, length_test, enough_test, free_test, first_refusal}

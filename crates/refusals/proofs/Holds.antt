@@ -1,23 +1,21 @@
 -- The holds of a job by lists: the list as it is cut, and what the code finds in it.
 -- Assumes nothing.
-use Prim.Native.Nat.{ℕ, zero, suc, ◌+◌, ◌*◌, ◌≤◌, ◌<◌}
+use Prim.Native.Nat.{ℕ, suc, ◌+◌, ◌≤◌, ◌<◌}
 use mathlib.Core.Path.{◌≡◌, refl, sym, ap, ap₂, subst, ◌∙◌}
 use mathlib.Core.Bool.{Bool, true, false, not, ◌&&◌}
 use mathlib.Core.List.Memᴰ
 use mathlib.Core.List.{List, [], ◌∷◌}
-use mathlib.Core.Logic.{◌≢◌}
 use native.Mathlib.Omega.{arith}
 use native.Mathlib.Decide.{dec_le}
 use native.Mathlib.Numerals.{add-one}
-use lib.Dec.{T, leb, eqb, ltb, leb→le, le→leb, ltb→lt, lt→ltb}
+use lib.Dec.{leb, ltb, leb→le, le→leb, ltb→lt, lt→ltb}
 use lib.ListN.{length, get_or, take}
-use lib.Seq.{length-take-le, get_or-take}
-use borrow.Author.Tests.{eq-eqb, ne_eqb, not-true, not-false, lt-ltb, le-ltb, le-leb, lt-leb}
+use borrow.Author.Tests.{not-true, not-false, lt-ltb, le-ltb, le-leb, lt-leb}
 use Rattle.chain.specs.Limits.{max_processors}
-use Rattle.chain.specs.Lists.{sum_to, all, each_of}
+use Rattle.chain.specs.Lists.{sum_to, all}
 use Rattle.chain.specs.Job.{Job, job_of, tasks, processors, Valid, hold_of, held, enough}
 use Rattle.chain.specs.Refusal.{processors_test, length_test, holds_test, enough_test, free_test, first_refusal, job_tests}
-use Rattle.chain.proofs.Cut.{cut_long, long_cut, holds_long, hold_at_lem}
+use Rattle.chain.proofs.Cut.{cut_long, long_cut, hold_at_lem}
 use Rattle.chain.proofs.Tests.{T_true, and_left, same_test}
 use Rattle.chain.proofs.Indices.{all-at, all_of}
 use Rattle.chain.proofs.Refusals.{pass_head, job_numbered, accepted_passes, job_accepted}

@@ -1,11 +1,8 @@
 -- `parting` meets its contract: the scan keeps `Parted`.
-use Prim.Native.Nat.{◌-◌}
 use mathlib.Core.Path.{sym, ◌∙◌}
 use native.Mathlib.Omega.{arith}
-use borrow.Author.Rules.{rules}
-use Rattle.chain.specs.Job.{job_of}
 use Rattle.chain.proofs.Ranges.{narrow_products}
-use Rattle.bidding.proofs.Resume.{Scanned, parted_start, parting_products, end_after, end_before, parted_turn, parted_reached}
+use Rattle.bidding.proofs.Resume.{parted_start, parting_products, end_after, end_before, parted_turn, parted_reached}
 use Rattle.bidding.proofs.parting.Goals as goal
 
 pub loop-p-init : goal.loop-p-init
@@ -16,7 +13,12 @@ bounds-separators-p c = omega (arith, c.requires.failed_walk.room)
 
 pub bid_at-bid-requires : goal.bid_at-bid-requires
 bid_at-bid-requires c =
-    let w = c.loop-p.invariant c.requires.failed_walk in record { ready = c.requires.ready_kept.ready; p_bound = (omega arith, end_after c.requires.ready_kept.ready.valid c.requires.ready_kept.enough-holds c.requires.failed_walk w (omega arith) c.index-end.ensures, end_before c.requires.ready_kept.ready.valid c.requires.ready_kept.enough-holds c.requires.failed_walk w (omega arith) c.index-end.ensures); held_value = c.requires.held_value }
+    let w = c.loop-p.invariant c.requires.failed_walk in
+    record {
+      ready = c.requires.ready_kept.ready;
+      p_bound = (omega arith, end_after c.requires.ready_kept.ready.valid c.requires.ready_kept.enough-holds c.requires.failed_walk w (omega arith) c.index-end.ensures, end_before c.requires.ready_kept.ready.valid c.requires.ready_kept.enough-holds c.requires.failed_walk w (omega arith) c.index-end.ensures);
+      held_value = c.requires.held_value;
+    }
 
 pub at_most-requires : goal.at_most-requires
 at_most-requires c =

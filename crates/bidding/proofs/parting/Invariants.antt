@@ -1,10 +1,6 @@
 use Prim.Native.Nat.{◌-◌}
-use mathlib.Core.Path.{sym, ◌∙◌}
-use native.Mathlib.Omega.{arith}
-use borrow.Author.Rules.{rules}
 use Rattle.chain.specs.Job.{job_of}
-use Rattle.chain.proofs.Ranges.{narrow_products}
-use Rattle.bidding.proofs.Resume.{Scanned, parted_start, parting_products, end_after, end_before, parted_turn, parted_reached}
+use Rattle.bidding.proofs.Resume.{Scanned}
 use Rattle.bidding.proofs.parting.Given as goal
 
 abbrev pub invariant-loop-p : goal.invariant-loop-p

@@ -1,7 +1,6 @@
 -- `pass_block` meets its contract: a block that is passed by is as the walk would leave it.
 use mathlib.Core.Path.{sym, ◌∙◌}
 use native.Mathlib.Omega.{arith}
-use borrow.Author.Rules.{rules}
 use borrow.Author.Tests.{not-true}
 use Rattle.bound.proofs.Order.{false_lt}
 use Rattle.chain.proofs.Ranges.{narrow_products}
@@ -20,4 +19,12 @@ returns-then-not-at_most c =
     c.index-then-not-at_most.ensures
 
 pub walk_block-requires : goal.walk_block-requires
-walk_block-requires c = record { ready = c.requires.ready; lendable = c.requires.lendable; job_in_bounds = c.requires.job_in_bounds; come = c.requires.come; first_le_stop = c.requires.first_le_stop; held_value = c.requires.held_value }
+walk_block-requires c =
+    record {
+      ready = c.requires.ready;
+      lendable = c.requires.lendable;
+      job_in_bounds = c.requires.job_in_bounds;
+      come = c.requires.come;
+      first_le_stop = c.requires.first_le_stop;
+      held_value = c.requires.held_value;
+    }

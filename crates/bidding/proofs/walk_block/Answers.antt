@@ -1,11 +1,7 @@
 -- `walk_block` meets its contract: the loop keeps `Going`.
-use Prim.Native.Nat.{◌-◌}
 use native.Mathlib.Omega.{arith}
-use borrow.Author.Rules.{rules}
-use lib.ListN.{length-set}
-use Rattle.chain.specs.Job.{job_of}
 use Rattle.chain.proofs.Ranges.{index_fits, narrow_products}
-use Rattle.bidding.proofs.Blocks.{Going, going_start, going_old, going_placed, going_turn, going_end}
+use Rattle.bidding.proofs.Blocks.{going_start, going_old, going_placed, going_turn, going_end}
 use Rattle.bidding.proofs.walk_block.Goals as goal
 
 pub bounds-separators-first : goal.bounds-separators-first
@@ -29,7 +25,14 @@ bounds-separators-p-in-loop-p c =
 
 pub share_at-share-requires : goal.share_at-share-requires
 share_at-share-requires c =
-    let w = c.loop-p.invariant in record { ready = c.requires.ready; lendable = c.requires.lendable; p_bound = (omega (arith, c.requires.first_le_stop.1), w.walked.left); was_le = going_old c.requires.ready.valid c.requires.come w (omega arith) c.requires.first_le_stop.1 c.index-old.ensures; held_value = c.requires.held_value }
+    let w = c.loop-p.invariant in
+    record {
+      ready = c.requires.ready;
+      lendable = c.requires.lendable;
+      p_bound = (omega (arith, c.requires.first_le_stop.1), w.walked.left);
+      was_le = going_old c.requires.ready.valid c.requires.come w (omega arith) c.requires.first_le_stop.1 c.index-old.ensures;
+      held_value = c.requires.held_value;
+    }
 
 pub returns-then-n-a : goal.returns-then-n-a
 returns-then-n-a c =

@@ -1,10 +1,6 @@
 use Prim.Native.Nat.{◌-◌}
-use native.Mathlib.Omega.{arith}
-use borrow.Author.Rules.{rules}
-use lib.ListN.{length-set}
 use Rattle.chain.specs.Job.{job_of}
-use Rattle.chain.proofs.Ranges.{index_fits, narrow_products}
-use Rattle.bidding.proofs.Blocks.{Going, going_start, going_old, going_placed, going_turn, going_end}
+use Rattle.bidding.proofs.Blocks.{Going}
 use Rattle.bidding.proofs.walk_block.Given as goal
 
 abbrev pub invariant-loop-p : goal.invariant-loop-p

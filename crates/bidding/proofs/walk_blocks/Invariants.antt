@@ -1,12 +1,6 @@
 use Prim.Native.Nat.{◌-◌, ◌*◌}
-use mathlib.Core.Path.{refl, sym, ◌∙◌}
-use native.Mathlib.Omega.{arith}
-use lib.ListN.{length, length-set}
-use Rattle.chain.specs.Limits.{max_processors}
-use Rattle.chain.specs.Job.{Job, job_of}
-use Rattle.chain.proofs.Ranges.{index_fits, narrow_products, lent_finite}
-use Rattle.probe.proofs.Walked.{walked_end, answer_fits, answer_fails}
-use Rattle.bidding.proofs.Trial.{Trial, trial_start, trial_none, fits_leasts, trial_come, known_small, known_least, trial_placed, trial_room, trial_turn, trial_last, trial_leasts}
+use Rattle.chain.specs.Job.{job_of}
+use Rattle.bidding.proofs.Trial.{Trial}
 use Rattle.bidding.proofs.walk_blocks.Given as goal
 
 abbrev pub invariant-loop-k : goal.invariant-loop-k

@@ -1,20 +1,14 @@
 -- `bisect` meets its contract: the loop keeps `Halved`, and that the walk of the last fit stands in the list.
-use Prim.Native.Nat.{ℕ, suc, ◌-◌, ◌<◌}
+use Prim.Native.Nat.{ℕ, suc}
 use mathlib.Core.Path.{◌≡◌, refl, sym, ◌∙◌}
 use native.Mathlib.Omega.{arith}
-use borrow.Author.Rules.{rules}
-use lib.ListN.{length, drop}
+use lib.ListN.{length}
 use Rattle.bound.proofs.Order.{true_le}
 use Rattle.chain.specs.Limits.{max_processors}
-use Rattle.chain.specs.Lists.{digits}
-use Rattle.chain.specs.Job.{Job, job_of}
-use Rattle.chain.specs.Plan.{difference}
 use Rattle.chain.proofs.Parts.{valid_plannable}
 use Rattle.chain.proofs.Ranges.{small_lendable, small_products}
-use Rattle.parts.specs.Kept.{KeptFrom}
 use Rattle.parts.proofs.Front.{kept_start, kept_trans}
-use Rattle.bisection.specs.Closed.{Fitted}
-use Rattle.bisection.proofs.Laws.{Halved, halved_start, halved_room, halved_next, halved_end, halved_least, rounds_fit, fit_plan}
+use Rattle.bisection.proofs.Laws.{halved_start, halved_room, halved_next, halved_end, halved_least, rounds_fit, fit_plan}
 use Rattle.bisection.proofs.bisect.Goals as goal
 
 pub overflow_add-speeds : goal.overflow_add-speeds
@@ -63,7 +57,14 @@ slice_bounds-next_ends-end-in-loop-failed c = sym c.loop-failed.invariant.5
 
 pub next_ends-round-requires : goal.next_ends-round-requires
 next_ends-round-requires c =
-    let m = c.requires.ready_kept.ready.valid.processors_limit in record { ready_kept = c.requires.ready_kept; job_in_bounds = (omega (arith, c.loop-failed.invariant.4), omega (arith, c.loop-failed.invariant.5), c.loop-failed.invariant.2); small = (c.loop-failed.invariant.0.low_small, c.loop-failed.invariant.0.high_small); held_value = c.requires.held_value; fitted = c.loop-failed.invariant.3 }
+    let m = c.requires.ready_kept.ready.valid.processors_limit in
+    record {
+      ready_kept = c.requires.ready_kept;
+      job_in_bounds = (omega (arith, c.loop-failed.invariant.4), omega (arith, c.loop-failed.invariant.5), c.loop-failed.invariant.2);
+      small = (c.loop-failed.invariant.0.low_small, c.loop-failed.invariant.0.high_small);
+      held_value = c.requires.held_value;
+      fitted = c.loop-failed.invariant.3;
+    }
 
 pub overflow_add-rounds : goal.overflow_add-rounds
 overflow_add-rounds c =
@@ -89,4 +90,10 @@ overflow_add-result c = omega (arith, rounds_fit c.loop-failed.rounds c.requires
 pub returns : goal.returns
 returns c =
     let v = c.requires.ready_kept.ready.valid in
-    let m = sym c.at_most.ensures ∙ c.if-at_most.true in record { bisection_ends = halved_end v c.requires.ready_kept.enough-holds c.loop-failed.invariant.0 m (omega arith); lendable = small_lendable c.loop-failed.invariant.0.low_small; kept_from = kept_trans c.first_high-high.ensures.kept_from c.loop-failed.invariant.1; closed = (λ e. fit_plan (valid_plannable v c.requires.ready_kept.enough-holds) (halved_least v c.requires.ready_kept.enough-holds c.loop-failed.invariant.0 m) (true_le m) (c.loop-failed.invariant.3 e)) }
+    let m = sym c.at_most.ensures ∙ c.if-at_most.true in
+    record {
+      bisection_ends = halved_end v c.requires.ready_kept.enough-holds c.loop-failed.invariant.0 m (omega arith);
+      lendable = small_lendable c.loop-failed.invariant.0.low_small;
+      kept_from = kept_trans c.first_high-high.ensures.kept_from c.loop-failed.invariant.1;
+      closed = (λ e. fit_plan (valid_plannable v c.requires.ready_kept.enough-holds) (halved_least v c.requires.ready_kept.enough-holds c.loop-failed.invariant.0 m) (true_le m) (c.loop-failed.invariant.3 e));
+    }

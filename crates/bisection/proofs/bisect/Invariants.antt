@@ -1,19 +1,13 @@
-use Prim.Native.Nat.{ℕ, suc, ◌-◌, ◌<◌}
-use mathlib.Core.Path.{◌≡◌, refl, sym, ◌∙◌}
-use native.Mathlib.Omega.{arith}
-use borrow.Author.Rules.{rules}
-use lib.ListN.{length, drop}
-use Rattle.bound.proofs.Order.{true_le}
+use Prim.Native.Nat.{suc, ◌-◌, ◌<◌}
+use mathlib.Core.Path.{◌≡◌}
+use lib.ListN.{length}
 use Rattle.chain.specs.Limits.{max_processors}
 use Rattle.chain.specs.Lists.{digits}
-use Rattle.chain.specs.Job.{Job, job_of}
+use Rattle.chain.specs.Job.{job_of}
 use Rattle.chain.specs.Plan.{difference}
-use Rattle.chain.proofs.Parts.{valid_plannable}
-use Rattle.chain.proofs.Ranges.{small_lendable, small_products}
 use Rattle.parts.specs.Kept.{KeptFrom}
-use Rattle.parts.proofs.Front.{kept_start, kept_trans}
 use Rattle.bisection.specs.Closed.{Fitted}
-use Rattle.bisection.proofs.Laws.{Halved, halved_start, halved_room, halved_next, halved_end, halved_least, rounds_fit, fit_plan}
+use Rattle.bisection.proofs.Laws.{Halved}
 use Rattle.bisection.proofs.bisect.Given as goal
 
 abbrev pub invariant-loop-failed : goal.invariant-loop-failed

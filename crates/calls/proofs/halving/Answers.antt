@@ -1,5 +1,4 @@
 -- `halving` meets its contract: with the start-up work that counts.
-use borrow.Author.Rules.{rules}
 use Rattle.calls.proofs.halving.Goals as goal
 
 pub returns : goal.returns

@@ -9,19 +9,28 @@ use Rattle.chain.proofs.Halving.{halving_partition}
 use Rattle.parts.proofs.Front.{front_partition, front-bottleneck}
 use Rattle.parts.proofs.Laws.{sums_ready, weights_fit}
 use Rattle.chain.proofs.Within.{free_of}
-use borrow.Author.Rules.{rules}
 use Rattle.calls.proofs.halving_tested.Goals as goal
 
 pub prefix_sums-requires : goal.prefix_sums-requires
 unfolding max_tasks
-prefix_sums-requires c = record { weights_bound = weights_fit c.requires.valid.0; weights_in_bounds = omega (arith, c.requires.valid.0.tasks_limit) }
+prefix_sums-requires c =
+    record {
+      weights_bound = weights_fit c.requires.valid.0;
+      weights_in_bounds = omega (arith, c.requires.valid.0.tasks_limit);
+    }
 
 pub halving_in-requires : goal.halving_in-requires
-halving_in-requires c = record { ready = sums_ready _ c.requires.valid.0 c.prefix_sums.ensures; halvable = c.requires.halvable; job_in_bounds = c.requires.job_in_bounds }
+halving_in-requires c =
+    record {
+      ready = sums_ready _ c.requires.valid.0 c.prefix_sums.ensures;
+      halvable = c.requires.halvable;
+      job_in_bounds = c.requires.job_in_bounds;
+    }
 
 pub measure_in-requires : goal.measure_in-requires
 measure_in-requires c =
-    let job : Job = (job_of c.args.startup c.args.speeds.now c.args.holds.now c.args.weights.now) in record {
+    let job : Job = job_of c.args.startup c.args.speeds.now c.args.holds.now c.args.weights.now in
+    record {
       ready = sums_ready _ c.requires.valid.0 c.prefix_sums.ensures;
       partition = front_partition (halving job) (drop (suc (length c.args.speeds.now)) c.args.separators.now) (halving_partition job c.requires.halvable (free_of c.requires.valid.1))
           c.halving_in.ensures;
@@ -29,7 +38,8 @@ measure_in-requires c =
 
 pub returns : goal.returns
 returns c =
-    let job : Job = (job_of c.args.startup c.args.speeds.now c.args.holds.now c.args.weights.now) in record {
+    let job : Job = job_of c.args.startup c.args.speeds.now c.args.holds.now c.args.weights.now in
+    record {
       value = front-bottleneck (halving job) (drop (suc (length c.args.speeds.now)) c.args.separators.now) (halving_partition job c.requires.halvable (free_of c.requires.valid.1)) c.halving_in.ensures
           c.measure_in.ensures.value_2;
       separators_after = c.halving_in.ensures;

@@ -2,12 +2,16 @@
 use native.Mathlib.Omega.{arith}
 use Rattle.chain.specs.Limits.{max_tasks}
 use Rattle.parts.proofs.Laws.{sums_ready, weights_fit}
-use borrow.Author.Rules.{rules}
 use Rattle.calls.proofs.measure_tested.Goals as goal
 
 pub prefix_sums-requires : goal.prefix_sums-requires
 unfolding max_tasks
-prefix_sums-requires c = record { weights_bound = weights_fit c.requires.valid; weights_in_bounds = omega (arith, c.requires.valid.tasks_limit) }
+prefix_sums-requires c =
+    record {
+      weights_bound = weights_fit c.requires.valid;
+      weights_in_bounds = omega (arith, c.requires.valid.tasks_limit);
+    }
 
 pub measure_in-requires : goal.measure_in-requires
-measure_in-requires c = record { ready = sums_ready _ c.requires.valid c.prefix_sums.ensures; partition = c.requires.partition }
+measure_in-requires c =
+    record { ready = sums_ready _ c.requires.valid c.prefix_sums.ensures; partition = c.requires.partition }

@@ -1,5 +1,4 @@
 -- `probe` meets its contract: with the start-up work that counts.
-use borrow.Author.Rules.{rules}
 use Rattle.calls.proofs.probe.Goals as goal
 
 pub returns : goal.returns

@@ -6,14 +6,20 @@ use Rattle.dynamic.proofs.Laws.{tabling_start, tabling_row, tabling_turn, tablin
 use Rattle.dynamic.proofs.table_in.Goals as goal
 
 pub first_row-requires : goal.first_row-requires
-first_row-requires c = record { ready = c.requires.ready; job_bound = omega arith }
+first_row-requires c =
+    record { ready = c.requires.ready; job_bound = omega arith }
 
 pub loop-p-init : goal.loop-p-init
 loop-p-init c =
     tabling_start c.requires.ready (places_start (omega arith) (omega arith) (omega arith) c.requires.job_in_bounds) c.first_row.ensures (omega arith)
 
 pub fill_row-pointer-requires : goal.fill_row-pointer-requires
-fill_row-pointer-requires c = record { row_ready = tabling_row c.loop-p.invariant (omega arith); places = c.loop-p.invariant.places; at_value = (omega arith, omega (arith, c.loop-p.invariant.carried, moves_fit c.loop-p.invariant.ready.valid c.loop-p.p c.loop-p.invariant.below)) }
+fill_row-pointer-requires c =
+    record {
+      row_ready = tabling_row c.loop-p.invariant (omega arith);
+      places = c.loop-p.invariant.places;
+      at_value = (omega arith, omega (arith, c.loop-p.invariant.carried, moves_fit c.loop-p.invariant.ready.valid c.loop-p.p c.loop-p.invariant.below));
+    }
 
 pub loop-p-preserved : goal.loop-p-preserved
 loop-p-preserved c = tabling_turn c.loop-p.invariant (omega arith) c.fill_row-pointer.ensures (omega arith) (omega arith)

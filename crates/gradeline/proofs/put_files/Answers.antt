@@ -6,4 +6,8 @@ use Rattle.gradeline.proofs.put_files.Goals as goal
 
 pub returns : goal.returns
 returns c =
-    let a = c.args in record { put = put_as (lent_line a.job.now a.plan.now c.grade_files.ensures) c.put_graded.ensures.put; upper_bound = c.put_graded.ensures.upper_bound }
+    let a = c.args in
+    record {
+      put = put_as (lent_line a.job.now a.plan.now c.grade_files.ensures) c.put_graded.ensures.put;
+      upper_bound = c.put_graded.ensures.upper_bound;
+    }

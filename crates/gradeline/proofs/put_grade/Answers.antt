@@ -15,9 +15,14 @@ slice_bounds-put_plan_taken-end c = sym (length-take-le _ c.args.job.now (omega 
 
 pub returns-then-job-gt-INTAKE : goal.returns-then-job-gt-INTAKE
 unfolding grade_line intake max_processors max_tasks
-returns-then-job-gt-INTAKE c = record { put = c.put_plan_taken.ensures.fact; upper_bound = c.put_plan_taken.ensures.upper_bound }
+returns-then-job-gt-INTAKE c =
+    record { put = c.put_plan_taken.ensures.fact; upper_bound = c.put_plan_taken.ensures.upper_bound }
 
 pub returns : goal.returns
 unfolding intake max_processors max_tasks
 returns c =
-    let a = c.args in record { put = put_as (job_whole a.job.now a.plan.now (omega arith)) c.put_plan_taken-2.ensures.fact; upper_bound = c.put_plan_taken-2.ensures.upper_bound }
+    let a = c.args in
+    record {
+      put = put_as (job_whole a.job.now a.plan.now (omega arith)) c.put_plan_taken-2.ensures.fact;
+      upper_bound = c.put_plan_taken-2.ensures.upper_bound;
+    }

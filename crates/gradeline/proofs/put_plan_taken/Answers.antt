@@ -14,9 +14,14 @@ slice_bounds-put_files-end c = sym (length-take-le _ c.args.plan.now (omega arit
 
 pub returns-then-plan-gt-PLAN_INTAKE : goal.returns-then-plan-gt-PLAN_INTAKE
 unfolding plan_intake max_processors max_tasks
-returns-then-plan-gt-PLAN_INTAKE c = record { fact = c.put_files.ensures.put; upper_bound = c.put_files.ensures.upper_bound }
+returns-then-plan-gt-PLAN_INTAKE c =
+    record { fact = c.put_files.ensures.put; upper_bound = c.put_files.ensures.upper_bound }
 
 pub returns : goal.returns
 unfolding plan_intake max_processors max_tasks
 returns c =
-    let a = c.args in record { fact = put_as (plan_whole a.job.now a.plan.now (omega arith)) c.put_files-2.ensures.put; upper_bound = c.put_files-2.ensures.upper_bound }
+    let a = c.args in
+    record {
+      fact = put_as (plan_whole a.job.now a.plan.now (omega arith)) c.put_files-2.ensures.put;
+      upper_bound = c.put_files-2.ensures.upper_bound;
+    }

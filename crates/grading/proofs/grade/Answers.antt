@@ -1,5 +1,4 @@
 -- `grade` meets its contract: with the start-up work that counts.
-use borrow.Author.Rules.{rules}
 use Rattle.grading.proofs.grade.Goals as goal
 
 pub returns : goal.returns

@@ -7,7 +7,6 @@ use lib.Seq.{length-take-le}
 use Rattle.chain.specs.Limits.{max_processors, max_tasks}
 use Rattle.jobs.proofs.Taken.{read_taken, read_rejected, taken_valid}
 use Rattle.grading.proofs.Answering.{files_refused, files_graded}
-use borrow.Author.Rules.{rules}
 use Rattle.grading.proofs.grade_files.Goals as goal
 
 pub slice_bounds-speeds-end : goal.slice_bounds-speeds-end
@@ -42,7 +41,8 @@ slice_bounds-grade_read-end-in-Read-2 c =
 
 pub grade_read-requires : goal.grade_read-requires
 grade_read-requires c =
-    let w = read_taken c.args.job.now _ _ _ c.read_job-answer.ensures.answer c.in-Read.is c.read_job-answer.ensures.speeds c.read_job-answer.ensures.holds c.read_job-answer.ensures.weights in record { valid = taken_valid w }
+    let w = read_taken c.args.job.now _ _ _ c.read_job-answer.ensures.answer c.in-Read.is c.read_job-answer.ensures.speeds c.read_job-answer.ensures.holds c.read_job-answer.ensures.weights in
+    record { valid = taken_valid w }
 
 pub returns-in-Refused : goal.returns-in-Refused
 unfolding max_processors max_tasks

@@ -4,7 +4,6 @@ use Rattle.chain.specs.Limits.{max_processors}
 use Rattle.chain.specs.Job.{job_of}
 use Rattle.grading.proofs.Answering.{grade_length, grade_gap, grade_no_division, front_division, grade_told}
 use borrow.Author.Tests.{not-true, not-false}
-use borrow.Author.Rules.{rules}
 use mathlib.Core.Path.{ap}
 use mathlib.Core.Bool.{not}
 use Rattle.grading.proofs.grade_in.Goals as goal
@@ -19,7 +18,12 @@ returns-then-plan-speeds c =
 
 pub take_separators-requires : goal.take_separators-requires
 unfolding max_processors
-take_separators-requires c = record { valid = c.requires.valid; job_in_bounds = omega arith; job_in_bounds_2 = omega (arith, c.requires.valid.processors_limit) }
+take_separators-requires c =
+    record {
+      valid = c.requires.valid;
+      job_in_bounds = omega arith;
+      job_in_bounds_2 = omega (arith, c.requires.valid.processors_limit);
+    }
 
 pub returns-then-not-take_separators : goal.returns-then-not-take_separators
 returns-then-not-take_separators c =
@@ -27,7 +31,8 @@ returns-then-not-take_separators c =
 
 pub is_partition-requires : goal.is_partition-requires
 unfolding max_processors
-is_partition-requires c = record { valid = c.requires.valid; job_in_bounds = omega (arith, c.requires.valid.processors_limit) }
+is_partition-requires c =
+    record { valid = c.requires.valid; job_in_bounds = omega (arith, c.requires.valid.processors_limit) }
 
 pub returns-then-not-is_partition : goal.returns-then-not-is_partition
 returns-then-not-is_partition c =
@@ -35,12 +40,13 @@ returns-then-not-is_partition c =
     (not-true _ (ap not c.if-not-is_partition.true))
 
 pub grade_told-requires : goal.grade_told-requires
-grade_told-requires c = record {
-  valid = c.requires.valid;
-  job_in_bounds = omega arith;
-  partition = front_division (job_of c.args.startup c.args.speeds.now c.args.holds.now c.args.weights.now) c.args.plan.now c.if-plan-speeds.false c.take_separators.ensures.value (not-false _ (ap not c.if-not-take_separators.false)) _ _ c.take_separators.ensures.separators_after c.is_partition.ensures
-      (not-false _ (ap not c.if-not-is_partition.false));
-}
+grade_told-requires c =
+    record {
+      valid = c.requires.valid;
+      job_in_bounds = omega arith;
+      partition = front_division (job_of c.args.startup c.args.speeds.now c.args.holds.now c.args.weights.now) c.args.plan.now c.if-plan-speeds.false c.take_separators.ensures.value (not-false _ (ap not c.if-not-take_separators.false)) _ _ c.take_separators.ensures.separators_after c.is_partition.ensures
+          (not-false _ (ap not c.if-not-is_partition.false));
+    }
 
 pub returns : goal.returns
 returns c =

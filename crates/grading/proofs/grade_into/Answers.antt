@@ -1,7 +1,6 @@
 -- `grade_into` meets its contract, by what grading answers.
 use native.Mathlib.Omega.{arith}
 use Rattle.grading.proofs.Answering.{into_refused, best_room, valid_room, into_best, into_valid}
-use borrow.Author.Rules.{rules}
 use Rattle.grading.proofs.grade_into.Goals as goal
 
 pub bounds-grade-0 : goal.bounds-grade-0
@@ -16,12 +15,15 @@ bounds-grade-0-in-Valid c =
 
 pub returns-in-Refused : goal.returns-in-Refused
 returns-in-Refused c =
-    let a = c.args in let h = into_refused a.job.now a.plan.now a.grade.now c.grade_files-graded.ensures c.in-Refused.is in record { answer = h.0; bytes = h.1 }
+    let a = c.args in let h = into_refused a.job.now a.plan.now a.grade.now c.grade_files-graded.ensures c.in-Refused.is in
+    record { answer = h.0; bytes = h.1 }
 
 pub returns-in-Best : goal.returns-in-Best
 returns-in-Best c =
-    let a = c.args in let h = into_best a.job.now a.plan.now a.grade.now c.grade_files-graded.ensures c.in-Best.is (omega arith) in record { answer = h.0; bytes = h.1 }
+    let a = c.args in let h = into_best a.job.now a.plan.now a.grade.now c.grade_files-graded.ensures c.in-Best.is (omega arith) in
+    record { answer = h.0; bytes = h.1 }
 
 pub returns-in-Valid : goal.returns-in-Valid
 returns-in-Valid c =
-    let a = c.args in let h = into_valid a.job.now a.plan.now a.grade.now c.grade_files-graded.ensures c.in-Valid.is (omega arith) in record { answer = h.0; bytes = h.1 }
+    let a = c.args in let h = into_valid a.job.now a.plan.now a.grade.now c.grade_files-graded.ensures c.in-Valid.is (omega arith) in
+    record { answer = h.0; bytes = h.1 }

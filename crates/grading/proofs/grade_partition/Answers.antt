@@ -2,11 +2,14 @@
 use Rattle.chain.proofs.Enough.{partition_enough}
 use Rattle.parts.proofs.Measure.{front_length}
 use Rattle.grading.proofs.Laws.{measured_products, graded_best, graded_valid}
-use borrow.Author.Rules.{rules}
 use Rattle.grading.proofs.grade_partition.Goals as goal
 
 pub bisection_in-found-requires : goal.bisection_in-found-requires
-bisection_in-found-requires c = record { ready_kept = record { ready = c.requires.ready; enough-holds = partition_enough _ c.requires.partition }; job_in_bounds = front_length c.args.separators.now c.requires.partition }
+bisection_in-found-requires c =
+    record {
+      ready_kept = record { ready = c.requires.ready; enough-holds = partition_enough _ c.requires.partition };
+      job_in_bounds = front_length c.args.separators.now c.requires.partition;
+    }
 
 pub at_most-requires : goal.at_most-requires
 at_most-requires c =

@@ -1,7 +1,6 @@
 -- `grade_read` meets its contract: the buffer, then the plan file.
 use Rattle.chain.specs.Job.{job_of}
 use Rattle.grading.proofs.Answering.{room_refused, room_graded}
-use borrow.Author.Rules.{rules}
 use Rattle.grading.proofs.grade_read.Goals as goal
 
 pub returns-then-number-ne0 : goal.returns-then-number-ne0

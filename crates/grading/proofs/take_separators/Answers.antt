@@ -1,10 +1,8 @@
 -- `take_separators` meets its contract: after p turns the first p + 1 separators are taken.
-use Prim.Native.Nat.{◌-◌}
 use mathlib.Core.Path.{refl}
 use native.Mathlib.Omega.{arith}
-use lib.ListN.{length}
 use Rattle.chain.specs.Job.{job_of}
-use Rattle.grading.proofs.Laws.{Taking, taking_none, taking_next, taking_length, taken_all}
+use Rattle.grading.proofs.Laws.{taking_none, taking_next, taken_all}
 use Rattle.grading.proofs.take_separators.Goals as goal
 
 pub loop-p-init : goal.loop-p-init
@@ -21,4 +19,5 @@ loop-p-preserved c =
 
 pub returns : goal.returns
 returns c = let h = taken_all (job_of c.args.startup c.args.speeds.now c.args.holds.now c.args.weights.now) c.args.plan.now c.args.separators.now c.get_field.result c.loop-p.invariant
-    c.loop-p-test.false in record { value = h.0; separators_after = h.1 }
+    c.loop-p-test.false in
+    record { value = h.0; separators_after = h.1 }

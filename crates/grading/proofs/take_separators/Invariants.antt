@@ -1,9 +1,7 @@
 use Prim.Native.Nat.{◌-◌}
-use mathlib.Core.Path.{refl}
-use native.Mathlib.Omega.{arith}
 use lib.ListN.{length}
 use Rattle.chain.specs.Job.{job_of}
-use Rattle.grading.proofs.Laws.{Taking, taking_none, taking_next, taking_length, taken_all}
+use Rattle.grading.proofs.Laws.{Taking}
 use Rattle.grading.proofs.take_separators.Given as goal
 
 abbrev pub invariant-loop-p : goal.invariant-loop-p

@@ -1,7 +1,5 @@
 -- `tells_all` meets its contract: after p turns the first p records tell what is so.
-use Prim.Native.Nat.{◌-◌, ◌≤◌}
 use mathlib.Core.Path.{◌≡◌, sym, ap, ◌∙◌}
-use mathlib.Core.Bool.{true}
 use native.Mathlib.Omega.{arith}
 use lib.ListN.{length}
 use Rattle.chain.specs.Lists.{all}
@@ -17,7 +15,13 @@ pub loop-p-init : goal.loop-p-init
 loop-p-init c = (omega arith, all_none _)
 
 pub tells_at-requires : goal.tells_at-requires
-tells_at-requires c = record { ready = c.requires.ready; partition = c.requires.partition; job_in_bounds = c.requires.job_in_bounds; p_bound = omega arith }
+tells_at-requires c =
+    record {
+      ready = c.requires.ready;
+      partition = c.requires.partition;
+      job_in_bounds = c.requires.job_in_bounds;
+      p_bound = omega arith;
+    }
 
 pub returns-then-not-tells_at : goal.returns-then-not-tells_at
 unfolding tells

@@ -1,15 +1,10 @@
 use Prim.Native.Nat.{◌-◌, ◌≤◌}
-use mathlib.Core.Path.{◌≡◌, sym, ap, ◌∙◌}
+use mathlib.Core.Path.{◌≡◌}
 use mathlib.Core.Bool.{true}
-use native.Mathlib.Omega.{arith}
 use lib.ListN.{length}
 use Rattle.chain.specs.Lists.{all}
 use Rattle.chain.specs.Job.{job_of}
-use Rattle.grading.specs.Inner.{tells_at, tells}
-use Rattle.grading.proofs.Laws.{all_none, all_more, all-ends}
-use borrow.Author.Tests.{not-true, not-false}
-use mathlib.Core.Path.{ap}
-use mathlib.Core.Bool.{not}
+use Rattle.grading.specs.Inner.{tells_at}
 use Rattle.grading.proofs.tells_all.Given as goal
 
 abbrev pub invariant-loop-p : goal.invariant-loop-p

@@ -5,7 +5,6 @@ use Rattle.chain.specs.Job.{Job, job_of}
 use Rattle.parts.proofs.Laws.{speed_read, loads_to, prefix_load}
 use Rattle.parts.proofs.Measure.{front_length, front_part}
 use Rattle.grading.proofs.Laws.{load_read, tells_read}
-use borrow.Author.Rules.{rules}
 use Rattle.grading.proofs.tells_at.Goals as goal
 
 pub bounds-separators-p : goal.bounds-separators-p
@@ -18,7 +17,8 @@ bounds-separators-p-2 c =
 
 pub part_load-load-requires : goal.part_load-load-requires
 part_load-load-requires c =
-    let h = front_part c.args.separators.now c.requires.partition c.requires.p_bound c.index.ensures c.index-2.ensures in record { loadable = loads_to c.requires.ready h.1; a_le_b = h.0 }
+    let h = front_part c.args.separators.now c.requires.partition c.requires.p_bound c.index.ensures c.index-2.ensures in
+    record { loadable = loads_to c.requires.ready h.1; a_le_b = h.0 }
 
 pub returns : goal.returns
 returns c =

@@ -1,6 +1,5 @@
 -- `ends_sum` meets its contract: two numbers of 32 bits.
 use native.Mathlib.Omega.{arith}
-use borrow.Author.Rules.{rules}
 use Rattle.halving.proofs.ends_sum.Goals as goal
 
 pub overflow_add-result : goal.overflow_add-result

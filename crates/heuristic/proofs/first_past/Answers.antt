@@ -1,6 +1,5 @@
 -- `first_past` meets its contract: the index after the last entry at most the quotient.
 use Rattle.heuristic.proofs.Laws.{above_after}
-use borrow.Author.Rules.{rules}
 use Rattle.heuristic.proofs.first_past.Goals as goal
 
 pub returns : goal.returns

@@ -1,14 +1,9 @@
 -- `heuristic_in` meets its contract: the loop keeps `Placed`.
-use Prim.Native.Nat.{◌+◌, ◌-◌, ◌*◌}
-use mathlib.Core.Path.{◌∙◌}
 use native.Mathlib.Omega.{arith}
-use lib.ListN.{length, length-set}
-use borrow.Author.Rules.{rules}
-use Rattle.chain.specs.Job.{job_of}
+use lib.ListN.{length}
 use Rattle.chain.proofs.Ranges.{index_fits}
 use Rattle.parts.proofs.Laws.{speeds_add_up, prefix_rising}
-use Rattle.heuristic.specs.Target.{FirstPast}
-use Rattle.heuristic.proofs.Laws.{total_positive, cap_fits, start_below, first_past_of, Placed, speed_fits, placed_start, placed_fits, placed_target, placed_behind, placed_products, placed_past, placed_found, placed_narrow, placed_turn, placed_end}
+use Rattle.heuristic.proofs.Laws.{total_positive, cap_fits, start_below, first_past_of, speed_fits, placed_start, placed_fits, placed_target, placed_behind, placed_products, placed_past, placed_found, placed_narrow, placed_turn, placed_end}
 use Rattle.heuristic.proofs.heuristic_in.Goals as goal
 
 pub total-all_speed-requires : goal.total-all_speed-requires
@@ -21,11 +16,15 @@ loop-p-init c =
 
 pub overflow_add-speed : goal.overflow_add-speed
 overflow_add-speed c =
-    record { fits = speed_fits c.requires.ready.valid c.loop-p.invariant.speeds (omega arith) c.wide-speed.ensures }
+    record {
+      fits = speed_fits c.requires.ready.valid c.loop-p.invariant.speeds (omega arith) c.wide-speed.ensures;
+    }
 
 pub overflow_mul-target : goal.overflow_mul-target
 overflow_mul-target c =
-    record { fits = placed_fits c.requires.ready.valid c.loop-p.invariant c.loop-p-test.true c.wide-speed.ensures }
+    record {
+      fits = placed_fits c.requires.ready.valid c.loop-p.invariant c.loop-p-test.true c.wide-speed.ensures;
+    }
 
 pub first_past-past-requires : goal.first_past-past-requires
 first_past-past-requires c =
@@ -33,13 +32,19 @@ first_past-past-requires c =
     let w = c.loop-p.invariant in
     let h = c.loop-p-test.true in
     let t = placed_target v w h c.wide-speed.ensures in
-    let b = placed_behind v w h c.wide-speed.ensures in record { rising = prefix_rising c.requires.ready.prefix; le_factor = (total_positive c.requires.ready t, cap_fits c.requires.ready t); le_i = (b.from, b.to, start_below c.requires.ready t b) }
+    let b = placed_behind v w h c.wide-speed.ensures in
+    record {
+      rising = prefix_rising c.requires.ready.prefix;
+      le_factor = (total_positive c.requires.ready t, cap_fits c.requires.ready t);
+      le_i = (b.from, b.to, start_below c.requires.ready t b);
+    }
 
 pub nearest_in-s-requires : goal.nearest_in-s-requires
 nearest_in-s-requires c =
     let v = c.requires.ready.valid in
     let w = c.loop-p.invariant in
-    let h = c.loop-p-test.true in record {
+    let h = c.loop-p-test.true in
+    record {
       rising = prefix_rising c.requires.ready.prefix;
       le_factor = (total_positive c.requires.ready (placed_target v w h c.wide-speed.ensures), placed_products v w h c.wide-speed.ensures c.requires.ready);
       past_from = placed_past v w h c.wide-speed.ensures c.requires.ready ((

@@ -1,7 +1,6 @@
 -- `high_nearer` meets its contract: on either side of the target the differences are the distances.
 use Prim.Native.Nat.{◌*◌}
 use native.Mathlib.Omega.{arith}
-use borrow.Author.Rules.{rules}
 use borrow.Author.Tests.{leb-true, leb-false, ltb-true, ltb-false}
 use Rattle.chain.specs.Lists.{distance}
 use Rattle.heuristic.proofs.Nearest.{test_is}

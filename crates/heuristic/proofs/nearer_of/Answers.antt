@@ -6,7 +6,6 @@ use mathlib.Core.Path.{refl}
 use native.Mathlib.Omega.{arith}
 use mir.Val.{bool_byte}
 use Rattle.heuristic.proofs.Laws.{choice_products, choice_nearer}
-use borrow.Author.Rules.{rules}
 use Rattle.heuristic.proofs.nearer_of.Goals as goal
 
 pub high_nearer-nearer-requires : goal.high_nearer-nearer-requires

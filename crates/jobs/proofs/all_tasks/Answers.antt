@@ -1,11 +1,9 @@
 -- `all_tasks` meets its contract: after j turns the first j records are tested.
-use Prim.Native.Nat.{◌-◌, ◌≤◌}
 use mathlib.Core.Path.{◌≡◌, refl, ap, ◌∙◌}
 use native.Mathlib.Omega.{arith}
 use Rattle.chain.specs.Limits.{max_weight}
 use Rattle.jobs.specs.Inner.{plain_tasks}
 use Rattle.jobs.proofs.AllTasks.{plain_next}
-use borrow.Author.Rules.{rules}
 use Rattle.jobs.proofs.all_tasks.Goals as goal
 
 pub loop-j-init : goal.loop-j-init

@@ -1,10 +1,6 @@
 use Prim.Native.Nat.{◌-◌, ◌≤◌}
-use mathlib.Core.Path.{◌≡◌, refl, ap, ◌∙◌}
-use native.Mathlib.Omega.{arith}
-use Rattle.chain.specs.Limits.{max_weight}
+use mathlib.Core.Path.{◌≡◌}
 use Rattle.jobs.specs.Inner.{plain_tasks}
-use Rattle.jobs.proofs.AllTasks.{plain_next}
-use borrow.Author.Rules.{rules}
 use Rattle.jobs.proofs.all_tasks.Given as goal
 
 abbrev pub invariant-loop-j : goal.invariant-loop-j

@@ -1,6 +1,5 @@
 -- `blank_at` meets its contract: byte 1, then bytes 2 and 3 of a record that is not a processor's.
 use Rattle.jobs.proofs.OneRecord.{blank_laws}
-use borrow.Author.Rules.{rules}
 use Rattle.jobs.proofs.blank_at.Goals as goal
 
 pub returns-then-byte_at-ne0 : goal.returns-then-byte_at-ne0

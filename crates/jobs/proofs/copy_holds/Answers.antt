@@ -1,8 +1,7 @@
 -- `copy_holds` meets its contract: after j turns the first j entries are the holds.
-use Prim.Native.Nat.{◌+◌, ◌-◌}
-use native.Mathlib.Omega.{arith}
+use Prim.Native.Nat.{◌+◌}
 use Rattle.jobs.specs.Parse.{hold_at}
-use Rattle.jobs.proofs.Copying.{Copying, copying_none, copying_next, copying_all}
+use Rattle.jobs.proofs.Copying.{copying_none, copying_next, copying_all}
 use Rattle.jobs.proofs.copy_holds.Goals as goal
 
 pub loop-j-init : goal.loop-j-init

@@ -1,7 +1,6 @@
 use Prim.Native.Nat.{◌+◌, ◌-◌}
-use native.Mathlib.Omega.{arith}
 use Rattle.jobs.specs.Parse.{value_at}
-use Rattle.jobs.proofs.Copying.{Copying, copying_none, copying_next, copying_all}
+use Rattle.jobs.proofs.Copying.{Copying}
 use Rattle.jobs.proofs.copy_values.Given as goal
 
 abbrev pub invariant-loop-j : goal.invariant-loop-j

@@ -1,6 +1,5 @@
 -- `kind_at` meets its contract: the kind is byte 0.
 use Rattle.jobs.specs.Parse.{kind_at}
-use borrow.Author.Rules.{rules}
 use Rattle.jobs.proofs.kind_at.Goals as goal
 
 pub returns : goal.returns

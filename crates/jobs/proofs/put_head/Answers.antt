@@ -2,7 +2,6 @@
 use native.Mathlib.Omega.{arith}
 use Rattle.refusals.proofs.Editions.{second_head}
 use Rattle.jobs.proofs.Writing.{head_put, head_none}
-use borrow.Author.Rules.{rules}
 use Rattle.jobs.proofs.put_head.Goals as goal
 
 pub put_record-requires : goal.put_record-requires

@@ -1,9 +1,7 @@
 -- `put_processors` meets its contract: after p turns the first p records stand in the file.
-use Prim.Native.Nat.{◌-◌}
-use native.Mathlib.Omega.{arith}
-use lib.ListN.{length, get_or}
+use lib.ListN.{get_or}
 use Rattle.jobs.specs.JobFile.{processor_kind}
-use Rattle.jobs.proofs.Records.{Putting, putting_none, putting_next, putting_all}
+use Rattle.jobs.proofs.Records.{putting_none, putting_next, putting_all}
 use Rattle.jobs.proofs.put_processors.Goals as goal
 
 pub loop-p-init : goal.loop-p-init

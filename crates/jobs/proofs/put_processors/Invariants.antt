@@ -1,8 +1,7 @@
 use Prim.Native.Nat.{◌-◌}
-use native.Mathlib.Omega.{arith}
 use lib.ListN.{length, get_or}
 use Rattle.jobs.specs.JobFile.{processor_kind}
-use Rattle.jobs.proofs.Records.{Putting, putting_none, putting_next, putting_all}
+use Rattle.jobs.proofs.Records.{Putting}
 use Rattle.jobs.proofs.put_processors.Given as goal
 
 abbrev pub invariant-loop-p : goal.invariant-loop-p

@@ -1,12 +1,8 @@
 -- `put_record` meets its contract: two stores, half a field and a field make the record.
 use Prim.Native.Nat.{◌*◌}
-use mathlib.Core.Path.{ap, ◌∙◌}
 use native.Mathlib.Omega.{arith}
-use lib.ListN.{length, length-set}
-use Rattle.fields.proofs.Stores.{put_length}
-use Rattle.jobs.specs.JobFile.{record_bytes}
-use Rattle.jobs.proofs.Records.{length_record, half_room, record_stores}
-use borrow.Author.Rules.{rules}
+use lib.ListN.{length-set}
+use Rattle.jobs.proofs.Records.{half_room, record_stores}
 use Rattle.jobs.proofs.put_record.Goals as goal
 
 pub bounds-file-at-2 : goal.bounds-file-at-2

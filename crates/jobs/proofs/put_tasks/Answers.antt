@@ -1,9 +1,6 @@
 -- `put_tasks` meets its contract: after j turns the first j records stand in the file.
-use Prim.Native.Nat.{◌-◌}
-use native.Mathlib.Omega.{arith}
-use lib.ListN.{length}
 use Rattle.jobs.specs.JobFile.{task_kind, no_hold}
-use Rattle.jobs.proofs.Records.{Putting, putting_none, putting_next, putting_all}
+use Rattle.jobs.proofs.Records.{putting_none, putting_next, putting_all}
 use Rattle.jobs.proofs.put_tasks.Goals as goal
 
 pub loop-j-init : goal.loop-j-init

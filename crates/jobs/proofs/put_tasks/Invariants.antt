@@ -1,8 +1,7 @@
 use Prim.Native.Nat.{◌-◌}
-use native.Mathlib.Omega.{arith}
 use lib.ListN.{length}
 use Rattle.jobs.specs.JobFile.{task_kind, no_hold}
-use Rattle.jobs.proofs.Records.{Putting, putting_none, putting_next, putting_all}
+use Rattle.jobs.proofs.Records.{Putting}
 use Rattle.jobs.proofs.put_tasks.Given as goal
 
 abbrev pub invariant-loop-j : goal.invariant-loop-j

@@ -1,6 +1,5 @@
 -- `read_as` meets its contract: no byte, a first record of another kind, one of kind 3.
 use Rattle.jobs.proofs.AllRecords.{as_laws}
-use borrow.Author.Rules.{rules}
 use Rattle.jobs.proofs.read_as.Goals as goal
 
 pub returns-then-kind_at-eq-STARTUP_KIND : goal.returns-then-kind_at-eq-STARTUP_KIND

@@ -1,7 +1,6 @@
 -- `read_tested` meets its contract: 7 and 8, then 9 of each list, then the values of both kinds and the holds.
 use native.Mathlib.Omega.{arith}
 use Rattle.jobs.proofs.Reading.{counted_head, read_laws, read_all}
-use borrow.Author.Rules.{rules}
 use Rattle.jobs.proofs.read_tested.Goals as goal
 
 pub returns-then-found-ne0 : goal.returns-then-found-ne0

@@ -1,7 +1,6 @@
 -- `test_record` meets its contract: 3, then 4 and 5 of a processor, 6 of a task, 15 and 16 of the start-up work.
 use Rattle.chain.specs.Limits.{max_weight, max_startup, max_speed}
 use Rattle.jobs.proofs.OneRecord.{record_laws}
-use borrow.Author.Rules.{rules}
 use Rattle.jobs.proofs.test_record.Goals as goal
 
 pub returns-then-not-blank_at : goal.returns-then-not-blank_at

@@ -1,8 +1,6 @@
 -- `test_records` meets its contract: as long as the loop goes on, the records passed are accepted and counted.
-use Prim.Native.Nat.{◌-◌}
-use mathlib.Core.Logic.{⊎_elim}
 use native.Mathlib.Omega.{arith}
-use Rattle.jobs.proofs.AllRecords.{Tested, tested_none, tested_processor, tested_task, tested_neither, multiple_fails, answer_refused, tested_refused, tested_all}
+use Rattle.jobs.proofs.AllRecords.{tested_none, tested_processor, tested_task, tested_neither, multiple_fails, answer_refused, tested_refused, tested_all}
 use Rattle.jobs.proofs.AllTasks.{tasks-all}
 use Rattle.jobs.proofs.test_records.Goals as goal
 use Rattle.jobs.proofs.test_records.Goals.{then-kind-eq-PROCESSOR_KIND, else-kind-eq-PROCESSOR_KIND+then-kind-eq-TASK_KIND-2, else-kind-eq-PROCESSOR_KIND+else-kind-eq-TASK_KIND-2}

@@ -9,7 +9,6 @@ use Rattle.jobs.proofs.Taken.{read_taken, read_rejected, taken_job, taken_valid}
 use Rattle.texts.proofs.Laws.{put_as}
 use Rattle.listing.specs.Room.{listing_room}
 use Rattle.listing.proofs.Listings.{listed_read, listed_refused}
-use borrow.Author.Rules.{rules}
 use Rattle.listing.proofs.list_file.Goals as goal
 
 pub slice_bounds-speeds-end : goal.slice_bounds-speeds-end
@@ -44,7 +43,8 @@ slice_bounds-list_read-end-in-Read-2 c =
 
 pub list_read-requires : goal.list_read-requires
 list_read-requires c =
-    let w = read_taken c.args.file.now _ _ _ c.read_job-read.ensures.answer c.in-Read.is c.read_job-read.ensures.speeds c.read_job-read.ensures.holds c.read_job-read.ensures.weights in record { valid = taken_valid w; listing_room_in_bounds = omega arith }
+    let w = read_taken c.args.file.now _ _ _ c.read_job-read.ensures.answer c.in-Read.is c.read_job-read.ensures.speeds c.read_job-read.ensures.holds c.read_job-read.ensures.weights in
+    record { valid = taken_valid w; listing_room_in_bounds = omega arith }
 
 pub put_refusal_line-requires : goal.put_refusal_line-requires
 unfolding listing_room
@@ -52,11 +52,19 @@ put_refusal_line-requires c = omega arith
 
 pub returns-in-Read : goal.returns-in-Read
 returns-in-Read c =
-    let w = read_taken c.args.file.now _ _ _ c.read_job-read.ensures.answer c.in-Read.is c.read_job-read.ensures.speeds c.read_job-read.ensures.holds c.read_job-read.ensures.weights in record { fact = put_as (listed_read c.args.file.now w.accepted w.edition (taken_job w)) c.list_read.ensures.fact; upper_bound = omega arith }
+    let w = read_taken c.args.file.now _ _ _ c.read_job-read.ensures.answer c.in-Read.is c.read_job-read.ensures.speeds c.read_job-read.ensures.holds c.read_job-read.ensures.weights in
+    record {
+      fact = put_as (listed_read c.args.file.now w.accepted w.edition (taken_job w)) c.list_read.ensures.fact;
+      upper_bound = omega arith;
+    }
 
 pub returns-in-Refused : goal.returns-in-Refused
 unfolding max_processors max_tasks listing_room
 returns-in-Refused c =
     let file = c.args.file.now in
     let k =
-    read_rejected file (replicate max_processors 0) (replicate max_processors 0) (replicate max_tasks 0) (omega (arith, length-replicate max_processors zero)) (omega (arith, length-replicate max_processors zero)) (omega (arith, length-replicate max_tasks zero)) c.read_job-read.ensures.answer c.in-Refused.is in record { fact = put_as (listed_refused file k.0 k.1) c.put_refusal_line.ensures.put; upper_bound = omega arith }
+    read_rejected file (replicate max_processors 0) (replicate max_processors 0) (replicate max_tasks 0) (omega (arith, length-replicate max_processors zero)) (omega (arith, length-replicate max_processors zero)) (omega (arith, length-replicate max_tasks zero)) c.read_job-read.ensures.answer c.in-Refused.is in
+    record {
+      fact = put_as (listed_refused file k.0 k.1) c.put_refusal_line.ensures.put;
+      upper_bound = omega arith;
+    }

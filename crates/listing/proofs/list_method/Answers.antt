@@ -7,14 +7,14 @@ use lib.Seq.{length-take-le}
 use Rattle.chain.specs.Limits.{max_processors, max_tasks}
 use Rattle.chain.specs.Job.{edition_of}
 use Rattle.listing.proofs.Listings.{method_put}
-use borrow.Author.Rules.{rules}
 use Rattle.listing.proofs.list_method.Goals as goal
 
 pub plan_in-figures-requires : goal.plan_in-figures-requires
 unfolding max_processors max_tasks
 plan_in-figures-requires c =
     let t = c.requires.tested in
-    let v = t.valid in record { tested = t; job_in_bounds = (omega (arith, v.processors_limit), omega (arith, v.tasks_limit)) }
+    let v = t.valid in
+    record { tested = t; job_in_bounds = (omega (arith, v.processors_limit), omega (arith, v.tasks_limit)) }
 
 pub slice_bounds-separators-end : goal.slice_bounds-separators-end
 unfolding max_processors
@@ -37,4 +37,8 @@ pub returns : goal.returns
 unfolding max_processors
 returns c =
     let v = c.requires.tested.valid in
-    let t = length-take-le (length c.args.speeds.now + 1) c.plan_in-figures.new.separators (omega (arith, v.processors_limit)) in record { put = method_put (edition_of c.args.second c.args.startup) c.args.method v _ c.method_number.ensures c.plan_in-figures.ensures.value c.plan_in-figures.ensures.separators_after c.put_plan_line.ensures.put; upper_bound = omega arith }
+    let t = length-take-le (length c.args.speeds.now + 1) c.plan_in-figures.new.separators (omega (arith, v.processors_limit)) in
+    record {
+      put = method_put (edition_of c.args.second c.args.startup) c.args.method v _ c.method_number.ensures c.plan_in-figures.ensures.value c.plan_in-figures.ensures.separators_after c.put_plan_line.ensures.put;
+      upper_bound = omega arith;
+    }

@@ -6,7 +6,6 @@ use Rattle.chain.specs.Limits.{max_processors, max_tasks}
 use Rattle.listing.specs.Listing.{intake, listing}
 use Rattle.texts.proofs.Laws.{put_as}
 use Rattle.listing.proofs.Listings.{listed_whole}
-use borrow.Author.Rules.{rules}
 use Rattle.listing.proofs.list_taken.Goals as goal
 
 pub slice_bounds-list_file-end : goal.slice_bounds-list_file-end
@@ -14,8 +13,13 @@ slice_bounds-list_file-end c = sym (length-take-le _ c.args.file.now (omega arit
 
 pub returns-then-file-gt-INTAKE : goal.returns-then-file-gt-INTAKE
 unfolding listing intake max_processors max_tasks
-returns-then-file-gt-INTAKE c = record { put = c.list_file.ensures.fact; upper_bound = c.list_file.ensures.upper_bound }
+returns-then-file-gt-INTAKE c =
+    record { put = c.list_file.ensures.fact; upper_bound = c.list_file.ensures.upper_bound }
 
 pub returns : goal.returns
 unfolding intake max_processors max_tasks
-returns c = record { put = put_as (listed_whole c.args.file.now (omega arith)) c.list_file-2.ensures.fact; upper_bound = c.list_file-2.ensures.upper_bound }
+returns c =
+    record {
+      put = put_as (listed_whole c.args.file.now (omega arith)) c.list_file-2.ensures.fact;
+      upper_bound = c.list_file-2.ensures.upper_bound;
+    }

@@ -1,12 +1,9 @@
 -- `put_fields` meets its contract: the fields of the first i numbers have been put.
-use Prim.Native.Nat.{◌+◌, ◌*◌, ◌-◌, ◌≤◌}
-use mathlib.Core.Path.{◌≡◌, refl, ap}
+use mathlib.Core.Path.{refl, ap}
 use native.Mathlib.Omega.{arith}
-use lib.ListN.{length, take}
 use lib.Seq.{take_all}
 use Rattle.texts.specs.Text.{field}
 use Rattle.listing.specs.Listing.{fields}
-use Rattle.texts.specs.Room.{field_room, Put}
 use Rattle.texts.proofs.Laws.{put_none, put_then, put_as}
 use Rattle.listing.proofs.Laws.{fields_next}
 use Rattle.listing.proofs.put_fields.Goals as goal
@@ -25,4 +22,8 @@ loop-i-preserved c = (
 )
 
 pub returns : goal.returns
-returns c = record { put = put_as (ap fields (take_all c.loop-i.i c.args.numbers.now (omega arith))) c.loop-i.invariant.3; upper_bound = omega arith }
+returns c =
+    record {
+      put = put_as (ap fields (take_all c.loop-i.i c.args.numbers.now (omega arith))) c.loop-i.invariant.3;
+      upper_bound = omega arith;
+    }

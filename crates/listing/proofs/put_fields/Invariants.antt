@@ -1,13 +1,8 @@
 use Prim.Native.Nat.{◌+◌, ◌*◌, ◌-◌, ◌≤◌}
-use mathlib.Core.Path.{◌≡◌, refl, ap}
-use native.Mathlib.Omega.{arith}
+use mathlib.Core.Path.{◌≡◌}
 use lib.ListN.{length, take}
-use lib.Seq.{take_all}
-use Rattle.texts.specs.Text.{field}
 use Rattle.listing.specs.Listing.{fields}
 use Rattle.texts.specs.Room.{field_room, Put}
-use Rattle.texts.proofs.Laws.{put_none, put_then, put_as}
-use Rattle.listing.proofs.Laws.{fields_next}
 use Rattle.listing.proofs.put_fields.Given as goal
 
 abbrev pub invariant-loop-i : goal.invariant-loop-i

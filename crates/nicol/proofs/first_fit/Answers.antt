@@ -1,13 +1,11 @@
 -- `first_fit` meets its contract: the loop keeps `Halving`.
-use Prim.Native.Nat.{suc, ◌-◌}
+use Prim.Native.Nat.{suc}
 use mathlib.Core.Path.{sym, ◌∙◌}
 use native.Mathlib.Omega.{arith}
 use lib.ListN.{length}
-use Rattle.chain.specs.Job.{job_of}
 use Rattle.chain.proofs.Ranges.{index_fits}
-use Rattle.parts.specs.Kept.{KeptFrom}
 use Rattle.parts.proofs.Front.{kept_start, kept_trans}
-use Rattle.nicol.proofs.Laws.{Halving, halving_start, halving_from, halving_to, halving-fits, halving_fails, halving_end, halving_count}
+use Rattle.nicol.proofs.Laws.{halving_start, halving_from, halving_to, halving-fits, halving_fails, halving_end, halving_count}
 use Rattle.nicol.proofs.first_fit.Goals as goal
 
 pub loop-low-init : goal.loop-low-init
@@ -27,7 +25,12 @@ pub fits_at-requires : goal.fits_at-requires
 fits_at-requires c =
     let v = c.requires.ready_free.ready.valid in
     let from = halving_from v c.requires.ready_free.free c.requires.p_bound.0 c.requires.p_bound.2 c.loop-low.invariant.0 in
-    let to = halving_to v c.requires.ready_free.free c.requires.p_bound.0 c.requires.p_bound.2 c.loop-low.invariant.0 in record { ready_free = c.requires.ready_free; job_in_bounds = omega (arith, c.loop-low.invariant.1.same, c.requires.job_in_bounds); p_bound = (omega (arith, c.requires.p_bound.0), omega (arith, from, c.requires.p_bound.1), omega (arith, to)) }
+    let to = halving_to v c.requires.ready_free.free c.requires.p_bound.0 c.requires.p_bound.2 c.loop-low.invariant.0 in
+    record {
+      ready_free = c.requires.ready_free;
+      job_in_bounds = omega (arith, c.loop-low.invariant.1.same, c.requires.job_in_bounds);
+      p_bound = (omega (arith, c.requires.p_bound.0), omega (arith, from, c.requires.p_bound.1), omega (arith, to));
+    }
 
 pub loop-low-preserved-then-fits_at : goal.loop-low-preserved-then-fits_at
 loop-low-preserved-then-fits_at c = (
@@ -48,4 +51,5 @@ loop-low-preserved c = (
 
 pub returns : goal.returns
 returns c =
-    let e = halving_end c.requires.ready_free.ready.valid c.requires.ready_free.free c.requires.p_bound.0 c.requires.p_bound.2 c.loop-low.invariant.0 c.requires.p_bound.1 (omega arith) in record { index_value = e.0; t = e.1; kept_from = c.loop-low.invariant.1 }
+    let e = halving_end c.requires.ready_free.ready.valid c.requires.ready_free.free c.requires.p_bound.0 c.requires.p_bound.2 c.loop-low.invariant.0 c.requires.p_bound.1 (omega arith) in
+    record { index_value = e.0; t = e.1; kept_from = c.loop-low.invariant.1 }

@@ -1,12 +1,8 @@
 use Prim.Native.Nat.{suc, ◌-◌}
-use mathlib.Core.Path.{sym, ◌∙◌}
-use native.Mathlib.Omega.{arith}
 use lib.ListN.{length}
 use Rattle.chain.specs.Job.{job_of}
-use Rattle.chain.proofs.Ranges.{index_fits}
 use Rattle.parts.specs.Kept.{KeptFrom}
-use Rattle.parts.proofs.Front.{kept_start, kept_trans}
-use Rattle.nicol.proofs.Laws.{Halving, halving_start, halving_from, halving_to, halving-fits, halving_fails, halving_end, halving_count}
+use Rattle.nicol.proofs.Laws.{Halving}
 use Rattle.nicol.proofs.first_fit.Given as goal
 
 abbrev pub invariant-loop-low : goal.invariant-loop-low

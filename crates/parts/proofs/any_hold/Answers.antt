@@ -1,9 +1,7 @@
 -- `any_hold` meets its contract: the loop keeps `Seen`.
-use Prim.Native.Nat.{◌+◌, ◌-◌, ◌≤◌}
+use Prim.Native.Nat.{◌+◌}
 use mathlib.Core.Path.{subst, sym}
-use mathlib.Core.Logic.{⊎_elim}
 use native.Mathlib.Omega.{arith}
-use lib.ListN.{length}
 use Rattle.chain.proofs.Cut.{holds_long}
 use Rattle.parts.proofs.Held.{Seen, seen_start, seen_set, seen_zero, seen_end}
 use Rattle.parts.proofs.any_hold.Goals as goal

@@ -1,10 +1,6 @@
-use Prim.Native.Nat.{◌+◌, ◌-◌, ◌≤◌}
-use mathlib.Core.Path.{subst, sym}
-use mathlib.Core.Logic.{⊎_elim}
-use native.Mathlib.Omega.{arith}
+use Prim.Native.Nat.{◌-◌, ◌≤◌}
 use lib.ListN.{length}
-use Rattle.chain.proofs.Cut.{holds_long}
-use Rattle.parts.proofs.Held.{Seen, seen_start, seen_set, seen_zero, seen_end}
+use Rattle.parts.proofs.Held.{Seen}
 use Rattle.parts.proofs.any_hold.Given as goal
 
 abbrev pub invariant-loop-p : goal.invariant-loop-p

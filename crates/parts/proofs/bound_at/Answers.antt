@@ -4,7 +4,6 @@ use native.Mathlib.Omega.{arith}
 use Rattle.chain.specs.Job.{Job, job_of}
 use Rattle.parts.proofs.Laws.{loads_to, prefix_bound}
 use Rattle.parts.proofs.Measure.{front_length, front_part, bound_read}
-use borrow.Author.Rules.{rules}
 use Rattle.parts.proofs.bound_at.Goals as goal
 
 pub bounds-separators-p : goal.bounds-separators-p
@@ -17,7 +16,8 @@ bounds-separators-p-2 c =
 
 pub part_bound-requires : goal.part_bound-requires
 part_bound-requires c =
-    let h = front_part c.args.separators.now c.requires.partition c.requires.p_bound c.index-a.ensures c.index-b.ensures in record { loadable = loads_to c.requires.ready h.1; a_le_b = h.0 }
+    let h = front_part c.args.separators.now c.requires.partition c.requires.p_bound c.index-a.ensures c.index-b.ensures in
+    record { loadable = loads_to c.requires.ready h.1; a_le_b = h.0 }
 
 pub returns : goal.returns
 returns c =

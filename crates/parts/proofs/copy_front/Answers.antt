@@ -1,10 +1,8 @@
 -- `copy_front` meets its contract: after k turns the first k entries are copied.
-use Prim.Native.Nat.{◌-◌, ◌≤◌}
 use mathlib.Core.Path.{refl, sym}
 use native.Mathlib.Omega.{arith}
-use lib.ListN.{length, get_or, take}
 use lib.Seq.{get_or-take}
-use Rattle.parts.proofs.Front.{Front, front_next, front_copied}
+use Rattle.parts.proofs.Front.{front_next, front_copied}
 use Rattle.parts.proofs.copy_front.Goals as goal
 
 pub loop-k-init : goal.loop-k-init

@@ -1,9 +1,6 @@
 use Prim.Native.Nat.{◌-◌, ◌≤◌}
-use mathlib.Core.Path.{refl, sym}
-use native.Mathlib.Omega.{arith}
-use lib.ListN.{length, get_or, take}
-use lib.Seq.{get_or-take}
-use Rattle.parts.proofs.Front.{Front, front_next, front_copied}
+use lib.ListN.{get_or, take}
+use Rattle.parts.proofs.Front.{Front}
 use Rattle.parts.proofs.copy_front.Given as goal
 
 abbrev pub invariant-loop-k : goal.invariant-loop-k

@@ -1,7 +1,7 @@
 -- `halve` meets its contract: a halved step goes on, or the entry there is above the cap.
 use Prim.Native.Nat.{◌-◌, ◌/◌}
 use native.Mathlib.Omega.{arith}
-use Rattle.parts.specs.Rising.{near, Rising, Spanned}
+use Rattle.parts.specs.Rising.{near}
 use Rattle.parts.proofs.Search.{half_stays, half_goes, step_at_most}
 use Rattle.parts.proofs.halve.Goals as goal
 

@@ -1,7 +1,4 @@
-use Prim.Native.Nat.{◌-◌, ◌/◌}
-use native.Mathlib.Omega.{arith}
-use Rattle.parts.specs.Rising.{near, Rising, Spanned}
-use Rattle.parts.proofs.Search.{half_stays, half_goes, step_at_most}
+use Rattle.parts.specs.Rising.{Rising, Spanned}
 use Rattle.parts.proofs.halve.Given as goal
 
 abbrev pub invariant-loop-step : goal.invariant-loop-step

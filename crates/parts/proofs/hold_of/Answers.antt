@@ -1,7 +1,6 @@
 -- `hold_of` meets its contract: the list of holds is as long as that of the speeds, and below P it is not cut.
 use mathlib.Core.Path.{◌∙◌}
 use native.Mathlib.Omega.{arith}
-use borrow.Author.Rules.{rules}
 use Rattle.chain.proofs.Cut.{holds_long, hold_at_lem}
 use Rattle.parts.proofs.hold_of.Goals as goal
 
@@ -12,4 +11,8 @@ bounds-holds-p c =
 
 pub returns : goal.returns
 returns c =
-    let a = c.args in record { value = c.hold_count.ensures.value ∙ hold_at_lem a.startup a.speeds.now a.holds.now a.weights.now a.p c.requires.p_bound; upper_bound = c.hold_count.ensures.upper_bound }
+    let a = c.args in
+    record {
+      value = c.hold_count.ensures.value ∙ hold_at_lem a.startup a.speeds.now a.holds.now a.weights.now a.p c.requires.p_bound;
+      upper_bound = c.hold_count.ensures.upper_bound;
+    }

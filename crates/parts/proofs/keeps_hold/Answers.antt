@@ -1,9 +1,8 @@
 -- `keeps_hold` meets its contract: no limit, or the comparison.
 use Prim.Native.Nat.{◌-◌}
-use mathlib.Core.Path.{◌≡◌, sym, ap, ◌∙◌}
+use mathlib.Core.Path.{sym, ap, ◌∙◌}
 use mathlib.Core.Bool.{Bool, ◌||◌}
 use lib.Dec.{leb}
-use borrow.Author.Rules.{rules}
 use borrow.Author.Tests.{eq-eqb, ne_eqb}
 use Rattle.chain.specs.Job.{Job, job_of, hold_of, keeps}
 use Rattle.parts.proofs.keeps_hold.Goals as goal

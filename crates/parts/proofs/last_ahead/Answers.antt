@@ -1,6 +1,5 @@
 -- `last_ahead` meets its contract: one look, or the search from the next index on.
 use native.Mathlib.Omega.{arith}
-use borrow.Author.Rules.{rules}
 use Rattle.parts.proofs.Search.{look_last}
 use Rattle.parts.proofs.last_ahead.Goals as goal
 

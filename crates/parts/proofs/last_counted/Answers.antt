@@ -1,8 +1,8 @@
 -- `last_counted` meets its contract: the last so far among the entries so far.
-use Prim.Native.Nat.{ℕ, ◌+◌, ◌-◌, ◌≤◌}
+use Prim.Native.Nat.{ℕ, ◌+◌}
 use mathlib.Core.Path.{◌≡◌, subst}
 use native.Mathlib.Omega.{arith}
-use Rattle.parts.specs.Rising.{Rising, LastAtMost}
+use Rattle.parts.specs.Rising.{LastAtMost}
 use Rattle.parts.proofs.Search.{counted_start, counted_more, counted_same}
 use Rattle.parts.proofs.last_counted.Goals as goal
 

@@ -1,8 +1,5 @@
-use Prim.Native.Nat.{ℕ, ◌+◌, ◌-◌, ◌≤◌}
-use mathlib.Core.Path.{◌≡◌, subst}
-use native.Mathlib.Omega.{arith}
+use Prim.Native.Nat.{◌+◌, ◌-◌, ◌≤◌}
 use Rattle.parts.specs.Rising.{Rising, LastAtMost}
-use Rattle.parts.proofs.Search.{counted_start, counted_more, counted_same}
 use Rattle.parts.proofs.last_counted.Given as goal
 
 abbrev pub invariant-loop-k : goal.invariant-loop-k

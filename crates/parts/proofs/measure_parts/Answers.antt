@@ -1,22 +1,26 @@
 -- `measure_parts` meets its contract: the loop keeps `Measured`.
-use Prim.Native.Nat.{◌-◌}
 use mathlib.Core.Path.{◌∙◌}
 use native.Mathlib.Omega.{arith}
-use lib.ListN.{length}
 use borrow.Author.Rules.{rules}
 use Rattle.chain.specs.Job.{job_of}
-use Rattle.parts.proofs.Measure.{Measured, bottleneck-take, measured_start, measured_products, measured_turn, measured_end}
+use Rattle.parts.proofs.Measure.{bottleneck-take, measured_start, measured_products, measured_turn, measured_end}
 use Rattle.parts.proofs.measure_parts.Goals as goal
 
 pub bound_at-greatest-requires : goal.bound_at-greatest-requires
-bound_at-greatest-requires c = record { ready = c.requires.ready; partition = c.requires.partition; p_bound = c.requires.ready.valid.some_processor }
+bound_at-greatest-requires c =
+    record {
+      ready = c.requires.ready;
+      partition = c.requires.partition;
+      p_bound = c.requires.ready.valid.some_processor;
+    }
 
 pub loop-p-init : goal.loop-p-init
 loop-p-init c =
     measured_start c.requires.ready.valid c.args.separators.now c.bound_at-greatest.ensures
 
 pub bound_at-here-requires : goal.bound_at-here-requires
-bound_at-here-requires c = record { ready = c.requires.ready; partition = c.requires.partition; p_bound = omega arith }
+bound_at-here-requires c =
+    record { ready = c.requires.ready; partition = c.requires.partition; p_bound = omega arith }
 
 pub greater-greatest-requires : goal.greater-greatest-requires
 greater-greatest-requires c =
@@ -29,4 +33,8 @@ loop-p-preserved c =
 
 pub returns : goal.returns
 returns c =
-    let e = measured_end c.loop-p.invariant (omega arith) in record { value = e; value_2 = e ∙ bottleneck-take (job_of c.args.startup c.args.speeds.now c.args.holds.now c.args.weights.now) c.args.separators.now c.requires.ready.valid.some_processor }
+    let e = measured_end c.loop-p.invariant (omega arith) in
+    record {
+      value = e;
+      value_2 = e ∙ bottleneck-take (job_of c.args.startup c.args.speeds.now c.args.holds.now c.args.weights.now) c.args.separators.now c.requires.ready.valid.some_processor;
+    }

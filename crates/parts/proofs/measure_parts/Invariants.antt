@@ -1,10 +1,7 @@
 use Prim.Native.Nat.{◌-◌}
-use mathlib.Core.Path.{◌∙◌}
-use native.Mathlib.Omega.{arith}
 use lib.ListN.{length}
-use borrow.Author.Rules.{rules}
 use Rattle.chain.specs.Job.{job_of}
-use Rattle.parts.proofs.Measure.{Measured, bottleneck-take, measured_start, measured_products, measured_turn, measured_end}
+use Rattle.parts.proofs.Measure.{Measured}
 use Rattle.parts.proofs.measure_parts.Given as goal
 
 abbrev pub invariant-loop-p : goal.invariant-loop-p

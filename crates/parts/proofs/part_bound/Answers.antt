@@ -1,7 +1,6 @@
 -- `part_bound` meets its contract.
 use mathlib.Core.Path.{ap₂, ◌∙◌}
 use Rattle.bound.specs.Order.{over}
-use borrow.Author.Rules.{rules}
 use Rattle.parts.proofs.part_bound.Goals as goal
 
 pub returns : goal.returns

@@ -5,7 +5,8 @@ use Rattle.parts.proofs.Laws.{between_some, between_none}
 use Rattle.parts.proofs.part_load.Goals as goal
 
 pub part_weight-weight-requires : goal.part_weight-weight-requires
-part_weight-weight-requires c = record { rising = c.requires.loadable.rising; a_le_b = c.requires.a_le_b }
+part_weight-weight-requires c =
+    record { rising = c.requires.loadable.rising; a_le_b = c.requires.a_le_b }
 
 pub overflow_add-result : goal.overflow_add-result
 unfolding weight_between

@@ -2,7 +2,6 @@
 use mathlib.Core.Path.{refl}
 use native.Mathlib.Omega.{arith}
 use Rattle.parts.specs.Prefix.{weight_between}
-use borrow.Author.Rules.{rules}
 use Rattle.parts.proofs.part_weight.Goals as goal
 
 pub overflow_sub-result : goal.overflow_sub-result

@@ -1,15 +1,15 @@
 -- `prefix_sums` meets its contract: the loop keeps `Summed`.
-use Prim.Native.Nat.{◌-◌, ◌<◌}
 use native.Mathlib.Omega.{arith}
-use lib.ListN.{length, length-set}
-use Rattle.parts.proofs.Laws.{Summed, summed_start, summed_fits, summed_turn, summed_end}
+use lib.ListN.{length-set}
+use Rattle.parts.proofs.Laws.{summed_start, summed_fits, summed_turn, summed_end}
 use Rattle.parts.proofs.prefix_sums.Goals as goal
 
 pub loop-i-init : goal.loop-i-init
 loop-i-init c = (omega (arith, length-set c.args.sums.now 0 0), summed_start c.args.weights.now c.args.sums.now (omega arith))
 
 pub overflow_add-sum : goal.overflow_add-sum
-overflow_add-sum c = record { fits = summed_fits c.requires.weights_bound c.loop-i.invariant.1 }
+overflow_add-sum c =
+    record { fits = summed_fits c.requires.weights_bound c.loop-i.invariant.1 }
 
 pub bounds-sums-i : goal.bounds-sums-i
 bounds-sums-i c = omega (arith, c.loop-i.invariant.1.front.same)

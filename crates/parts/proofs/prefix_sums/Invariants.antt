@@ -1,7 +1,6 @@
 use Prim.Native.Nat.{◌-◌, ◌<◌}
-use native.Mathlib.Omega.{arith}
-use lib.ListN.{length, length-set}
-use Rattle.parts.proofs.Laws.{Summed, summed_start, summed_fits, summed_turn, summed_end}
+use lib.ListN.{length}
+use Rattle.parts.proofs.Laws.{Summed}
 use Rattle.parts.proofs.prefix_sums.Given as goal
 
 abbrev pub invariant-loop-i : goal.invariant-loop-i

@@ -1,9 +1,7 @@
 -- `slowest_of` meets its contract: the loop keeps `Fewest`.
-use Prim.Native.Nat.{◌+◌, ◌-◌}
+use Prim.Native.Nat.{◌+◌}
 use mathlib.Core.Path.{subst, sym}
-use mathlib.Core.Logic.{⊎_elim}
 use native.Mathlib.Omega.{arith}
-use lib.ListN.{length}
 use Rattle.parts.proofs.Slowest.{Fewest, fewest_start, fewest_lowered, fewest_kept, fewest_end}
 use Rattle.parts.proofs.slowest_of.Goals as goal
 use Rattle.parts.proofs.slowest_of.Goals.{then-v-least, else-v-least}

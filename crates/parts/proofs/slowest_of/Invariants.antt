@@ -1,9 +1,6 @@
-use Prim.Native.Nat.{◌+◌, ◌-◌}
-use mathlib.Core.Path.{subst, sym}
-use mathlib.Core.Logic.{⊎_elim}
-use native.Mathlib.Omega.{arith}
+use Prim.Native.Nat.{◌-◌}
 use lib.ListN.{length}
-use Rattle.parts.proofs.Slowest.{Fewest, fewest_start, fewest_lowered, fewest_kept, fewest_end}
+use Rattle.parts.proofs.Slowest.{Fewest}
 use Rattle.parts.proofs.slowest_of.Given as goal
 
 abbrev pub invariant-loop-i : goal.invariant-loop-i

@@ -1,8 +1,7 @@
 -- `total` meets its contract: the loop keeps `Total`.
-use Prim.Native.Nat.{ℕ, ◌+◌, ◌-◌}
+use Prim.Native.Nat.{ℕ, ◌+◌}
 use mathlib.Core.Path.{subst, sym}
 use native.Mathlib.Omega.{arith}
-use lib.ListN.{length}
 use Rattle.parts.proofs.Laws.{Total, total_start, total_next, total_end, total_fits}
 use Rattle.parts.proofs.total.Goals as goal
 

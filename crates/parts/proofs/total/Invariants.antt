@@ -1,8 +1,6 @@
-use Prim.Native.Nat.{ℕ, ◌+◌, ◌-◌}
-use mathlib.Core.Path.{subst, sym}
-use native.Mathlib.Omega.{arith}
+use Prim.Native.Nat.{◌-◌}
 use lib.ListN.{length}
-use Rattle.parts.proofs.Laws.{Total, total_start, total_next, total_end, total_fits}
+use Rattle.parts.proofs.Laws.{Total}
 use Rattle.parts.proofs.total.Given as goal
 
 abbrev pub invariant-loop-i : goal.invariant-loop-i

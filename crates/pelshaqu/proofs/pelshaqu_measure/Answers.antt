@@ -8,4 +8,8 @@ use Rattle.pelshaqu.proofs.pelshaqu_measure.Goals as goal
 
 pub returns : goal.returns
 returns c =
-    let a = c.args in record { number = c.put_measured.ensures.number ∙ ap (λ (w : Measured). (measured_said w).number) c.measure-measured.ensures; answer = c.put_measured.ensures.answer ∙ ap (λ (w : Measured). said_put (measured_said w) a.answer.now) c.measure-measured.ensures }
+    let a = c.args in
+    record {
+      number = c.put_measured.ensures.number ∙ ap (λ (w : Measured). (measured_said w).number) c.measure-measured.ensures;
+      answer = c.put_measured.ensures.answer ∙ ap (λ (w : Measured). said_put (measured_said w) a.answer.now) c.measure-measured.ensures;
+    }

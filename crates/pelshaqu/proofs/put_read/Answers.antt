@@ -16,7 +16,8 @@ four-put xs x y a b d e f g = cc
 
 pub returns-in-Read : goal.returns-in-Read
 returns-in-Read c =
-    let a = c.args in record {
+    let a = c.args in
+    record {
       number = sym (ap (λ (w : JobRead). (read_said w).number) c.in-Read.is);
       answer = four-put a.answer.now _ _ c.edition_number.ensures c.wide.ensures c.put.ensures c.put-in-Read.ensures c.put-in-Read-2.ensures c.put-in-Read-3.ensures
           ∙ sym (ap (λ (w : JobRead). said_put (read_said w) a.answer.now) c.in-Read.is);

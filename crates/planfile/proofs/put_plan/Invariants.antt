@@ -1,9 +1,7 @@
 use Prim.Native.Nat.{◌-◌}
-use mathlib.Core.Path.{◌≡◌}
-use native.Mathlib.Omega.{arith}
 use lib.ListN.{length}
 use Rattle.chain.specs.Job.{job_of}
-use Rattle.planfile.proofs.Records.{PuttingPlan, plan_none, plan_next, plan_all}
+use Rattle.planfile.proofs.Records.{PuttingPlan}
 use Rattle.planfile.proofs.put_plan.Given as goal
 
 abbrev pub invariant-loop-p : goal.invariant-loop-p

@@ -6,7 +6,6 @@ use Rattle.chain.specs.Job.{Job, job_of, part_load}
 use Rattle.parts.proofs.Laws.{speed_read, loads_to, prefix_load}
 use Rattle.parts.proofs.Measure.{front_length, front_part}
 use Rattle.planfile.proofs.Records.{record_put}
-use borrow.Author.Rules.{rules}
 use Rattle.planfile.proofs.put_plan_record.Goals as goal
 
 pub bounds-separators-p : goal.bounds-separators-p
@@ -19,7 +18,8 @@ bounds-separators-p-2 c =
 
 pub part_load-load-requires : goal.part_load-load-requires
 part_load-load-requires c =
-    let h = front_part c.args.separators.now c.requires.partition c.requires.p_bound.0 c.index.ensures c.index-2.ensures in record { loadable = loads_to c.requires.ready h.1; a_le_b = h.0 }
+    let h = front_part c.args.separators.now c.requires.partition c.requires.p_bound.0 c.index.ensures c.index-2.ensures in
+    record { loadable = loads_to c.requires.ready h.1; a_le_b = h.0 }
 
 pub returns : goal.returns
 returns c =

@@ -1,5 +1,4 @@
 -- `write_plan` meets its contract: with the start-up work that counts.
-use borrow.Author.Rules.{rules}
 use Rattle.planfile.proofs.write_plan.Goals as goal
 
 pub returns : goal.returns

@@ -5,7 +5,6 @@ use native.Mathlib.Omega.{arith}
 use lib.ListN.{length}
 use Rattle.parts.proofs.Laws.{prefix_rising, prefix_to, between_before}
 use Rattle.probe.proofs.Reach.{limit_fits, end_none, end_all, cap_fits, end_last}
-use borrow.Author.Rules.{rules}
 use Rattle.probe.proofs.bound_end.Goals as goal
 
 pub most_load-limit-requires : goal.most_load-limit-requires
@@ -18,7 +17,8 @@ returns-then-limit-least c =
     (omega (arith, c.wide-least.ensures))
 
 pub part_weight-requires : goal.part_weight-requires
-part_weight-requires c = record { rising = prefix_to c.requires.ready (omega arith); a_le_b = c.requires.p_bound.1 }
+part_weight-requires c =
+    record { rising = prefix_to c.requires.ready (omega arith); a_le_b = c.requires.p_bound.1 }
 
 pub returns-then-wide-room : goal.returns-then-wide-room
 returns-then-wide-room c =
@@ -36,7 +36,8 @@ raised-requires c =
 
 pub last_from-requires : goal.last_from-requires
 last_from-requires c =
-    let l = between_before c.args.sums.now c.args.a (length c.args.weights.now) c.requires.p_bound.1 (omega (arith, c.wide.ensures, c.part_weight.ensures)) in record { rising = prefix_rising c.requires.ready.prefix; a_lt_n = (l, omega (arith, c.raised.ensures)) }
+    let l = between_before c.args.sums.now c.args.a (length c.args.weights.now) c.requires.p_bound.1 (omega (arith, c.wide.ensures, c.part_weight.ensures)) in
+    record { rising = prefix_rising c.requires.ready.prefix; a_lt_n = (l, omega (arith, c.raised.ensures)) }
 
 pub returns : goal.returns
 returns c =

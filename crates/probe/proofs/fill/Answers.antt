@@ -1,7 +1,6 @@
 -- `fill` meets its contract: the loop keeps `Filling`.
-use Prim.Native.Nat.{◌-◌, ◌≤◌}
 use native.Mathlib.Omega.{arith}
-use Rattle.probe.proofs.Walked.{Filling, filling_start, filling_turn, filling_end}
+use Rattle.probe.proofs.Walked.{filling_start, filling_turn, filling_end}
 use Rattle.probe.proofs.fill.Goals as goal
 
 pub loop-k-init : goal.loop-k-init

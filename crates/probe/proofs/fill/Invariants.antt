@@ -1,6 +1,5 @@
 use Prim.Native.Nat.{◌-◌, ◌≤◌}
-use native.Mathlib.Omega.{arith}
-use Rattle.probe.proofs.Walked.{Filling, filling_start, filling_turn, filling_end}
+use Rattle.probe.proofs.Walked.{Filling}
 use Rattle.probe.proofs.fill.Given as goal
 
 abbrev pub invariant-loop-k : goal.invariant-loop-k

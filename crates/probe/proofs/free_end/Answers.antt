@@ -1,5 +1,4 @@
 -- `free_end` meets its contract: without holds the end by the bound is as far as the part reaches.
-use borrow.Author.Rules.{rules}
 use Rattle.chain.specs.Job.{job_of}
 use Rattle.probe.proofs.Reach.{free_reach}
 use Rattle.probe.proofs.free_end.Goals as goal

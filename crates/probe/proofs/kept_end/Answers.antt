@@ -1,6 +1,4 @@
 -- `kept_end` meets its contract: no limit, the hold, or the end that is given.
-use native.Mathlib.Omega.{arith}
-use borrow.Author.Rules.{rules}
 use Rattle.probe.proofs.Reach.{kept_free_is, kept_short_is, kept_long_is}
 use Rattle.probe.proofs.kept_end.Goals as goal
 

@@ -1,7 +1,6 @@
 -- `part_end` meets its contract: the end by the bound, cut at the hold, is as far as the part reaches.
 use Prim.Native.Nat.{ℕ}
 use mathlib.Core.Path.{ap, ◌∙◌}
-use borrow.Author.Rules.{rules}
 use Rattle.chain.specs.Job.{Job, job_of}
 use Rattle.probe.specs.Walk.{kept_end}
 use Rattle.probe.proofs.Reach.{kept_reach}

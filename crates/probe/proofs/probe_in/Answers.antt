@@ -1,8 +1,7 @@
 -- `probe_in` meets its contract: every walk reaches its first point, and is filled up from where it ended.
 use mathlib.Core.Path.{sym, subst, ◌∙◌}
 use native.Mathlib.Omega.{arith}
-use borrow.Author.Rules.{rules}
-use Rattle.chain.specs.Job.{Job, job_of}
+use Rattle.chain.specs.Job.{job_of}
 use Rattle.chain.proofs.Parts.{valid_proper}
 use Rattle.chain.proofs.Visited.{visited_first, visited_fails}
 use Rattle.chain.proofs.Ranges.{index_fits}
@@ -15,11 +14,18 @@ pub narrow-n-requires : goal.narrow-n-requires
 narrow-n-requires c = index_fits c.requires.ready.valid (omega arith)
 
 pub walk_from-answer-requires : goal.walk_from-answer-requires
-walk_from-answer-requires c = record { ready = c.requires.ready; lendable = c.requires.lendable; job_in_bounds = c.requires.job_in_bounds; reached = subst (Reached ((job_of c.args.startup c.args.speeds.now c.args.holds.now c.args.weights.now)) c.args.bound _) (sym c.first_point-first.ensures) (reached_first ((job_of c.args.startup c.args.speeds.now c.args.holds.now c.args.weights.now)) c.args.bound _); held_value = c.requires.held_value }
+walk_from-answer-requires c =
+    record {
+      ready = c.requires.ready;
+      lendable = c.requires.lendable;
+      job_in_bounds = c.requires.job_in_bounds;
+      reached = subst (Reached (job_of c.args.startup c.args.speeds.now c.args.holds.now c.args.weights.now) c.args.bound _) (sym c.first_point-first.ensures) (reached_first (job_of c.args.startup c.args.speeds.now c.args.holds.now c.args.weights.now) c.args.bound _);
+      held_value = c.requires.held_value;
+    }
 
 pub fill-requires : goal.fill-requires
 fill-requires c =
-    let m = fits_outcome ((job_of c.args.startup c.args.speeds.now c.args.holds.now c.args.weights.now)) c.args.bound (sym c.walk_from-answer.ensures.value ∙ c.in-Fits.is) in
+    let m = fits_outcome (job_of c.args.startup c.args.speeds.now c.args.holds.now c.args.weights.now) c.args.bound (sym c.walk_from-answer.ensures.value ∙ c.in-Fits.is) in
     let f = m.1 in
     let h = (visited_first (valid_proper c.requires.ready.valid) c.args.bound).0 in
     let l = begun-length c.requires.ready.valid c.args.bound c.args.separators.now c.requires.job_in_bounds in
@@ -28,9 +34,17 @@ fill-requires c =
 pub returns-in-Fits : goal.returns-in-Fits
 returns-in-Fits c =
     let e = sym c.in-Fits.is ∙ c.walk_from-answer.ensures.value in
-    let m = fits_outcome ((job_of c.args.startup c.args.speeds.now c.args.holds.now c.args.weights.now)) c.args.bound (sym e) in record { value = e; separators_after = begun-filled c.requires.ready.valid c.args.bound c.args.separators.now c.requires.job_in_bounds m.1 (omega arith) c.narrow-n.ensures c.walk_from-answer.ensures.separators_after c.fill.ensures }
+    let m = fits_outcome (job_of c.args.startup c.args.speeds.now c.args.holds.now c.args.weights.now) c.args.bound (sym e) in
+    record {
+      value = e;
+      separators_after = begun-filled c.requires.ready.valid c.args.bound c.args.separators.now c.requires.job_in_bounds m.1 (omega arith) c.narrow-n.ensures c.walk_from-answer.ensures.separators_after c.fill.ensures;
+    }
 
 pub returns-in-Fails : goal.returns-in-Fails
 returns-in-Fails c =
     let e = sym c.in-Fails.is ∙ c.walk_from-answer.ensures.value in
-    let m = fails_outcome ((job_of c.args.startup c.args.speeds.now c.args.holds.now c.args.weights.now)) c.args.bound (sym e) in record { value = e; separators_after = begun-filled c.requires.ready.valid c.args.bound c.args.separators.now c.requires.job_in_bounds (sym (visited_fails (valid_proper c.requires.ready.valid) c.args.bound m.0)) (omega arith) c.narrow-n.ensures c.walk_from-answer.ensures.separators_after c.fill-in-Fails.ensures }
+    let m = fails_outcome (job_of c.args.startup c.args.speeds.now c.args.holds.now c.args.weights.now) c.args.bound (sym e) in
+    record {
+      value = e;
+      separators_after = begun-filled c.requires.ready.valid c.args.bound c.args.separators.now c.requires.job_in_bounds (sym (visited_fails (valid_proper c.requires.ready.valid) c.args.bound m.0)) (omega arith) c.narrow-n.ensures c.walk_from-answer.ensures.separators_after c.fill-in-Fails.ensures;
+    }

@@ -1,16 +1,14 @@
 -- `walk_held` meets its contract: the loop keeps `Walked`.
-use Prim.Native.Nat.{◌-◌}
 use mathlib.Core.Path.{sym, ◌∙◌}
 use native.Mathlib.Omega.{arith}
-use borrow.Author.Rules.{rules}
-use lib.ListN.{length, length-set}
-use Rattle.chain.specs.Job.{job_of}
+use lib.ListN.{length}
 use Rattle.chain.proofs.Ranges.{index_fits, processor_fits, narrow_products, lent_finite}
-use Rattle.probe.proofs.Walked.{Walked, walked_start, walked_turn, walked_end, placed_first, placed, answer_fits, answer_fails, rest_products, end_after}
+use Rattle.probe.proofs.Walked.{walked_start, walked_turn, walked_end, placed_first, placed, answer_fits, answer_fails, rest_products, end_after}
 use Rattle.probe.proofs.walk_held.Goals as goal
 
 pub returns-then-n-a : goal.returns-then-n-a
-returns-then-n-a c = let h = placed_first c.requires.ready.valid c.requires.job_in_bounds c.requires.reached (omega arith) (omega arith) in record { value = h.0; separators_after = h.1 }
+returns-then-n-a c = let h = placed_first c.requires.ready.valid c.requires.job_in_bounds c.requires.reached (omega arith) (omega arith) in
+    record { value = h.0; separators_after = h.1 }
 
 pub loop-p-init : goal.loop-p-init
 loop-p-init c = walked_start c.requires.reached (omega arith)
@@ -26,14 +24,20 @@ bounds-separators-p-in-loop-p c = omega (arith, c.loop-p.invariant.front.same)
 
 pub part_end-end-requires : goal.part_end-end-requires
 part_end-end-requires c =
-    let h = c.loop-p.invariant.left in record { ready = c.requires.ready; lendable = c.requires.lendable; p_bound = (omega arith, omega arith) }
+    let h = c.loop-p.invariant.left in
+    record { ready = c.requires.ready; lendable = c.requires.lendable; p_bound = (omega arith, omega arith) }
 
 pub returns-then-n-end : goal.returns-then-n-end
-returns-then-n-end c = let h = placed c.requires.ready.valid c.requires.job_in_bounds c.loop-p.invariant (omega arith) c.narrow.ensures c.part_end-end.ensures (omega arith) (omega arith) in record { value = h.0; separators_after = h.1 }
+returns-then-n-end c = let h = placed c.requires.ready.valid c.requires.job_in_bounds c.loop-p.invariant (omega arith) c.narrow.ensures c.part_end-end.ensures (omega arith) (omega arith) in
+    record { value = h.0; separators_after = h.1 }
 
 pub bid_of-requires : goal.bid_of-requires
 bid_of-requires c =
-    let w = c.loop-p.invariant in record { ready = c.requires.ready; p_bound = (omega arith, end_after c.requires.ready.valid c.requires.job_in_bounds w c.part_end-end.ensures, omega arith) }
+    let w = c.loop-p.invariant in
+    record {
+      ready = c.requires.ready;
+      p_bound = (omega arith, end_after c.requires.ready.valid c.requires.job_in_bounds w c.part_end-end.ensures, omega arith);
+    }
 
 pub lesser-best-requires : goal.lesser-best-requires
 lesser-best-requires c =
@@ -57,7 +61,8 @@ bounds-separators-p-2 c = omega (arith, c.loop-p.invariant.front.same)
 
 pub rest_of-rest-requires : goal.rest_of-rest-requires
 rest_of-rest-requires c =
-    let h = c.loop-p.invariant.left in record { ready = c.requires.ready; p_bound = (omega arith, omega arith) }
+    let h = c.loop-p.invariant.left in
+    record { ready = c.requires.ready; p_bound = (omega arith, omega arith) }
 
 pub at_most-requires : goal.at_most-requires
 at_most-requires c =
@@ -66,7 +71,11 @@ at_most-requires c =
 
 pub returns-then-at_most : goal.returns-then-at_most
 returns-then-at_most c =
-    let w = c.loop-p.invariant in record { value = answer_fits c.requires.ready.valid c.requires.job_in_bounds w (omega arith) (lent_finite c.requires.lendable) (omega arith) c.rest_of-rest.ensures.value (sym c.at_most.ensures ∙ c.if-at_most.true) (omega arith); separators_after = walked_end c.requires.ready.valid c.requires.job_in_bounds w (omega arith) c.narrow-2.ensures }
+    let w = c.loop-p.invariant in
+    record {
+      value = answer_fits c.requires.ready.valid c.requires.job_in_bounds w (omega arith) (lent_finite c.requires.lendable) (omega arith) c.rest_of-rest.ensures.value (sym c.at_most.ensures ∙ c.if-at_most.true) (omega arith);
+      separators_after = walked_end c.requires.ready.valid c.requires.job_in_bounds w (omega arith) c.narrow-2.ensures;
+    }
 
 pub lesser-requires : goal.lesser-requires
 lesser-requires c =
@@ -75,4 +84,8 @@ lesser-requires c =
 
 pub returns : goal.returns
 returns c =
-    let w = c.loop-p.invariant in record { value = answer_fails c.requires.ready.valid c.requires.job_in_bounds w (omega arith) (lent_finite c.requires.lendable) (omega arith) c.rest_of-rest.ensures.value (sym c.at_most.ensures ∙ c.if-at_most.false) c.lesser.ensures; separators_after = walked_end c.requires.ready.valid c.requires.job_in_bounds w (omega arith) c.narrow-2.ensures }
+    let w = c.loop-p.invariant in
+    record {
+      value = answer_fails c.requires.ready.valid c.requires.job_in_bounds w (omega arith) (lent_finite c.requires.lendable) (omega arith) c.rest_of-rest.ensures.value (sym c.at_most.ensures ∙ c.if-at_most.false) c.lesser.ensures;
+      separators_after = walked_end c.requires.ready.valid c.requires.job_in_bounds w (omega arith) c.narrow-2.ensures;
+    }

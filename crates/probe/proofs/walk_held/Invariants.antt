@@ -1,11 +1,7 @@
 use Prim.Native.Nat.{◌-◌}
-use mathlib.Core.Path.{sym, ◌∙◌}
-use native.Mathlib.Omega.{arith}
-use borrow.Author.Rules.{rules}
-use lib.ListN.{length, length-set}
+use lib.ListN.{length}
 use Rattle.chain.specs.Job.{job_of}
-use Rattle.chain.proofs.Ranges.{index_fits, processor_fits, narrow_products, lent_finite}
-use Rattle.probe.proofs.Walked.{Walked, walked_start, walked_turn, walked_end, placed_first, placed, answer_fits, answer_fails, rest_products, end_after}
+use Rattle.probe.proofs.Walked.{Walked}
 use Rattle.probe.proofs.walk_held.Given as goal
 
 abbrev pub invariant-loop-p : goal.invariant-loop-p

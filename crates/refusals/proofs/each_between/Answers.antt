@@ -1,11 +1,6 @@
 -- `each_between` meets its contract. The invariant: whether all before were in range, and what is left, decide together.
-use Prim.Native.Nat.{◌-◌, ◌≤◌}
-use mathlib.Core.Path.{◌≡◌, refl}
-use mathlib.Core.Bool.{◌&&◌}
+use mathlib.Core.Path.{refl}
 use native.Mathlib.Omega.{arith}
-use lib.ListN.{length, drop}
-use borrow.Author.Rules.{rules}
-use Rattle.chain.specs.Refusal.{each_between}
 use Rattle.refusals.proofs.Each.{each_next, each_end}
 use Rattle.refusals.proofs.each_between.Goals as goal
 

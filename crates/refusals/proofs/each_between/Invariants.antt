@@ -1,11 +1,8 @@
 use Prim.Native.Nat.{◌-◌, ◌≤◌}
-use mathlib.Core.Path.{◌≡◌, refl}
+use mathlib.Core.Path.{◌≡◌}
 use mathlib.Core.Bool.{◌&&◌}
-use native.Mathlib.Omega.{arith}
 use lib.ListN.{length, drop}
-use borrow.Author.Rules.{rules}
 use Rattle.chain.specs.Refusal.{each_between}
-use Rattle.refusals.proofs.Each.{each_next, each_end}
 use Rattle.refusals.proofs.each_between.Given as goal
 
 abbrev pub invariant-loop-i : goal.invariant-loop-i

@@ -1,5 +1,4 @@
 -- `enough_holds` meets its contract: the loop keeps the sum of the holds passed, none of them 0.
-use Prim.Native.Nat.{ℕ, ◌*◌, ◌-◌, ◌≤◌, ◌<◌}
 use mathlib.Core.Path.{◌≡◌, ap, ◌∙◌}
 use native.Mathlib.Omega.{arith}
 use lib.ListN.{length, get_or}

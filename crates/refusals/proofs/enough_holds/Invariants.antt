@@ -1,12 +1,9 @@
 use Prim.Native.Nat.{ℕ, ◌*◌, ◌-◌, ◌≤◌, ◌<◌}
-use mathlib.Core.Path.{◌≡◌, ap, ◌∙◌}
-use native.Mathlib.Omega.{arith}
-use lib.ListN.{length, get_or}
+use mathlib.Core.Path.{◌≡◌}
+use lib.ListN.{length}
 use Rattle.chain.specs.Limits.{max_processors}
 use Rattle.chain.specs.Lists.{sum_to}
-use Rattle.chain.specs.Job.{Job, job_of, hold_of}
-use Rattle.chain.proofs.Cut.{holds_long, hold_at_lem}
-use Rattle.refusals.proofs.Holds.{one_free, all_decide, limited_more, sum_none, sum_more}
+use Rattle.chain.specs.Job.{job_of, hold_of}
 use Rattle.refusals.proofs.enough_holds.Given as goal
 
 abbrev pub invariant-loop-p : goal.invariant-loop-p

@@ -1,16 +1,8 @@
-use Prim.Native.Nat.{ℕ, suc, ◌-◌, ◌≤◌, ◌<◌}
-use mathlib.Core.Path.{◌≡◌, sym, subst, ap, ◌∙◌}
-use native.Mathlib.Omega.{arith}
-use native.Mathlib.Numerals.{add-one}
-use lib.Dec.{eqb}
+use Prim.Native.Nat.{ℕ, ◌-◌, ◌≤◌, ◌<◌}
+use mathlib.Core.Path.{◌≡◌}
 use lib.ListN.{length, get_or}
-use borrow.Author.Rules.{rules}
-use borrow.Author.Tests.{not-true, not-false}
-use Rattle.chain.specs.Job.{Job, job_of, keeps}
-use Rattle.chain.proofs.Tests.{T_of, T-not-of}
-use Rattle.refusals.proofs.Division.{Good, not_first, not_grown, not_kept, end_decides, good_more}
-use mathlib.Core.Path.{ap}
-use mathlib.Core.Bool.{not}
+use Rattle.chain.specs.Job.{job_of}
+use Rattle.refusals.proofs.Division.{Good}
 use Rattle.refusals.proofs.is_partition.Given as goal
 
 abbrev pub invariant-loop-p : goal.invariant-loop-p

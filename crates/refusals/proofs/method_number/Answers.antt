@@ -1,7 +1,6 @@
 -- `method_number` meets its contract, method by method.
 use mathlib.Core.Path.{sym, ap}
 use Rattle.refusals.specs.Methods.{number_of}
-use borrow.Author.Rules.{rules}
 use Rattle.refusals.proofs.method_number.Goals as goal
 
 pub returns-in-Table : goal.returns-in-Table

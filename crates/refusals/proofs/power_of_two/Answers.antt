@@ -1,8 +1,6 @@
 -- `power_of_two` meets its contract: each halving of an even number leaves the answer as it was.
-use Prim.Native.Nat.{◌≤◌}
-use mathlib.Core.Path.{◌≡◌, refl, sym, ◌∙◌}
+use mathlib.Core.Path.{refl, sym, ◌∙◌}
 use native.Mathlib.Omega.{arith}
-use Rattle.chain.specs.Lists.{power_of_two}
 use Rattle.chain.proofs.Halving.{power_even, power_odd, power_one}
 use Rattle.refusals.proofs.power_of_two.Goals as goal
 

@@ -1,8 +1,6 @@
 use Prim.Native.Nat.{◌≤◌}
-use mathlib.Core.Path.{◌≡◌, refl, sym, ◌∙◌}
-use native.Mathlib.Omega.{arith}
+use mathlib.Core.Path.{◌≡◌}
 use Rattle.chain.specs.Lists.{power_of_two}
-use Rattle.chain.proofs.Halving.{power_even, power_odd, power_one}
 use Rattle.refusals.proofs.power_of_two.Given as goal
 
 abbrev pub invariant-loop-m : goal.invariant-loop-m

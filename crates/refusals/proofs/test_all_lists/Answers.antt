@@ -1,6 +1,5 @@
 -- `test_all_lists` meets its contract: the job, then the list of holds.
 use Rattle.refusals.proofs.Tests.{all_laws}
-use borrow.Author.Rules.{rules}
 use Rattle.refusals.proofs.test_all_lists.Goals as goal
 
 pub returns-then-by_job-ne0 : goal.returns-then-by_job-ne0

@@ -1,6 +1,5 @@
 -- `test_division` meets its contract.
 use Rattle.refusals.proofs.Tests.{division_laws}
-use borrow.Author.Rules.{rules}
 use Rattle.refusals.proofs.test_division.Goals as goal
 
 pub returns-then-not-is_partition : goal.returns-then-not-is_partition

@@ -1,6 +1,5 @@
 -- `test_enough` meets its contract.
 use Rattle.refusals.proofs.Holds.{enough_laws}
-use borrow.Author.Rules.{rules}
 use Rattle.refusals.proofs.test_enough.Goals as goal
 
 pub returns-then-not-enough_holds : goal.returns-then-not-enough_holds

@@ -1,6 +1,5 @@
 -- `test_free` meets its contract.
 use Rattle.refusals.proofs.Holds.{free_laws}
-use borrow.Author.Rules.{rules}
 use Rattle.refusals.proofs.test_free.Goals as goal
 
 pub returns-then-any_hold : goal.returns-then-any_hold

@@ -3,7 +3,6 @@ use mathlib.Core.Path.{sym, ◌∙◌}
 use Rattle.chain.specs.Job.{job_of}
 use Rattle.refusals.proofs.Holds.{some_processor}
 use Rattle.refusals.proofs.Tests.{halving_laws}
-use borrow.Author.Rules.{rules}
 use Rattle.refusals.proofs.test_halving.Goals as goal
 
 pub returns-then-by_job-ne0 : goal.returns-then-by_job-ne0

@@ -1,7 +1,5 @@
 -- `test_heuristic` meets its contract: the job, then what a quick plan takes.
-use mathlib.Core.Path.{sym, ◌∙◌}
 use Rattle.refusals.proofs.Tests.{heuristic_laws}
-use borrow.Author.Rules.{rules}
 use Rattle.refusals.proofs.test_heuristic.Goals as goal
 
 pub returns-then-by_job-ne0 : goal.returns-then-by_job-ne0

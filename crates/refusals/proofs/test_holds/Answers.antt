@@ -1,5 +1,4 @@
 -- `test_holds` meets its contract: the cut list is as long as the processors are many exactly when the list is so long.
-use borrow.Author.Rules.{rules}
 use Rattle.refusals.proofs.Holds.{holds-length}
 use Rattle.refusals.proofs.test_holds.Goals as goal
 

@@ -1,5 +1,4 @@
 -- `test_job` meets its contract: the tests with the start-up work that counts.
-use borrow.Author.Rules.{rules}
 use Rattle.refusals.proofs.test_job.Goals as goal
 
 pub returns : goal.returns

@@ -1,5 +1,4 @@
 -- `test_lists` meets its contract: the start-up work, all speeds, then all weights, then the counts.
-use borrow.Author.Rules.{rules}
 use Rattle.chain.specs.Limits.{max_startup, max_weight, max_speed}
 use Rattle.refusals.proofs.ByLists.{lists_laws}
 use Rattle.refusals.proofs.test_lists.Goals as goal

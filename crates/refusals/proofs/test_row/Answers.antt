@@ -1,6 +1,5 @@
 -- `test_row` meets its contract: all speeds as the first, then their number.
 use Rattle.refusals.proofs.Tests.{row_laws}
-use borrow.Author.Rules.{rules}
 use Rattle.refusals.proofs.test_row.Goals as goal
 
 pub returns-then-not-each_between : goal.returns-then-not-each_between

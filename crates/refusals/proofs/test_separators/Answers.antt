@@ -1,6 +1,5 @@
 -- `test_separators` meets its contract: the job, then the list of separators.
 use Rattle.refusals.proofs.Tests.{separators_laws}
-use borrow.Author.Rules.{rules}
 use Rattle.refusals.proofs.test_separators.Goals as goal
 
 pub returns-then-by_job-ne0 : goal.returns-then-by_job-ne0

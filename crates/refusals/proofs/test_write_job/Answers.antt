@@ -4,7 +4,6 @@ use Rattle.chain.specs.Limits.{max_processors, max_tasks}
 use Rattle.chain.specs.Job.{job_of, Valid}
 use Rattle.refusals.proofs.Accepted.{passed}
 use Rattle.refusals.proofs.Tests.{write_job_laws}
-use borrow.Author.Rules.{rules}
 use Rattle.refusals.proofs.test_write_job.Goals as goal
 
 pub returns-then-by_job-ne0 : goal.returns-then-by_job-ne0

@@ -10,4 +10,9 @@ use Rattle.test_exports.proofs.exported_halving.Goals as goal
 
 pub returns : goal.returns
 returns c =
-    let a = c.args in record { number = c.put_measured.ensures.number ∙ ap (λ (w : Measured). (measured_said w).number) c.halving-measured.ensures.answer; left = ap (λ (l : List ℕ). l ∷ []) c.halving-measured.ensures.separators; answer = c.put_measured.ensures.answer ∙ ap (λ (w : Measured). said_put (measured_said w) a.answer.now) c.halving-measured.ensures.answer }
+    let a = c.args in
+    record {
+      number = c.put_measured.ensures.number ∙ ap (λ (w : Measured). (measured_said w).number) c.halving-measured.ensures.answer;
+      left = ap (λ (l : List ℕ). l ∷ []) c.halving-measured.ensures.separators;
+      answer = c.put_measured.ensures.answer ∙ ap (λ (w : Measured). said_put (measured_said w) a.answer.now) c.halving-measured.ensures.answer;
+    }

@@ -16,4 +16,9 @@ leaves m g s t {t' = t'} e h = (t', h, ap (λ (l : List ℕ). l ∷ t' ∷ []) e
 
 pub returns : goal.returns
 returns c =
-    let a = c.args in record { number = c.put_planned.ensures.number ∙ ap (λ (w : Planned). (planned_said w).number) c.plan-planned.ensures.answer; left = leaves a.method (by_lists a.second a.startup a.speeds.now a.holds.now a.weights.now) a.separators.now a.scratch.now c.plan-planned.ensures.separators c.plan-planned.ensures.scratch; answer = c.put_planned.ensures.answer ∙ ap (λ (w : Planned). said_put (planned_said w) a.answer.now) c.plan-planned.ensures.answer }
+    let a = c.args in
+    record {
+      number = c.put_planned.ensures.number ∙ ap (λ (w : Planned). (planned_said w).number) c.plan-planned.ensures.answer;
+      left = leaves a.method (by_lists a.second a.startup a.speeds.now a.holds.now a.weights.now) a.separators.now a.scratch.now c.plan-planned.ensures.separators c.plan-planned.ensures.scratch;
+      answer = c.put_planned.ensures.answer ∙ ap (λ (w : Planned). said_put (planned_said w) a.answer.now) c.plan-planned.ensures.answer;
+    }

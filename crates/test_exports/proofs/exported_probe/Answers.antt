@@ -10,4 +10,9 @@ use Rattle.test_exports.proofs.exported_probe.Goals as goal
 
 pub returns : goal.returns
 returns c =
-    let a = c.args in record { number = c.put_probed.ensures.number ∙ ap (λ (w : Probed). (probed_said w).number) c.probe-probed.ensures.answer; left = ap (λ (l : List ℕ). l ∷ []) c.probe-probed.ensures.separators; answer = c.put_probed.ensures.answer ∙ ap (λ (w : Probed). probed_put w a.answer.now) c.probe-probed.ensures.answer }
+    let a = c.args in
+    record {
+      number = c.put_probed.ensures.number ∙ ap (λ (w : Probed). (probed_said w).number) c.probe-probed.ensures.answer;
+      left = ap (λ (l : List ℕ). l ∷ []) c.probe-probed.ensures.separators;
+      answer = c.put_probed.ensures.answer ∙ ap (λ (w : Probed). probed_put w a.answer.now) c.probe-probed.ensures.answer;
+    }

@@ -14,4 +14,9 @@ lists {c = c} {x = x} {y = y} e f g = ap₂ (λ (l k : List ℕ). l ∷ k ∷ c 
 
 pub returns : goal.returns
 returns c =
-    let a = c.args in record { number = c.put_read.ensures.number ∙ ap (λ (w : JobRead). (read_said w).number) c.read_job-read.ensures.answer; left = lists c.read_job-read.ensures.speeds c.read_job-read.ensures.holds c.read_job-read.ensures.weights; answer = c.put_read.ensures.answer ∙ ap (λ (w : JobRead). said_put (read_said w) a.answer.now) c.read_job-read.ensures.answer }
+    let a = c.args in
+    record {
+      number = c.put_read.ensures.number ∙ ap (λ (w : JobRead). (read_said w).number) c.read_job-read.ensures.answer;
+      left = lists c.read_job-read.ensures.speeds c.read_job-read.ensures.holds c.read_job-read.ensures.weights;
+      answer = c.put_read.ensures.answer ∙ ap (λ (w : JobRead). said_put (read_said w) a.answer.now) c.read_job-read.ensures.answer;
+    }

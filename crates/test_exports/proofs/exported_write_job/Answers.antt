@@ -10,4 +10,9 @@ use Rattle.test_exports.proofs.exported_write_job.Goals as goal
 
 pub returns : goal.returns
 returns c =
-    let a = c.args in record { number = c.put_written.ensures.number ∙ ap (λ (w : Written). (written_said w).number) c.write_job-written.ensures.answer; left = ap (λ (l : List ℕ). l ∷ []) c.write_job-written.ensures.bytes; answer = c.put_written.ensures.answer ∙ ap (λ (w : Written). said_put (written_said w) a.answer.now) c.write_job-written.ensures.answer }
+    let a = c.args in
+    record {
+      number = c.put_written.ensures.number ∙ ap (λ (w : Written). (written_said w).number) c.write_job-written.ensures.answer;
+      left = ap (λ (l : List ℕ). l ∷ []) c.write_job-written.ensures.bytes;
+      answer = c.put_written.ensures.answer ∙ ap (λ (w : Written). said_put (written_said w) a.answer.now) c.write_job-written.ensures.answer;
+    }

@@ -9,4 +9,8 @@ use Rattle.test_exports.proofs.put_measured.Goals as goal
 pub returns-in-Bottleneck : goal.returns-in-Bottleneck
 returns-in-Bottleneck c =
     let a = c.args in
-    let g = c.in-Bottleneck.is in record { number = sym (ap (λ (w : Measured). (measured_said w).number) g); answer = c.put_bound.ensures ∙ sym (ap (λ (w : Measured). said_put (measured_said w) a.answer.now) g) }
+    let g = c.in-Bottleneck.is in
+    record {
+      number = sym (ap (λ (w : Measured). (measured_said w).number) g);
+      answer = c.put_bound.ensures ∙ sym (ap (λ (w : Measured). said_put (measured_said w) a.answer.now) g);
+    }

@@ -15,4 +15,8 @@ returns-in-Accepted c =
     let f = c.in-Accepted.figures in
     let first = c.put.ensures ∙ ap (set a.answer.now 0) c.wide.ensures in
     let second = c.put-in-Accepted.ensures ∙ ap₂ (λ (xs : List ℕ) (n : ℕ). set xs 1 n) first c.wide-in-Accepted.ensures in
-    let third = c.put_bound.ensures ∙ ap (λ (xs : List ℕ). bound_put xs 2 3 f.bottleneck) second in record { number = sym (ap (λ (w : Planned). (planned_said w).number) c.in-Accepted.is); answer = c.put-in-Accepted-2.ensures ∙ ap (λ (xs : List ℕ). set xs 4 f.imbalance) third ∙ sym (ap (λ (w : Planned). said_put (planned_said w) a.answer.now) c.in-Accepted.is) }
+    let third = c.put_bound.ensures ∙ ap (λ (xs : List ℕ). bound_put xs 2 3 f.bottleneck) second in
+    record {
+      number = sym (ap (λ (w : Planned). (planned_said w).number) c.in-Accepted.is);
+      answer = c.put-in-Accepted-2.ensures ∙ ap (λ (xs : List ℕ). set xs 4 f.imbalance) third ∙ sym (ap (λ (w : Planned). said_put (planned_said w) a.answer.now) c.in-Accepted.is);
+    }

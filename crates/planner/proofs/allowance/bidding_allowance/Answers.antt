@@ -1,6 +1,5 @@
 -- `bidding_allowance` meets its contract, edition by edition.
 use Rattle.planner.proofs.Allowances.{trials_first, trials_single, trials_more}
-use borrow.Author.Rules.{rules}
 use mathlib.Core.Path.{ap}
 use mathlib.Core.Bool.{not}
 use Rattle.planner.proofs.allowance.bidding_allowance.Goals as goal

@@ -11,4 +11,5 @@ overflow_sub-result c = leading_le 64 c.args.n
 
 pub returns : goal.returns
 returns c =
-    let h : c.args.n < 2 ^ 64 = omega arith in record { value = sym (digits_leading 64 c.args.n h); upper_bound = omega arith }
+    let h : c.args.n < 2 ^ 64 = omega arith in
+    record { value = sym (digits_leading 64 c.args.n h); upper_bound = omega arith }

@@ -1,8 +1,7 @@
 -- `greatest_of` meets its contract: the loop keeps `Most`.
-use Prim.Native.Nat.{◌+◌, ◌-◌}
+use Prim.Native.Nat.{◌+◌}
 use mathlib.Core.Path.{subst, sym}
 use native.Mathlib.Omega.{arith}
-use lib.ListN.{length}
 use Rattle.planner.proofs.Allowances.{Most, most_start, most_raised, most_kept, most_end}
 use Rattle.planner.proofs.allowance.greatest_of.Goals as goal
 use Rattle.planner.proofs.allowance.greatest_of.Goals.{then-most-v, else-most-v}

@@ -1,9 +1,6 @@
-use Prim.Native.Nat.{◌+◌, ◌-◌}
-use mathlib.Core.Path.{subst, sym}
-use mathlib.Core.Logic.{⊎_elim}
-use native.Mathlib.Omega.{arith}
+use Prim.Native.Nat.{◌-◌}
 use lib.ListN.{length}
-use Rattle.planner.proofs.Allowances.{Most, most_start, most_raised, most_kept, most_end}
+use Rattle.planner.proofs.Allowances.{Most}
 use Rattle.planner.proofs.allowance.greatest_of.Given as goal
 
 abbrev pub invariant-loop-i : goal.invariant-loop-i

@@ -2,7 +2,6 @@
 use native.Mathlib.Omega.{arith}
 use Rattle.chain.specs.Limits.{max_tasks}
 use Rattle.jobs.proofs.RoundTrip.{accepted_valid}
-use borrow.Author.Rules.{rules}
 use Rattle.planner.proofs.host.plan_any.Goals as goal
 
 pub plan_into-requires : goal.plan_into-requires

@@ -3,7 +3,6 @@ use native.Mathlib.Omega.{arith}
 use Rattle.jobs.specs.JobFile.{task_kind}
 use Rattle.jobs.specs.Parse.{record_count, value_at, weights_of}
 use Rattle.jobs.proofs.AllRecords.{standing-few}
-use borrow.Author.Rules.{rules}
 use Rattle.planner.proofs.host.plan_few.Goals as goal
 
 pub plan_into-requires : goal.plan_into-requires

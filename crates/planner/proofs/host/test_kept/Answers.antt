@@ -1,6 +1,5 @@
 -- `test_kept` meets its contract: 17, then 18 for method 4.
 use Rattle.planner.proofs.Reading.{kept_laws}
-use borrow.Author.Rules.{rules}
 use Rattle.planner.proofs.host.test_kept.Goals as goal
 
 pub returns-then-by_holds-ne0 : goal.returns-then-by_holds-ne0

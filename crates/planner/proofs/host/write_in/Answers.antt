@@ -7,18 +7,26 @@ use Rattle.chain.proofs.Demand.{plan_of_best}
 use Rattle.parts.proofs.Front.{front_partition}
 use Rattle.planner.proofs.Laws.{plan_length, tested_plannable}
 use Rattle.planner.proofs.Reading.{best_bytes}
-use borrow.Author.Rules.{rules}
 use Rattle.planner.proofs.host.write_in.Goals as goal
 
 pub divide_in-requires : goal.divide_in-requires
 unfolding max_processors
-divide_in-requires c = record { tested = c.requires.tested; job_in_bounds = (omega (arith, c.requires.tested.valid.processors_limit), c.requires.room) }
+divide_in-requires c =
+    record {
+      tested = c.requires.tested;
+      job_in_bounds = (omega (arith, c.requires.tested.valid.processors_limit), c.requires.room);
+    }
 
 pub put_plan-requires : goal.put_plan-requires
 put_plan-requires c =
-    let job : Job = (job_of c.args.startup c.args.speeds.now c.args.holds.now c.args.weights.now) in record { ready = c.divide_in.ensures.ready; partition = front_partition (plan_of job) _ (plan_of_best (tested_plannable c.requires.tested)).partition c.divide_in.ensures.separators_after; job_in_bounds = c.requires.job_in_bounds }
+    let job : Job = job_of c.args.startup c.args.speeds.now c.args.holds.now c.args.weights.now in
+    record {
+      ready = c.divide_in.ensures.ready;
+      partition = front_partition (plan_of job) _ (plan_of_best (tested_plannable c.requires.tested)).partition c.divide_in.ensures.separators_after;
+      job_in_bounds = c.requires.job_in_bounds;
+    }
 
 pub returns : goal.returns
 returns c =
-    let job : Job = (job_of c.args.startup c.args.speeds.now c.args.holds.now c.args.weights.now) in
+    let job : Job = job_of c.args.startup c.args.speeds.now c.args.holds.now c.args.weights.now in
     best_bytes job _ _ _ (plan_length c.requires.tested.valid) c.divide_in.ensures.separators_after c.put_plan.ensures

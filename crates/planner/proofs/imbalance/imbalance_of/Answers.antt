@@ -7,7 +7,6 @@ use Rattle.chain.specs.Job.{job_of}
 use Rattle.chain.proofs.Imbalance.{imbalance_none}
 use Rattle.planner.proofs.Imbalances.{known, divisor_fits, load_fits, no_less, excess_fits, sum_fits, divisor_positive, imbalance_is}
 use Rattle.parts.proofs.Laws.{speeds_add_up}
-use borrow.Author.Rules.{rules}
 use Rattle.planner.proofs.imbalance.imbalance_of.Goals as goal
 
 pub total-speed-requires : goal.total-speed-requires
