@@ -23,7 +23,7 @@ use Rattle.calls.specs.declared.Measured.TheVariants.{Bottleneck}
 use Rattle.calls.specs.Answers.{measured_of, halving_answer}
 use Rattle.calls.proofs.Promises.{heuristic-number, halving-number, halving_promise}
 use Rattle.demands.specs.Call.{ByLists, job_by, Heuristic, Halving}
-use Rattle.demands.specs.Demands.{number, Accepts, front}
+use Rattle.demands.specs.Demands.{number, Accepts}
 use Rattle.demands.specs.Halvings.{HalvedRow, Halvings}
 
 halved : (g : ByLists) (s : List ℕ) → Accepts (Halving g s) → HalvedRow (job_by g) s

@@ -1,6 +1,6 @@
 -- What the holds of the machines change and what they do not, over the answers of the calls and over what they leave. Scope, section 18.
 use Rattle.std.specs.Prelude.{ℕ, suc, ◌+◌, ◌-◌, ◌*◌, ◌/◌, ◌≤◌, ◌<◌, ◌≡◌, true, false, ◌&&◌, ◌≢◌, ◌↔◌, T, eqb, leb, length, get_or, take}
-use mathlib.Core.List.{List, [], ◌∷◌, ◌++◌, map, Memᴰ}
+use mathlib.Core.List.{List, ◌∷◌, ◌++◌, map, Memᴰ}
 use Rattle.bound.specs.declared.Bound.{Bound}
 use Rattle.bound.specs.Order.{le, ◌≼◌}
 use Rattle.chain.specs.Lists.{sum_to, all}

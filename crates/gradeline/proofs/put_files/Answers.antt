@@ -1,7 +1,6 @@
 -- `put_files` meets its contract: the grade, then its line.
 use Rattle.texts.proofs.Laws.{put_as}
 use Rattle.gradeline.proofs.Laws.{lent_line}
-use borrow.Author.Rules.{rules}
 use Rattle.gradeline.proofs.put_files.Goals as goal
 
 pub returns : goal.returns

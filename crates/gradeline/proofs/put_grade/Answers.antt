@@ -7,7 +7,6 @@ use Rattle.texts.proofs.Laws.{put_as}
 use Rattle.listing.specs.Listing.{intake}
 use Rattle.gradeline.specs.Line.{grade_line}
 use Rattle.gradeline.proofs.Laws.{job_whole}
-use borrow.Author.Rules.{rules}
 use Rattle.gradeline.proofs.put_grade.Goals as goal
 
 pub slice_bounds-put_plan_taken-end : goal.slice_bounds-put_plan_taken-end

@@ -4,7 +4,6 @@ use native.Mathlib.Omega.{arith}
 use Rattle.texts.specs.Text.{text}
 use Rattle.texts.proofs.Laws.{put_as}
 use Rattle.gradeline.specs.Line.{grade_text}
-use borrow.Author.Rules.{rules}
 use Rattle.gradeline.proofs.put_graded.Goals as goal
 
 pub returns-in-Refused : goal.returns-in-Refused

@@ -6,7 +6,6 @@ use Rattle.chain.specs.Limits.{max_processors, max_tasks}
 use Rattle.texts.proofs.Laws.{put_as}
 use Rattle.gradeline.specs.Line.{plan_intake}
 use Rattle.gradeline.proofs.Laws.{plan_whole}
-use borrow.Author.Rules.{rules}
 use Rattle.gradeline.proofs.put_plan_taken.Goals as goal
 
 pub slice_bounds-put_files-end : goal.slice_bounds-put_files-end

@@ -5,7 +5,6 @@ use mathlib.Core.List.{List, [], ◌∷◌}
 use Rattle.calls.specs.declared.Measured.{Measured}
 use Rattle.calls.specs.Answers.{measured_said}
 use Rattle.pelshaqu.specs.Answer.{said_put}
-use borrow.Author.Rules.{rules}
 use Rattle.pelshaqu.proofs.pelshaqu_quick_plan.Goals as goal
 
 pub returns : goal.returns

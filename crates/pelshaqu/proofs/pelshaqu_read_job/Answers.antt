@@ -5,7 +5,6 @@ use mathlib.Core.List.{List, [], ◌∷◌}
 use Rattle.jobs.specs.declared.JobRead.{JobRead}
 use Rattle.jobs.specs.Answers.{read_said}
 use Rattle.pelshaqu.specs.Answer.{said_put}
-use borrow.Author.Rules.{rules}
 use Rattle.pelshaqu.proofs.pelshaqu_read_job.Goals as goal
 
 -- Three lists as they are left.

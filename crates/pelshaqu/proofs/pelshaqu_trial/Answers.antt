@@ -5,7 +5,6 @@ use mathlib.Core.List.{List, [], ◌∷◌}
 use Rattle.calls.specs.declared.Probed.{Probed}
 use Rattle.calls.specs.Answers.{probed_said}
 use Rattle.pelshaqu.specs.Answer.{probed_put}
-use borrow.Author.Rules.{rules}
 use Rattle.pelshaqu.proofs.pelshaqu_trial.Goals as goal
 
 pub returns : goal.returns

@@ -5,7 +5,6 @@ use mathlib.Core.List.{List, [], ◌∷◌}
 use Rattle.refusals.specs.declared.Written.{Written}
 use Rattle.refusals.specs.Answers.{written_said}
 use Rattle.pelshaqu.specs.Answer.{said_put}
-use borrow.Author.Rules.{rules}
 use Rattle.pelshaqu.proofs.pelshaqu_write_plan.Goals as goal
 
 pub returns : goal.returns

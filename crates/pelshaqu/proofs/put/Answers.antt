@@ -2,7 +2,6 @@
 use mathlib.Core.Path.{sym}
 use native.Mathlib.Omega.{arith}
 use lib.Seq.{set_out}
-use borrow.Author.Rules.{rules}
 use Rattle.pelshaqu.proofs.put.Goals as goal
 
 pub returns-else-i-answer : goal.returns-else-i-answer

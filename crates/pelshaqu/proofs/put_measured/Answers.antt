@@ -3,7 +3,6 @@ use mathlib.Core.Path.{sym, ap, ◌∙◌}
 use Rattle.calls.specs.declared.Measured.{Measured}
 use Rattle.calls.specs.Answers.{measured_said}
 use Rattle.pelshaqu.specs.Answer.{said_put}
-use borrow.Author.Rules.{rules}
 use Rattle.pelshaqu.proofs.put_measured.Goals as goal
 
 pub returns-in-Bottleneck : goal.returns-in-Bottleneck

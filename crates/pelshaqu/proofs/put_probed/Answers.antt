@@ -3,7 +3,6 @@ use mathlib.Core.Path.{sym, ap, ◌∙◌}
 use Rattle.calls.specs.declared.Probed.{Probed}
 use Rattle.calls.specs.Answers.{probed_said}
 use Rattle.pelshaqu.specs.Answer.{probed_put}
-use borrow.Author.Rules.{rules}
 use Rattle.pelshaqu.proofs.put_probed.Goals as goal
 
 pub returns-in-Answered : goal.returns-in-Answered

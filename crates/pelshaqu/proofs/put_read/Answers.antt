@@ -6,7 +6,6 @@ use lib.ListN.{set}
 use Rattle.jobs.specs.declared.JobRead.{JobRead}
 use Rattle.jobs.specs.Answers.{read_said}
 use Rattle.pelshaqu.specs.Answer.{said_put}
-use borrow.Author.Rules.{rules}
 use Rattle.pelshaqu.proofs.put_read.Goals as goal
 
 -- Four entries, one after the other, the first two by what a callee gave.

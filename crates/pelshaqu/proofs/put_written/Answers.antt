@@ -3,7 +3,6 @@ use mathlib.Core.Path.{sym, ap, ◌∙◌}
 use Rattle.refusals.specs.declared.Written.{Written}
 use Rattle.refusals.specs.Answers.{written_said}
 use Rattle.pelshaqu.specs.Answer.{said_put}
-use borrow.Author.Rules.{rules}
 use Rattle.pelshaqu.proofs.put_written.Goals as goal
 
 pub returns-in-Refused : goal.returns-in-Refused

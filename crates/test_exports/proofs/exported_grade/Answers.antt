@@ -3,7 +3,6 @@ use mathlib.Core.Path.{ap, ◌∙◌}
 use Rattle.grading.specs.declared.Graded.{Graded}
 use Rattle.grading.specs.Answers.{graded_said}
 use Rattle.test_exports.specs.Answer.{said_put}
-use borrow.Author.Rules.{rules}
 use Rattle.test_exports.proofs.exported_grade.Goals as goal
 
 pub returns : goal.returns

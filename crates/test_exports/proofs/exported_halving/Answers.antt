@@ -5,7 +5,6 @@ use mathlib.Core.List.{List, [], ◌∷◌}
 use Rattle.calls.specs.declared.Measured.{Measured}
 use Rattle.calls.specs.Answers.{measured_said}
 use Rattle.test_exports.specs.Answer.{said_put}
-use borrow.Author.Rules.{rules}
 use Rattle.test_exports.proofs.exported_halving.Goals as goal
 
 pub returns : goal.returns

@@ -5,7 +5,6 @@ use mathlib.Core.List.{List, [], ◌∷◌}
 use Rattle.refusals.specs.declared.Written.{Written}
 use Rattle.refusals.specs.Answers.{written_said}
 use Rattle.test_exports.specs.Answer.{said_put}
-use borrow.Author.Rules.{rules}
 use Rattle.test_exports.proofs.exported_list.Goals as goal
 
 pub returns : goal.returns

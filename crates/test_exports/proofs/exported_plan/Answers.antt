@@ -7,7 +7,6 @@ use lib.ListN.{length}
 use Rattle.planner.specs.Answers.{planned_said, plan_refusal, plan_writes, ScratchAfter}
 use Rattle.demands.specs.Call.{ByLists, by_lists, job_by, Plan, Leaves}
 use Rattle.test_exports.specs.Answer.{said_put}
-use borrow.Author.Rules.{rules}
 use Rattle.test_exports.proofs.exported_plan.Goals as goal
 
 leaves : (m : ℕ) (g : ByLists) (s t : List ℕ) {s' t' : List ℕ} → s' ≡ plan_writes (job_by g) m s t

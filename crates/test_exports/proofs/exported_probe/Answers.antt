@@ -5,7 +5,6 @@ use mathlib.Core.List.{List, [], ◌∷◌}
 use Rattle.calls.specs.declared.Probed.{Probed}
 use Rattle.calls.specs.Answers.{probed_said}
 use Rattle.test_exports.specs.Answer.{probed_put}
-use borrow.Author.Rules.{rules}
 use Rattle.test_exports.proofs.exported_probe.Goals as goal
 
 pub returns : goal.returns

@@ -3,7 +3,6 @@ use mathlib.Core.Path.{sym, ap, ◌∙◌}
 use Rattle.grading.specs.declared.Graded.{Graded}
 use Rattle.grading.specs.Answers.{graded_said}
 use Rattle.test_exports.specs.Answer.{said_put}
-use borrow.Author.Rules.{rules}
 use Rattle.test_exports.proofs.put_graded.Goals as goal
 
 pub returns-in-Best : goal.returns-in-Best

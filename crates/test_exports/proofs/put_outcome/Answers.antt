@@ -5,7 +5,6 @@ use mathlib.Core.List.{List}
 use lib.ListN.{set}
 use Rattle.chain.specs.declared.Outcome.{Outcome}
 use Rattle.test_exports.specs.Answer.{bound_put, outcome_put}
-use borrow.Author.Rules.{rules}
 use Rattle.test_exports.proofs.put_outcome.Goals as goal
 
 pub returns-in-Fits : goal.returns-in-Fits

@@ -6,7 +6,6 @@ use lib.ListN.{set}
 use Rattle.planner.specs.declared.Planned.{Planned}
 use Rattle.planner.specs.Answers.{planned_said}
 use Rattle.test_exports.specs.Answer.{bound_put, said_put}
-use borrow.Author.Rules.{rules}
 use Rattle.test_exports.proofs.put_planned.Goals as goal
 
 pub returns-in-Accepted : goal.returns-in-Accepted

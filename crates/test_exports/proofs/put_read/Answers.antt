@@ -6,7 +6,6 @@ use lib.ListN.{set}
 use Rattle.jobs.specs.declared.JobRead.{JobRead}
 use Rattle.jobs.specs.Answers.{read_said}
 use Rattle.test_exports.specs.Answer.{said_put}
-use borrow.Author.Rules.{rules}
 use Rattle.test_exports.proofs.put_read.Goals as goal
 
 -- Four entries, one after the other, the first two by what a callee gave.
@@ -17,5 +16,8 @@ four-put xs x y a b d e f g = cc
 pub returns-in-Read : goal.returns-in-Read
 returns-in-Read c =
     let a = c.args in
-    record { number = sym (ap (λ (w : JobRead). (read_said w).number) c.in-Read.is); answer = four-put a.answer.now _ _ c.edition_number.ensures c.wide.ensures c.put.ensures c.put-in-Read.ensures c.put-in-Read-2.ensures c.put-in-Read-3.ensures
-          ∙ sym (ap (λ (w : JobRead). said_put (read_said w) a.answer.now) c.in-Read.is) }
+    record {
+      number = sym (ap (λ (w : JobRead). (read_said w).number) c.in-Read.is);
+      answer = four-put a.answer.now _ _ c.edition_number.ensures c.wide.ensures c.put.ensures c.put-in-Read.ensures c.put-in-Read-2.ensures c.put-in-Read-3.ensures
+          ∙ sym (ap (λ (w : JobRead). said_put (read_said w) a.answer.now) c.in-Read.is);
+    }
