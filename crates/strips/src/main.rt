@@ -113,3 +113,66 @@ fn main(rt: HostRuntime) {
         complain(&rt, failure);
     }
 }
+
+#[cfg(test)]
+mod tests {
+    use super::{Failure, run};
+    use std::io;
+    use std::io::{Read, Write};
+
+    // Gives its bytes one by one, and then fails.
+    #[derive(Drop)]
+    struct Broken<'a>(&'a [u8]);
+
+    impl Read for Broken<'_> {
+        fn read(&mut self, buf: &mut [u8]) -> io::Result<usize> {
+            let Some((first, rest)) = self.0.split_first() else {
+                return Err(io::Error::other("broken"));
+            };
+            if buf.is_empty() {
+                return Ok(0);
+            }
+            buf[0] = *first;
+            self.0 = rest;
+            Ok(1)
+        }
+    }
+
+    // Takes a byte, and then fails.
+    #[derive(Drop)]
+    struct Full {
+        taken: bool,
+    }
+
+    impl Write for Full {
+        fn write(&mut self, buf: &[u8]) -> io::Result<usize> {
+            if self.taken || buf.is_empty() {
+                return Err(io::Error::other("full"));
+            }
+            self.taken = true;
+            Ok(1)
+        }
+
+        fn flush(&mut self) -> io::Result<()> {
+            Ok(())
+        }
+    }
+
+    // A job of one machine and no tile.
+    const JOB: &[u8] = &[1, 0, 0, 0, 1, 0, 0, 0];
+
+    #[test]
+    fn a_read_that_fails_behind_a_whole_job(rt: HostRuntime) {
+        let mut out = Vec::new(rt.alloc());
+        let ended = run(&mut Broken(JOB), &mut out);
+        assert!(rt; matches!(ended, Err(Failure::Unread)));
+        assert!(rt; out.is_empty());
+    }
+
+    #[test]
+    fn a_write_that_fails_in_the_listing(rt: HostRuntime) {
+        let mut given = JOB;
+        let ended = run(&mut given, &mut Full { taken: false });
+        assert!(rt; matches!(ended, Err(Failure::Unwritten)));
+    }
+}
