@@ -67,7 +67,7 @@ help:
 	@echo 'make            builds what is installed: proves and compiles where a source has changed'
 	@echo 'make install    installs it; PREFIX=$(PREFIX) DESTDIR=$(DESTDIR)'
 	@echo 'make uninstall  removes what was installed there'
-	@echo 'make test       the gate: proves everything from nothing and passes the tests'
+	@echo 'make test       the gate: proves every crate, tries every must-fail edit and passes the tests'
 	@echo
 	@echo 'Variables, as they are:'
 	@echo '  PREFIX      $(PREFIX)'

@@ -1,7 +1,7 @@
 /*
  * Pelshaqu: the best division of a row of tiles among a row of machines.
  *
- * Link with what `pkg-config --cflags --libs pelshaqu` says once the library is installed, or with the archive that `rt staticlib pelshaqu`
+ * Link with what `pkg-config --cflags --libs pelshaqu` says once the library is installed, or with the archive that `make`
  * writes, target/staticlib/libpelshaqu.a. It needs memcpy and memset of libc and nothing else.
  *
  * A host that has a function plan_job or grade_plan of its own defines PELSHAQU_PREFIXED before it includes this header, and calls these two by
@@ -230,7 +230,7 @@ static inline struct pelshaqu_share pelshaqu_read_share(const uint8_t *plan, siz
  * No division of the job has a smaller bottleneck (the greatest load / speed of a machine), and of all best divisions this is
  * the one whose separators are furthest along. In a division a machine whose hold is not 0 takes at most so many tiles.
  *
- * Takes at most 54 KB of stack. pelshaqu_plan_job is the same call.
+ * Takes at most 53 KB of stack. pelshaqu_plan_job is the same call.
  */
 #ifndef PELSHAQU_PREFIXED
 uint32_t plan_job(const uint8_t *job, size_t job_len, uint32_t method, uint8_t *plan, size_t plan_len);
@@ -256,7 +256,7 @@ uint32_t pelshaqu_plan_job(const uint8_t *job, size_t job_len, uint32_t method, 
  *
  * A plan need not have the separators that plan_job gives to be best. What plan_job fills is graded best.
  *
- * Takes at most 20 KB of stack. pelshaqu_grade_plan is the same call.
+ * Takes at most 19 KB of stack. pelshaqu_grade_plan is the same call.
  */
 #ifndef PELSHAQU_PREFIXED
 uint32_t grade_plan(const uint8_t *job, size_t job_len, const uint8_t *plan, size_t plan_len, uint8_t *grade, size_t grade_len);
@@ -364,7 +364,7 @@ uint32_t pelshaqu_quick_plan(bool second, uint32_t startup, const uint32_t *spee
  * answer: the load and the speed of its bottleneck.
  *
  * Refusals, in this order: 16, 5, 6, 7, 8, 14, 9 (fewer than P holds or P + 1 separators), 18.
- * Takes at most 10 KB of stack.
+ * Takes at most 9 KB of stack.
  */
 uint32_t pelshaqu_halve_row(bool second, uint32_t startup, const uint32_t *speeds, size_t speeds_len, const uint16_t *holds, size_t holds_len,
                             const uint32_t *weights, size_t weights_len, uint32_t *separators, size_t separators_len, uint64_t *answer,
@@ -378,7 +378,7 @@ uint32_t pelshaqu_halve_row(bool second, uint32_t startup, const uint32_t *speed
  * the ideal, rounded up.
  *
  * Refusals, in this order: 1, 16, 5, 6, 7, 8, 9 (fewer than P holds, P + 1 separators or 5 * (N + 1) work numbers), 17, and 18 by method 4.
- * Takes at most 2.4 KB of stack.
+ * Takes at most 2.1 KB of stack.
  */
 uint32_t pelshaqu_plan(uint32_t method, bool second, uint32_t startup, const uint32_t *speeds, size_t speeds_len, const uint16_t *holds,
                        size_t holds_len, const uint32_t *weights, size_t weights_len, uint32_t *separators, size_t separators_len,

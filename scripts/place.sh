@@ -7,23 +7,17 @@ first_use="
 The first use proves the program and builds it, which takes some minutes; later
 ones start at once."
 
-# current FILE CHECKED: whether FILE, or the last check that found nothing to do, is newer than every source
+# current FILE: whether it is there and newer than every source. What rt keeps in a crate's out/ is no source.
 current() {
-    [ -e "$1" ] || return 1
-    for made in "$1" "$2"; do
-        if [ -e "$made" ] && [ -z "$(find "$root/crates" "$root/crates.txt" -newer "$made" | head -n 1)" ]; then
-            return 0
-        fi
-    done
-    return 1
+    [ -e "$1" ] && [ -z "$(find "$root/crates" "$root/crates.txt" -name out -prune -o -type f -newer "$1" -print | head -n 1)" ]
 }
 
-# made FILE COMMAND..: runs `rt COMMAND..` where FILE is not there or a source has changed
+# made FILE CRATE LEFT COMMAND: where FILE is not there or a source has changed, runs `rt COMMAND` in the crate's folder; of LEFT, which it
+# leaves in the crate's out/, FILE is a copy. The code is for every x86-64.
 made() {
     thing=$1
-    checked=$root/target/$name.checked
-    shift
-    if current "$thing" "$checked"; then
+    left=$root/crates/$2/out/$3
+    if current "$thing"; then
         return
     fi
     command -v rt >/dev/null || fail 3 "not built yet, or a source has changed, and 'rt' of the Rattle kit is not on the PATH"
@@ -32,26 +26,29 @@ made() {
     else
         echo "$name: proving and building, which takes some minutes the first time" >&2
     fi
-    mkdir -p "$root/target" || fail 3 "$root/target: cannot be made"
+    mkdir -p "$root/target" "${thing%/*}" || fail 3 "$root/target: cannot be made"
     log=$root/target/$name.log
-    {
-        (cd "$root" && rt "$@") 2>&1 </dev/null
-        echo "exit status $?"
-    } | tee "$log" | grep '^rt: .* proved ([0-9]' >&2
-    if [ "$(tail -n 1 "$log")" != "exit status 0" ]; then
+    # rt builds only what is proved, so what is there behind it is. Its exit status may be that of the program, which it runs with no words.
+    rm -f "$left"
+    (cd "$root/crates/$2" && rt "$4" --cpu x86-64) >"$log" 2>&1 </dev/null
+    if ! [ -e "$left" ]; then
         tail -n 20 "$log" >&2
         fail 3 "not proved or not built; $log has it all"
     fi
-    [ -e "$thing" ] || fail 3 "the check passed and left no $thing"
-    : >"$checked"
+    cp "$left" "$thing.new" && mv "$thing.new" "$thing" || fail 3 "$thing: cannot be written"
     note || fail 3 "$root/target/version: cannot be written"
 }
 
 # built: the program is in target/, and `program` is its path
 built() {
     program=$root/target/bin/$name
-    made "$program" check "$name"
+    made "$program" "$name" "$name" run
     [ -x "$program" ] || fail 3 "$program: cannot be run"
+}
+
+# archived CRATE: the static library is in target/, under `name`
+archived() {
+    made "$root/target/staticlib/$name" "$1" "lib$1.a" lib
 }
 
 # commit: what git says of the checkout, with '-dirty' where a tracked file was changed; fails outside a checkout of git

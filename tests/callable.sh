@@ -41,7 +41,7 @@ awk '
     if (rows == 0 || inner == 0) wrong("nothing to compare")
     if (failed) { printf "tests/callable.sh: FAILED, %d wrong\n", failed; exit 1 }
     printf "tests/callable.sh: %d callable functions ask nothing, %d others are inner\n", callable, inner
-  }' $(find crates -path '*/src/*.rt' | grep -v '^crates/\(strips\|test_run\)/' | LC_ALL=C sort)
+  }' $(find crates -name out -prune -o -path '*/src/*.rt' -print | grep -v '^crates/\(strips\|test_exports\|test_run\)/' | LC_ALL=C sort)
 # The functions of C, by name: as the crate has them, as the header declares them, as the page names them.
 work=$(mktemp -d)
 trap 'rm -rf "$work"' EXIT

@@ -5,7 +5,7 @@ set -eu
 cd "$(dirname "$0")/.."
 program=${GRADE_PROGRAM-target/bin/grade}
 [ -x "$program" ] || {
-    echo "tests/grade.sh: no $program; run 'rt check grade' first" >&2
+    echo "tests/grade.sh: no $program; run 'sh scripts/build.sh grade' first" >&2
     exit 1
 }
 work=$(mktemp -d)
@@ -178,8 +178,8 @@ for job in examples/*.job; do
     says "$job: the listing's plan" best "$job" "$work/$(basename "$job" .job).plan"
 done
 
-# the plans of plan_job, by each method
-if command -v cc >/dev/null 2>&1 && [ -f target/staticlib/libpelshaqu.a ]; then
+# the plans of plan_job, by each method, of either archive that has it
+if command -v cc >/dev/null 2>&1 && [ -f target/staticlib/libplanner.a ] && [ -f target/staticlib/libpelshaqu.a ]; then
     cat >"$work/write.c" <<'CODE'
 #include <stdio.h>
 #include <stdlib.h>
@@ -193,14 +193,16 @@ int main(int count, char **words) {
     return fwrite(plan, 16, machines, stdout) != machines;
 }
 CODE
-    cc -std=c99 -Iinclude -DINTAKE="$job_intake" -o "$work/write" "$work/write.c" target/staticlib/libpelshaqu.a
-    for job in examples/*.job; do
-        # the methods that the listing has: with holds the first three
-        for method in $(tail -n +2 "${job%.job}.txt" | cut -d ' ' -f 1); do
-            "$work/write" "$method" <"$job" >"$work/plan"
-            says "$job: the plan of plan_job by method $method" best "$job" "$work/plan"
+    for archive in libplanner libpelshaqu; do
+        cc -std=c99 -Iinclude -DINTAKE="$job_intake" -o "$work/write" "$work/write.c" "target/staticlib/$archive.a"
+        for job in examples/*.job; do
+            # the methods that the listing has: with holds the first three
+            for method in $(tail -n +2 "${job%.job}.txt" | cut -d ' ' -f 1); do
+                "$work/write" "$method" <"$job" >"$work/plan"
+                says "$job: the plan of plan_job by method $method, $archive" best "$job" "$work/plan"
+            done
+            same "$job: the plan of plan_job is the listing's, $archive" "$work/$(basename "$job" .job).plan" "$work/plan"
         done
-        same "$job: the plan of plan_job is the listing's" "$work/$(basename "$job" .job).plan" "$work/plan"
     done
 else
     echo "tests/grade.sh: SKIPPED the plans of plan_job, for which there is no C compiler or no archive"
@@ -596,8 +598,13 @@ if [ -n "$closed" ]; then
 fi
 got=$(./grade -- "$a" "$best") || got="status $?"
 equal "script, behind --" best "$got"
+for odd in "$(printf '\377 job')" '&1' -; do
+    cp "$a" "$work/$odd"
+    got=$(cd "$work" && "$OLDPWD/grade" "$odd" "$OLDPWD/$best") || got="status $?"
+    equal "script, a file with the name '$odd'" best "$got"
+done
 # A copy whose program cannot be built, and one whose program says nothing, or something else.
-mkdir -p "$work/root/crates" "$work/root/bin" "$work/root/target/bin"
+mkdir -p "$work/root/crates/grade" "$work/root/bin" "$work/root/target/bin"
 cp -r grade scripts crates.txt "$work/root/"
 printf '#!/bin/sh\necho "no proof"\nexit 1\n' >"$work/root/bin/rt"
 chmod +x "$work/root/bin/rt"

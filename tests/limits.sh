@@ -77,8 +77,8 @@ limit() {
     esac
     echo "$number"
 }
-tiles=$(limit maxTasks) && weight=$(limit maxWeight) && machines=$(limit maxProcessors) && speed=$(limit maxSpeed) &&
-    startup=$(limit maxStartup) && bound_load=$(limit maxBoundLoad) && bound_speed=$(limit maxBoundSpeed) || exit 1
+tiles=$(limit max_tasks) && weight=$(limit max_weight) && machines=$(limit max_processors) && speed=$(limit max_speed) &&
+    startup=$(limit max_startup) && bound_load=$(limit max_bound_load) && bound_speed=$(limit max_bound_speed) || exit 1
 # The greatest hold, which has 16 bits and no other limit.
 hold=$((256 * 256 - 1))
 # The records of the longest job file, which is of the second edition; one record more than it has, and than the longest plan file.

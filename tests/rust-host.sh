@@ -11,7 +11,7 @@ fail() {
     exit 1
 }
 command -v cargo >/dev/null 2>&1 || fail "cargo is missing"
-[ -f "$archive" ] || fail "no archive: run 'rt staticlib pelshaqu' first"
+[ -f "$archive" ] || fail "no archive: run 'sh scripts/build.sh libpelshaqu.a' first"
 CARGO_TARGET_DIR=$PWD/target/rust-host
 export CARGO_TARGET_DIR
 

@@ -8,7 +8,7 @@
 # The bytes that docs/FORMATS.md shows are those of the example files.
 set -eu
 cd "$(dirname "$0")/.."
-find crates -name '*.antt' -o -name '*.rt' | grep -v /declared/ | LC_ALL=C sort | xargs awk '
+find crates -name out -prune -o \( -name '*.antt' -o -name '*.rt' \) -print | LC_ALL=C sort | xargs awk '
   function squeeze(s) { gsub(/[ \t\n]+/, " ", s); return s }
   # Whether the pieces of the quote follow one another in the text.
   function holds(text, quote,    pieces, n, i, at) {
@@ -128,7 +128,7 @@ trials=$(awk '/^## / { inside = /^## (11|17|18) / }
             speeds = $0; sub(/.* on (one machine of speed|speeds) /, "", speeds); sub(/ a trial .*/, "", speeds)
             weights = $0; sub(/.*Of weights /, "", weights); sub(/ on .*/, "", weights)
             gsub(/ /, " ∷ ", speeds); gsub(/ /, " ∷ ", weights)
-            job = "(freeJob 0 (" speeds " ∷ []) (" weights " ∷ []))"
+            job = "(free_job 0 (" speeds " ∷ []) (" weights " ∷ []))"
         }
         at = $0; sub(/ (fails|fits,) .*/, "", at); sub(/.* at /, "", at); sub(/\//, " ", at)
         gsub(/ /, " ∷ ", list)
@@ -136,14 +136,14 @@ trials=$(awk '/^## / { inside = /^## (11|17|18) / }
         if (sub(/.* fits, comes to /, "", said)) {
             if (said !~ /^(1 machine|(0|[2-9]|[1-9][0-9]+) machines) and writes /) said = "?"
             sub(/ .*/, "", said)
-            print "fitsWith " job " (over " at ") " said " (" list " ∷ [])"
+            print "fits_with " job " (over " at ") " said " (" list " ∷ [])"
         } else {
             sub(/.*next bid /, "", said); sub(/ .*/, "", said); sub(/\//, " ", said)
-            print "failsWith " job " (over " at ") (over " said ") (" list " ∷ [])"
+            print "fails_with " job " (over " at ") (over " said ") (" list " ∷ [])"
         }
     }' docs/SCOPE.md)
-[ "$(printf '%s\n' "$trials" | grep -c failsWith)" = 10 ] || { echo "docs/SCOPE.md, sections 11, 17 and 18: ten trials that fail are looked for"; failed=1; }
-[ "$(printf '%s\n' "$trials" | grep -c fitsWith)" = 10 ] || { echo "docs/SCOPE.md, sections 11, 17 and 18: ten trials that fit and come to so many machines are looked for"; failed=1; }
+[ "$(printf '%s\n' "$trials" | grep -c fails_with)" = 10 ] || { echo "docs/SCOPE.md, sections 11, 17 and 18: ten trials that fail are looked for"; failed=1; }
+[ "$(printf '%s\n' "$trials" | grep -c fits_with)" = 10 ] || { echo "docs/SCOPE.md, sections 11, 17 and 18: ten trials that fit and come to so many machines are looked for"; failed=1; }
 printf '%s\n' "$trials" >"$work"
 while read -r trial; do
     grep -qF "$trial" crates/chain/specs/Marked.antt || { echo "crates/chain/specs/Marked.antt: no row '$trial'"; failed=1; }
@@ -153,20 +153,20 @@ awk -F ' *[|] *' 'function list(s) { if (s == "none") return "[]"; gsub(/ /, " �
     function three(s) { gsub(/,/, "", s); return "(three " s ")" }
     /^## / { inside = /^## 18 / }
     inside && $2 ~ /^[A-Z]$/ { job = "job" $2; c = $6 == "none" ? 0 : $6; edition = $6 == "none" ? "First" : "(Second " $6 ")"; sub(/\//, " ", $8)
-        print job "|" c "|" list($4) "|" list($5) "|" list($3) "|heldPlan " edition " " job " " list($7) " (over " $8 ") " $9 " " three($10) " " three($11) }' \
+        print job "|" c "|" list($4) "|" list($5) "|" list($3) "|held_plan " edition " " job " " list($7) " (over " $8 ") " $9 " " three($10) " " three($11) }' \
     docs/SCOPE.md >"$work"
-[ "$(grep -c heldPlan "$work")" = 8 ] || { echo "docs/SCOPE.md, section 18: eight jobs are looked for"; failed=1; }
+[ "$(grep -c held_plan "$work")" = 8 ] || { echo "docs/SCOPE.md, section 18: eight jobs are looked for"; failed=1; }
 marked() { grep -qxF "$1" crates/chain/specs/Marked.antt; }
 while IFS='|' read -r job c speeds holds weights row; do
-    marked "$job = jobOf $c $speeds $holds $weights" ||
-        { marked "$job = ${job}With $holds" && marked "${job}With hs = jobOf $c $speeds hs $weights"; } ||
-        { marked "$job = ${job}On $speeds" && marked "${job}On es = jobOf $c es $holds $weights"; } ||
-        { echo "crates/chain/specs/Marked.antt: $job is not 'jobOf $c $speeds $holds $weights'"; failed=1; }
+    marked "$job = job_of $c $speeds $holds $weights" ||
+        { marked "$job = ${job}With $holds" && marked "${job}With hs = job_of $c $speeds hs $weights"; } ||
+        { marked "$job = ${job}On $speeds" && marked "${job}On es = job_of $c es $holds $weights"; } ||
+        { echo "crates/chain/specs/Marked.antt: $job is not 'job_of $c $speeds $holds $weights'"; failed=1; }
     marked "    $row" || marked "    ∷ $row" || { echo "crates/chain/specs/Marked.antt: no row '$row'"; failed=1; }
 done <"$work"
 printf '%s\n' "$trials" >"$work"
-told=$(tr '\n' ' ' <docs/WHY.md | sed -n 's/.*Job B has tiles of \([0-9 ]*\) on machines of speed 1 and 2\. At the bound \([0-9]*\)\/\([0-9]*\), .* The trial fails and writes \([0-9 ]*\)\. .*The next bid, here \([0-9]*\)\/\([0-9]*\), .*At \([0-9]*\/[0-9]*\) this one does, with \([0-9 ]*\)\..*/\1|failsWith jobB (over \2 \3) (over \5 \6) (\4)|\7 \8/p')
-same docs/WHY.md "$told" "$(awk -F ' *[|] *' '$2 == "B" { print $3; exit }' docs/SCOPE.md)|$(grep 'failsWith jobB' "$work" | sed 's/ ∷ \[\]//; s/ ∷ / /g')|$(awk 'NR == 2 { print $4 "/" $5, $7, $8, $9 }' examples/B.txt)"
+told=$(tr '\n' ' ' <docs/WHY.md | sed -n 's/.*Job B has tiles of \([0-9 ]*\) on machines of speed 1 and 2\. At the bound \([0-9]*\)\/\([0-9]*\), .* The trial fails and writes \([0-9 ]*\)\. .*The next bid, here \([0-9]*\)\/\([0-9]*\), .*At \([0-9]*\/[0-9]*\) this one does, with \([0-9 ]*\)\..*/\1|fails_with jobB (over \2 \3) (over \5 \6) (\4)|\7 \8/p')
+same docs/WHY.md "$told" "$(awk -F ' *[|] *' '$2 == "B" { print $3; exit }' docs/SCOPE.md)|$(grep 'fails_with jobB' "$work" | sed 's/ ∷ \[\]//; s/ ∷ / /g')|$(awk 'NR == 2 { print $4 "/" $5, $7, $8, $9 }' examples/B.txt)"
 # The bytes that FORMATS.md shows of jobs A, N and S and of their plans, one dump behind the other.
 shown() { awk -v which="$1" '/^    [0-9a-f]+  [0-9a-f][0-9a-f] / { if ($1 == "00000000") dump++
     if (dump == which) for (i = 2; i <= NF && $i ~ /^[0-9a-f][0-9a-f]$/; i++) printf "%s ", $i }' docs/FORMATS.md; }

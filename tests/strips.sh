@@ -5,7 +5,7 @@ set -eu
 cd "$(dirname "$0")/.."
 program=${STRIPS_PROGRAM-target/bin/strips}
 [ -x "$program" ] || {
-    echo "tests/strips.sh: no $program; run 'rt check strips' first" >&2
+    echo "tests/strips.sh: no $program; run 'sh scripts/build.sh strips' first" >&2
     exit 1
 }
 work=$(mktemp -d)

@@ -1,4 +1,4 @@
-// Finds the library: in the folder that PELSHAQU_LIB_DIR names; else in target/staticlib of the repository, where `rt staticlib pelshaqu` writes
+// Finds the library: in the folder that PELSHAQU_LIB_DIR names; else in target/staticlib of the repository, where `make` writes
 // it; else where pkg-config says that it is installed.
 use std::path::{Path, PathBuf};
 use std::process::Command;
@@ -30,7 +30,7 @@ fn installed() {
     let found = Command::new("pkg-config").args(["--libs-only-L", "pelshaqu"]).output();
     let words = match found {
         Ok(output) if output.status.success() => String::from_utf8_lossy(&output.stdout).into_owned(),
-        _ => panic!("no library: run 'rt staticlib pelshaqu', install it, or set PELSHAQU_LIB_DIR"),
+        _ => panic!("no library: run 'make', install it, or set PELSHAQU_LIB_DIR"),
     };
     for folder in words.split_whitespace().filter_map(|word| word.strip_prefix("-L")) {
         println!("cargo:rustc-link-search=native={folder}");

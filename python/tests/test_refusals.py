@@ -163,15 +163,15 @@ class Tables(unittest.TestCase):
         self.assertEqual(mine, page)
 
     def test_the_limits_are_those_of_the_definitions(self):
-        defined = dict(re.findall(r"^(max\w+) = (\d+)$", "\n".join(lines_of("crates", "chain", "specs", "Limits.antt")), re.M))
+        defined = dict(re.findall(r"^(max_\w+) = (\d+)$", "\n".join(lines_of("crates", "chain", "specs", "Limits.antt")), re.M))
         names = {
-            "maxProcessors": "MAX_MACHINES",
-            "maxTasks": "MAX_TILES",
-            "maxSpeed": "MAX_SPEED",
-            "maxWeight": "MAX_WEIGHT",
-            "maxStartup": "MAX_STARTUP",
-            "maxBoundLoad": "MAX_BOUND_LOAD",
-            "maxBoundSpeed": "MAX_BOUND_SPEED",
+            "max_processors": "MAX_MACHINES",
+            "max_tasks": "MAX_TILES",
+            "max_speed": "MAX_SPEED",
+            "max_weight": "MAX_WEIGHT",
+            "max_startup": "MAX_STARTUP",
+            "max_bound_load": "MAX_BOUND_LOAD",
+            "max_bound_speed": "MAX_BOUND_SPEED",
         }
         for definition, name in names.items():
             self.assertEqual(getattr(limits, name), int(defined[definition]), name)

@@ -1,4 +1,5 @@
-//! The planner under test: the calls of the library. Planning and grading by file are called by their names without the prefix.
+//! The planner under test: the calls of the library. Planning and grading by file are called by their names without the prefix. With the feature
+//! `exports` these two are those of libplanner.a, and every other call is that of libtest_exports.a, by its name there.
 
 /// How a job's edition comes beside its lists: whether it is the second, and the start-up work, which counts only there.
 #[derive(Clone, Copy, Debug, PartialEq)]
@@ -121,25 +122,36 @@ type Longs = *mut u64;
 extern "C" {
     fn plan_job(job: Bytes, job_len: usize, method: u32, plan: Bytes, plan_len: usize) -> u32;
     fn grade_plan(job: Bytes, job_len: usize, plan: Bytes, plan_len: usize, grade: Bytes, grade_len: usize) -> u32;
+    #[cfg_attr(feature = "exports", link_name = "exported_test_job")]
     #[rustfmt::skip]
     fn pelshaqu_test_job(second: bool, c: u32, e: Words, e_len: usize, h: Halves, h_len: usize, w: Words, w_len: usize) -> u32;
+    #[cfg_attr(feature = "exports", link_name = "exported_read_job")]
     #[rustfmt::skip]
     fn pelshaqu_read_job(f: Bytes, f_len: usize, e: Words, e_len: usize, h: Halves, h_len: usize, w: Words, w_len: usize, a: Longs, a_len: usize) -> u32;
+    #[cfg_attr(feature = "exports", link_name = "exported_list")]
     fn pelshaqu_list_job(f: Bytes, f_len: usize, t: Bytes, t_len: usize, a: Longs, a_len: usize) -> u32;
+    #[cfg_attr(feature = "exports", link_name = "exported_write_job")]
     #[rustfmt::skip]
     fn pelshaqu_write_job(second: bool, c: u32, e: Words, e_len: usize, h: Halves, h_len: usize, w: Words, w_len: usize, f: Bytes, f_len: usize, a: Longs, a_len: usize) -> u32;
+    #[cfg_attr(feature = "exports", link_name = "exported_grade")]
     #[rustfmt::skip]
     fn pelshaqu_grade(second: bool, c: u32, e: Words, e_len: usize, h: Halves, h_len: usize, w: Words, w_len: usize, f: Bytes, f_len: usize, a: Longs, a_len: usize) -> u32;
+    #[cfg_attr(feature = "exports", link_name = "exported_measure")]
     #[rustfmt::skip]
     fn pelshaqu_measure(second: bool, c: u32, e: Words, e_len: usize, h: Halves, h_len: usize, w: Words, w_len: usize, s: Words, s_len: usize, a: Longs, a_len: usize) -> u32;
+    #[cfg_attr(feature = "exports", link_name = "exported_heuristic")]
     #[rustfmt::skip]
     fn pelshaqu_quick_plan(second: bool, c: u32, e: Words, e_len: usize, h: Halves, h_len: usize, w: Words, w_len: usize, s: Words, s_len: usize, a: Longs, a_len: usize) -> u32;
+    #[cfg_attr(feature = "exports", link_name = "exported_halving")]
     #[rustfmt::skip]
     fn pelshaqu_halve_row(second: bool, c: u32, e: Words, e_len: usize, h: Halves, h_len: usize, w: Words, w_len: usize, s: Words, s_len: usize, a: Longs, a_len: usize) -> u32;
+    #[cfg_attr(feature = "exports", link_name = "exported_probe")]
     #[rustfmt::skip]
     fn pelshaqu_trial(second: bool, c: u32, e: Words, e_len: usize, h: Halves, h_len: usize, w: Words, w_len: usize, load: u64, speed: u64, s: Words, s_len: usize, a: Longs, a_len: usize) -> u32;
+    #[cfg_attr(feature = "exports", link_name = "exported_plan")]
     #[rustfmt::skip]
     fn pelshaqu_plan(m: u32, second: bool, c: u32, e: Words, e_len: usize, h: Halves, h_len: usize, w: Words, w_len: usize, s: Words, s_len: usize, k: Words, k_len: usize, a: Longs, a_len: usize) -> u32;
+    #[cfg_attr(feature = "exports", link_name = "exported_write_plan")]
     #[rustfmt::skip]
     fn pelshaqu_write_plan(second: bool, c: u32, e: Words, e_len: usize, h: Halves, h_len: usize, w: Words, w_len: usize, s: Words, s_len: usize, f: Bytes, f_len: usize, a: Longs, a_len: usize) -> u32;
 }
