@@ -25,7 +25,7 @@ awk '
       if (line ~ /^\| `/) { sub(/^\| `/, "", line); sub(/`.*/, "", line); if (line != "function") row[line] = 1 }
   }
   FNR == 1 { file = FILENAME; head = 0; top = 1; comment = "" }
-  /^ *\/\/ / { comment = comment " " $0; if (top && $0 ~ /are inner/) head = 1; next }
+  /^ *\/\/ / { line = $0; sub(/^ *\/\/ /, "", line); comment = comment " " line; if (top && comment ~ /are inner/) head = 1; next }
   top && /^$/ { top = 0 }
   /^ *#\[/ { next }
   /^ *pub (extern "C" )?fn / {

@@ -91,12 +91,12 @@ module _ {job : Job} (v : Valid job) {B : Bound} {xs : List ℕ} {p e a : ℕ} (
         | no y ↦ omega (arith, w.start_is, w.left, ap (separator job B) (let f : p ≡ e = omega arith in f))
       ]
 
-  pub passed_by : {b : ℕ} → b ≡ get_or xs e 0 → Passes job B xs xs p e (record { processor = e; start = b; least = L })
-  passed_by y =
+  pub passed_by : Passes job B xs xs p e (record { processor = e; start = get_or xs e 0; least = L })
+  passed_by =
       record {
         from = h;
         to = omega arith;
-        start_is = y ∙ meet e h (omega arith);
+        start_is = meet e h (omega arith);
         left = λ q z. separator_left job B e q left (omega arith);
         same = refl;
         done = λ q z. elim (dec_le (suc q) p) [ yes f ↦ w.before q f | no f ↦ meet q (omega arith) (omega arith) ];
@@ -154,16 +154,16 @@ module _ {job : Job} (v : Valid job) {B : Bound} {xs : List ℕ} {first e : ℕ}
       is = x ∙ w.walked.front.rest (p + 1) (omega arith) ∙ ap (λ (i : ℕ). get_or xs i 0) (add-one p)
 
   module _ (l : processors job < length xs) (t : e ≤ last job) {ys : List ℕ} {p a was : ℕ} {least : Bound} (w : Going job B xs ys first e p a was least)
-      (h : p < e) {s : ℕ} (x : s ≡ a) {r : Share} (z : Shared job p a B r) where
-    stored : Front (separator job B) (p + 1) xs (set ys p s)
-    stored = front_next s w.walked.front (omega (arith, processors-last (valid_proper v))) (x ∙ w.walked.reached)
+      (h : p < e) {r : Share} (z : Shared job p a B r) where
+    stored : Front (separator job B) (p + 1) xs (set ys p a)
+    stored = front_next a w.walked.front (omega (arith, processors-last (valid_proper v))) w.walked.reached
 
     end_is : r.end ≡ separator job B (p + 1)
     unfolding separator
     end_is = z.end_is ∙ ap (λ (i : ℕ). reach job p i B) w.walked.reached ∙ ap (separator job B) (sym (add-one p))
 
     -- Where every task is placed it ends,
-    pub going_placed : tasks job ≤ r.end → Passes job B xs (set ys p s) first e (record { processor = p + 1; start = r.end; least = least })
+    pub going_placed : tasks job ≤ r.end → Passes job B xs (set ys p a) first e (record { processor = p + 1; start = r.end; least = least })
     going_placed y =
         record {
           from = omega (arith, w.from);
@@ -179,12 +179,12 @@ module _ {job : Job} (v : Valid job) {B : Bound} {xs : List ℕ} {first e : ℕ}
 
     -- else it goes on.
     pub going_turn : {b : ℕ} {E : Bound} → r.end < tasks job → b ≡ get_or ys (p + 1) 0 → E ≡ lesser least r.bid
-        → Going job B xs (set ys p s) first e (p + 1) r.end b E
+        → Going job B xs (set ys p a) first e (p + 1) r.end b E
     going_turn {b} {E} y f g =
         record {
           from = omega (arith, w.from);
           to = omega arith;
-          walked = subst (λ (C : Bound). Walked job B xs (set ys p s) (p + 1) r.end C) turned.least turned;
+          walked = subst (λ (C : Bound). Walked job B xs (set ys p a) (p + 1) r.end C) turned.least turned;
           was_is = f ∙ w.walked.front.rest (p + 1) (omega arith);
           least_is =
               g ∙ ap₂ lesser w.least_is bid_is
@@ -192,8 +192,8 @@ module _ {job : Job} (v : Valid job) {B : Bound} {xs : List ℕ} {first e : ℕ}
           small = subst Narrow (sym g) (lesser_narrow w.small z.small);
         }
       where
-        turned : Walked job B xs (set ys p s) (p + 1) r.end (lesser (least_before job B p) r.bid)
-        turned = walked_turn v l w.walked (omega arith) x z.end_is y (z.bid_is y) refl
+        turned : Walked job B xs (set ys p a) (p + 1) r.end (lesser (least_before job B p) r.bid)
+        turned = walked_turn v l w.walked (omega arith) z.end_is y (z.bid_is y) refl
 
         bid_is : r.bid ≡ bid job B p
         bid_is =
@@ -202,17 +202,17 @@ module _ {job : Job} (v : Valid job) {B : Bound} {xs : List ℕ} {first e : ℕ}
             ∙ sym (bid_before job B p (omega arith))
 
   pub going_end : {ys : List ℕ} {p a was : ℕ} {least : Bound} → Going job B xs ys first e p a was least → e ≤ p
-      → Passes job B xs ys first e (record { processor = p; start = a; least = least })
+      → Passes job B xs ys first e (record { processor = e; start = a; least = least })
   going_end {ys} {p} {a} {was} {least} w h =
       let f : p ≡ e = omega (arith, w.to) in
       record {
-        from = w.from;
-        to = w.to;
-        start_is = w.walked.reached;
+        from = omega (arith, w.from);
+        to = omega arith;
+        start_is = w.walked.reached ∙ ap (separator job B) f;
         left = λ q l. separator_left job B p q (omega (arith, w.walked.reached, w.walked.left)) (omega arith);
         same = w.walked.front.same;
-        done = w.walked.front.done;
-        rest = w.walked.front.rest;
+        done = λ q l. w.walked.front.done q (omega arith);
+        rest = λ q l. w.walked.front.rest q (omega arith);
         small = w.small;
-        all = λ y. (f, w.least_is ∙ ap (λ (i : ℕ). least_from (bid job B) first (i - first)) f);
+        all = λ y. (refl, w.least_is ∙ ap (λ (i : ℕ). least_from (bid job B) first (i - first)) f);
       }

@@ -126,3 +126,8 @@ module _ {job : Job} (v : Valid job) (h : T (enough job)) {C : Bound} {xs : List
           left = λ k h. omega (arith, stays k (omega arith), fails_before_end job f.bound f.rejected.failed k (omega (arith, w.to)));
           before = λ k h. f.each k (omega (arith, w.to)) ∙ sym (stays k (omega arith));
         }
+
+    -- The same where the scan has come to the last processor.
+    pub parted_ended : last job ≤ p → Reached job C xs (record { processor = last job; start = a; least = least })
+    parted_ended l =
+        subst (λ (i : ℕ). Reached job C xs (record { processor = i; start = a; least = least })) (let e : p ≡ last job = omega (arith, w.to) in e) parted_reached

@@ -26,7 +26,8 @@ pub record Laid (job : Job) (B : Bound) (p : ℕ) (xs : List ℕ) : Type 0 where
   pub inside : (k : ℕ) → p ≤ k → k < last job → get_or xs (suc k) 0 < tasks job
   pub each : (k : ℕ) → p ≤ k → k < last job → T (within job k (get_or xs k 0) (get_or xs (suc k) 0) B)
 
--- The walk at B has come before processor p with a task left: its separators before p stand in the list, and those from p on are laid.
+-- The walk at B has come before processor p with a task left: its separators before p stand in the list, and those
+-- from p on are laid.
 pub record Come (job : Job) (B : Bound) (xs : List ℕ) (p a : ℕ) : Type 0 where
   pub to : p ≤ last job
   pub start_is : a ≡ separator job B p
@@ -34,8 +35,8 @@ pub record Come (job : Job) (B : Bound) (xs : List ℕ) (p a : ℕ) : Type 0 whe
   pub before : (k : ℕ) → k < p → get_or xs k 0 ≡ separator job B k
   pub laid : Laid job B p xs
 
--- The walk at B goes from processor p to e, or to where every task is placed. The list was xs and is ys. In r is where it stands, and the least
--- bid of the processors passed.
+-- The walk at B goes from processor p to e, or to where every task is placed. The list was xs and is ys. In r is
+-- where it stands, and the least bid of the processors passed.
 pub record Passes (job : Job) (B : Bound) (xs ys : List ℕ) (p e : ℕ) (r : Point) : Type 0 where
   pub from : p ≤ r.processor
   pub to : r.processor ≤ e
@@ -57,14 +58,18 @@ pub record Shared (job : Job) (p a : ℕ) (B : Bound) (r : Share) : Type 0 where
 abbrev pub least_in : Job → (ℕ → Bound) → ℕ → Bound
 least_in job f k = least_from f (block * k) ((last job - (last job - (block * k + block))) - block * k)
 
--- What is known of the bids of the walk before, xs: each block's bound in the two lists is its least bid, where it is above B.
-pub record Known (job : Job) (B : Bound) (xs loads rates : List ℕ) : Type 0 where
-  pub room : (last job ≤ block * length loads) × (last job ≤ block * length rates)
-  pub small : (k : ℕ) → block * k < last job → Narrow (over (get_or loads k 0) (get_or rates k 0))
-  pub each : (k : ℕ) → block * k < last job → B ≺ over (get_or loads k 0) (get_or rates k 0)
-      → over (get_or loads k 0) (get_or rates k 0) ≡ least_in job (laid_bid job xs) k
+-- The bound of block k in a list, any bound past the end.
+abbrev pub bound_of : List Bound → ℕ → Bound
+bound_of leasts k = get_or leasts k (over 0 0)
 
--- The two lists have the least bid of each block of the walk at B.
-pub record Leasts (job : Job) (B : Bound) (loads rates : List ℕ) : Type 0 where
-  pub room : (last job ≤ block * length loads) × (last job ≤ block * length rates)
-  pub each : (k : ℕ) → block * k < last job → over (get_or loads k 0) (get_or rates k 0) ≡ least_in job (bid job B) k
+-- What is known of the bids of the walk before, xs: each block's bound in the list is its least bid, where it is
+-- above B.
+pub record Known (job : Job) (B : Bound) (xs : List ℕ) (leasts : List Bound) : Type 0 where
+  pub room : last job ≤ block * length leasts
+  pub small : (k : ℕ) → block * k < last job → Narrow (bound_of leasts k)
+  pub each : (k : ℕ) → block * k < last job → B ≺ bound_of leasts k → bound_of leasts k ≡ least_in job (laid_bid job xs) k
+
+-- The list has the least bid of each block of the walk at B.
+pub record Leasts (job : Job) (B : Bound) (leasts : List Bound) : Type 0 where
+  pub room : last job ≤ block * length leasts
+  pub each : (k : ℕ) → block * k < last job → bound_of leasts k ≡ least_in job (bid job B) k

@@ -1,22 +1,24 @@
-// Bidding: scope 5.10 and 5.11. All functions here are inner: their callers have tested the job.
+// Bidding: a trial at the ideal, then at each least next bid until one fits. All functions here are inner: their
+// callers have tested the job. Those that are told HELD are compiled twice: for jobs with holds, and for those
+// without, which ask for none.
 #![tactic(auto)]
 
 ghost use Rattle.std.specs.Prelude.{suc, ◌+◌, ◌-◌, ◌≤◌, ◌<◌, ◌≡◌, not, ◌++◌, T, length, drop};
 ghost use Rattle.bound.specs.Order.{◌≺◌};
 ghost use Rattle.chain.specs.Job as counts;
-ghost use Rattle.chain.specs.Job.{Job, job_of, tasks, processors, last, offer, within};
-ghost use Rattle.chain.specs.Probe.{reach, walk, fits, probe};
+ghost use Rattle.chain.specs.Job.{tasks, processors, last, enough, within};
+ghost use Rattle.chain.specs.Probe.{walk, fits, probe};
 ghost use Rattle.chain.specs.Ranges.{Lendable, Narrow};
 ghost use Rattle.chain.specs.Plan.{BiddingEnds};
-ghost use Rattle.parts.specs.Prefix.{Ready, ReadyKept};
+ghost use Rattle.parts.specs.Lent.{the};
 ghost use Rattle.probe.specs.Walk.{begun, Reached};
 ghost use Rattle.bidding.specs.Failed.{FailedWalk};
-ghost use Rattle.bidding.specs.Blocks.{block, least_from, laid_bid, Laid, Come, Passes, Shared, Known, Leasts};
+ghost use Rattle.bidding.specs.Blocks.{least_from, laid_bid, Laid, Come, Passes, Shared, Known, Leasts};
 
 use bound::Bound;
 use chain::Outcome;
-use parts::{Found, any_hold, ideal_of, index, narrow};
-use probe::{Point, bid_of, fill, free_bid, free_end, free_rest, part_end, rest_of};
+use parts::{Found, Line, ideal_of};
+use probe::{Point, bid_of, part_end, rest_of};
 use refusals::MAX_PROCESSORS;
 
 // The least bid is kept for each block of so many processors before the last,
@@ -24,118 +26,35 @@ const BLOCK: usize = 8;
 // and there are so many blocks at most.
 const BLOCKS: usize = (MAX_PROCESSORS + BLOCK - 2) / BLOCK;
 
-// Inner. The bid of processor p, whether a hold is set or not.
-fn bid_at(
-    startup: u32,
-    speeds: &[u32],
-    holds: &[u16],
-    weights: &[u32],
-    sums: &[u32],
-    held: bool,
-    p: usize,
-    a: usize,
-    end: usize,
-) -> Bound
-    requires ready { let job : Job = job_of startup speeds.now holds.now weights.now in Ready job sums.now }
-    requires p_bound { let job : Job = job_of startup speeds.now holds.now weights.now in (p < processors job) × (a ≤ end) × (end < tasks job) }
-    requires held_value { let job : Job = job_of startup speeds.now holds.now weights.now in held ≡ counts.held job }
-    ensures value { let job : Job = job_of startup speeds.now holds.now weights.now in result ≡ offer job p a (suc end) }
-    ensures narrow { Narrow result }
+// Inner. Where the walk at the next bid parts from the failed walk in front of the list: before the first processor
+// whose bid is within it. Up to there the separators and the bids stay.
+fn parting<const HELD: bool>(line: Line, next: Bound, separators: &[u32]) -> Point
+    requires enough { T (enough (the line.job)) }
+    requires failed { FailedWalk (the line.job) next separators.now }
+    requires held_is { T (counts.held (the line.job)) → T HELD }
+    ensures { Reached (the line.entry.job) next separators.now result }
 {
-    if held {
-        return bid_of(startup, speeds, holds, weights, sums, p, a, end);
-    }
-    free_bid(startup, speeds, holds, weights, sums, p, a, end)
-}
-
-// Inner. Where the walk at the next bid parts from the failed walk in front of the list: before the first processor whose bid is
-// within it. Up to there the separators and the bids stay.
-fn parting(
-    startup: u32,
-    speeds: &[u32],
-    holds: &[u16],
-    weights: &[u32],
-    sums: &[u32],
-    held: bool,
-    next: Bound,
-    separators: &[u32],
-) -> Point
-    requires ready_kept { let job : Job = job_of startup speeds.now holds.now weights.now in ReadyKept job sums.now }
-    requires failed_walk { let job : Job = job_of startup speeds.now holds.now weights.now in FailedWalk job next separators.now }
-    requires held_value { let job : Job = job_of startup speeds.now holds.now weights.now in held ≡ counts.held job }
-    ensures { let job : Job = job_of startup speeds.now holds.now weights.now in Reached job next separators.now result }
-{
-    let last = speeds.len() - 1;
+    let last = line.job.speeds.len() - 1;
     let mut least = Bound::INFINITE;
-    let mut a = 0;
-    let mut p = 0;
-    while p < last {
-        let end = index(separators[p + 1]);
-        let bid = bid_at(startup, speeds, holds, weights, sums, held, p, a, end);
-        if Bound::at_most(bid, next) {
+    let mut start = 0;
+    for processor in 0..last {
+        let end = separators[processor + 1] as usize;
+        let bid = bid_of::<HELD>(line, processor, start, end);
+        if bid.at_most(next) {
             return Point {
-                processor: p,
-                start: a,
+                processor,
+                start,
                 least,
             };
         }
-        least = Bound::lesser(least, bid);
-        a = end;
-        p += 1;
+        least = least.lesser(bid);
+        start = end;
     }
     Point {
-        processor: p,
-        start: a,
+        processor: last,
+        start,
         least,
     }
-}
-
-// Inner. How far its part from a on goes.
-fn end_at(
-    startup: u32,
-    speeds: &[u32],
-    holds: &[u16],
-    weights: &[u32],
-    sums: &[u32],
-    held: bool,
-    p: usize,
-    a: usize,
-    bound: Bound,
-    hint: usize,
-) -> usize
-    requires ready { let job : Job = job_of startup speeds.now holds.now weights.now in Ready job sums.now }
-    requires lendable { Lendable bound }
-    requires p_bound { let job : Job = job_of startup speeds.now holds.now weights.now in (p < processors job) × (a ≤ tasks job) }
-    requires held_value { let job : Job = job_of startup speeds.now holds.now weights.now in held ≡ counts.held job }
-    ensures { let job : Job = job_of startup speeds.now holds.now weights.now in result ≡ reach job p a bound }
-{
-    if held {
-        return part_end(startup, speeds, holds, weights, sums, p, a, bound, hint);
-    }
-    free_end(startup, speeds, holds, weights, sums, p, a, bound, hint)
-}
-
-// Inner. The bound of all that remains from a on.
-fn rest_at(
-    startup: u32,
-    speeds: &[u32],
-    holds: &[u16],
-    weights: &[u32],
-    sums: &[u32],
-    held: bool,
-    p: usize,
-    a: usize,
-) -> Bound
-    requires ready { let job : Job = job_of startup speeds.now holds.now weights.now in Ready job sums.now }
-    requires p_bound { let job : Job = job_of startup speeds.now holds.now weights.now in (p < processors job) × (a ≤ tasks job) }
-    requires held_value { let job : Job = job_of startup speeds.now holds.now weights.now in held ≡ counts.held job }
-    ensures value { let job : Job = job_of startup speeds.now holds.now weights.now in result ≡ offer job p a (tasks job) }
-    ensures narrow { Narrow result }
-{
-    if held {
-        return rest_of(startup, speeds, holds, weights, sums, p, a);
-    }
-    free_rest(startup, speeds, holds, weights, sums, p, a)
 }
 
 // Where a processor's part ends, and the processor's bid for one more task, if there is one.
@@ -146,70 +65,47 @@ pub struct Share {
 }
 
 // Inner. The part of processor p from a on, by a search.
-fn found_share(
-    startup: u32,
-    speeds: &[u32],
-    holds: &[u16],
-    weights: &[u32],
-    sums: &[u32],
-    held: bool,
-    bound: Bound,
-    p: usize,
-    a: usize,
-    hint: usize,
-) -> Share
-    requires ready { let job : Job = job_of startup speeds.now holds.now weights.now in Ready job sums.now }
+fn found_share<const HELD: bool>(line: Line, bound: Bound, p: usize, a: usize, hint: usize) -> Share
     requires lendable { Lendable bound }
-    requires p_bound { let job : Job = job_of startup speeds.now holds.now weights.now in (p < processors job) × (a < tasks job) }
-    requires held_value { let job : Job = job_of startup speeds.now holds.now weights.now in held ≡ counts.held job }
-    ensures { let job : Job = job_of startup speeds.now holds.now weights.now in Shared job p a bound result }
+    requires place { (p < processors (the line.job)) × (a < tasks (the line.job)) }
+    requires held_is { T (counts.held (the line.job)) → T HELD }
+    ensures { Shared (the line.entry.job) p a bound result }
 {
-    let end = end_at(
-        startup, speeds, holds, weights, sums, held, p, a, bound, hint,
-    );
-    if weights.len() <= end {
-        return Share {
-            end,
-            bid: Bound::INFINITE,
-        };
-    }
-    Share {
-        end,
-        bid: bid_at(startup, speeds, holds, weights, sums, held, p, a, end),
-    }
+    let end = part_end::<HELD>(line, p, a, bound, hint);
+    let bid = if end < line.job.weights.len() {
+        bid_of::<HELD>(line, p, a, end)
+    } else {
+        Bound::INFINITE
+    };
+    Share { end, bid }
 }
 
-// Inner. The part of processor p from a on. It was one from `was` to `old`, within the bound. Where it begins there, it stays if its bid is
-// above the bound, and most often takes no more than the one task if not. Else it is looked for.
-fn share_at(
-    startup: u32,
-    speeds: &[u32],
-    holds: &[u16],
-    weights: &[u32],
-    sums: &[u32],
-    held: bool,
+// Inner. The part of processor p from a on. It was one from `was` to `old`, within the bound. Where it begins
+// there, it stays if its bid is above the bound, and most often takes no more than the one task if not. Else it is
+// looked for.
+fn share_at<const HELD: bool>(
+    line: Line,
     bound: Bound,
     p: usize,
     a: usize,
     was: usize,
     old: usize,
 ) -> Share
-    requires ready { let job : Job = job_of startup speeds.now holds.now weights.now in Ready job sums.now }
     requires lendable { Lendable bound × Narrow bound }
-    requires p_bound { let job : Job = job_of startup speeds.now holds.now weights.now in (p < processors job) × (a < tasks job) }
-    requires was_le { let job : Job = job_of startup speeds.now holds.now weights.now in (was ≤ old) × (old < tasks job) × T (within job p was old bound) }
-    requires held_value { let job : Job = job_of startup speeds.now holds.now weights.now in held ≡ counts.held job }
-    ensures { let job : Job = job_of startup speeds.now holds.now weights.now in Shared job p a bound result }
+    requires place { (p < processors (the line.job)) × (a < tasks (the line.job)) }
+    requires laid { (was ≤ old) × (old < tasks (the line.job)) × T (within (the line.job) p was old bound) }
+    requires held_is { T (counts.held (the line.job)) → T HELD }
+    ensures { Shared (the line.entry.job) p a bound result }
 {
     if a == was {
-        let bid = bid_at(startup, speeds, holds, weights, sums, held, p, a, old);
-        if !Bound::at_most(bid, bound) {
+        let bid = bid_of::<HELD>(line, p, a, old);
+        if !bid.at_most(bound) {
             return Share { end: old, bid };
         }
         let more = old + 1;
-        if more < weights.len() {
-            let next = bid_at(startup, speeds, holds, weights, sums, held, p, a, more);
-            if !Bound::at_most(next, bound) {
+        if more < line.job.weights.len() {
+            let next = bid_of::<HELD>(line, p, a, more);
+            if !next.at_most(bound) {
                 return Share {
                     end: more,
                     bid: next,
@@ -217,73 +113,56 @@ fn share_at(
             }
         }
     }
-    found_share(
-        startup, speeds, holds, weights, sums, held, bound, p, a, old,
-    )
+    found_share::<HELD>(line, bound, p, a, old)
 }
 
-// Inner. The walk at the bound over the processors from p to before stop, or to where every task is placed. It answers with where it
-// stands then, and the least bid of these processors.
-fn walk_block(
-    startup: u32,
-    speeds: &[u32],
-    holds: &[u16],
-    weights: &[u32],
-    sums: &[u32],
-    held: bool,
+// Inner. The walk at the bound over the processors from `first` to before `stop`, or to where every task is placed.
+// It answers with where it stands then, and the least bid of these processors.
+fn walk_block<const HELD: bool>(
+    line: Line,
     bound: Bound,
     first: usize,
     stop: usize,
     start: usize,
     separators: &mut [u32],
 ) -> Point
-    requires ready { let job : Job = job_of startup speeds.now holds.now weights.now in Ready job sums.now }
     requires lendable { Lendable bound × Narrow bound }
-    requires job_in_bounds { let job : Job = job_of startup speeds.now holds.now weights.now in processors job < length separators.old }
-    requires come { let job : Job = job_of startup speeds.now holds.now weights.now in Come job bound separators.old first start }
-    requires first_le_stop { let job : Job = job_of startup speeds.now holds.now weights.now in (first ≤ stop) × (stop ≤ last job) }
-    requires held_value { let job : Job = job_of startup speeds.now holds.now weights.now in held ≡ counts.held job }
-    ensures { let job : Job = job_of startup speeds.now holds.now weights.now in Passes job bound separators.old separators.new first stop result }
+    requires room { processors (the line.job) < length separators.old }
+    requires come { Come (the line.job) bound separators.old first start }
+    requires block { (first ≤ stop) × (stop ≤ last (the line.job)) }
+    requires held_is { T (counts.held (the line.job)) → T HELD }
+    ensures { Passes (the line.entry.job) bound separators.old separators.new first stop result }
 {
-    let n = weights.len();
+    let n = line.job.weights.len();
     let mut least = Bound::INFINITE;
-    let mut was = index(separators[first]);
+    let mut was = separators[first] as usize;
     let mut a = start;
-    let mut p = first;
-    while p < stop {
-        let old = index(separators[p + 1]);
-        separators[p] = narrow(a);
-        let share = share_at(
-            startup, speeds, holds, weights, sums, held, bound, p, a, was, old,
-        );
+    for p in first..stop {
+        let old = separators[p + 1] as usize;
+        separators[p] = a as u32;
+        let share = share_at::<HELD>(line, bound, p, a, was, old);
         a = share.end;
-        p += 1;
         if n <= a {
             return Point {
-                processor: p,
+                processor: p + 1,
                 start: a,
                 least,
             };
         }
-        least = Bound::lesser(least, share.bid);
+        least = least.lesser(share.bid);
         was = old;
     }
     Point {
-        processor: p,
+        processor: stop,
         start: a,
         least,
     }
 }
 
-// Inner. The same, where the least bid of these processors in the walk before is known: if the walk meets that one before p and the least
-// bid is above the bound, they go on together, and nothing is to be done.
-fn pass_block(
-    startup: u32,
-    speeds: &[u32],
-    holds: &[u16],
-    weights: &[u32],
-    sums: &[u32],
-    held: bool,
+// Inner. The same, where the least bid of these processors in the walk before is known: if the walk meets that one
+// before `first` and the least bid is above the bound, they go on together, and nothing is to be done.
+fn pass_block<const HELD: bool>(
+    line: Line,
     bound: Bound,
     first: usize,
     stop: usize,
@@ -291,139 +170,90 @@ fn pass_block(
     known: Bound,
     separators: &mut [u32],
 ) -> Point
-    requires ready { let job : Job = job_of startup speeds.now holds.now weights.now in Ready job sums.now }
     requires lendable { Lendable bound × Narrow bound }
-    requires job_in_bounds { let job : Job = job_of startup speeds.now holds.now weights.now in processors job < length separators.old }
-    requires come { let job : Job = job_of startup speeds.now holds.now weights.now in Come job bound separators.old first start }
-    requires first_le_stop { let job : Job = job_of startup speeds.now holds.now weights.now in (first ≤ stop) × (stop ≤ last job) }
+    requires room { processors (the line.job) < length separators.old }
+    requires come { Come (the line.job) bound separators.old first start }
+    requires block { (first ≤ stop) × (stop ≤ last (the line.job)) }
     requires narrow { Narrow known }
-    requires known_value { let job : Job = job_of startup speeds.now holds.now weights.now in bound ≺ known → known ≡ least_from (laid_bid job separators.old) first (stop - first) }
-    requires held_value { let job : Job = job_of startup speeds.now holds.now weights.now in held ≡ counts.held job }
-    ensures { let job : Job = job_of startup speeds.now holds.now weights.now in Passes job bound separators.old separators.new first stop result }
+    requires known { bound ≺ known → known ≡ least_from (laid_bid (the line.job) separators.old) first (stop - first) }
+    requires held_is { T (counts.held (the line.job)) → T HELD }
+    ensures { Passes (the line.entry.job) bound separators.old separators.new first stop result }
 {
-    if start == index(separators[first]) {
-        if !Bound::at_most(known, bound) {
-            return Point {
-                processor: stop,
-                start: index(separators[stop]),
-                least: known,
-            };
-        }
+    if start == separators[first] as usize && !known.at_most(bound) {
+        return Point {
+            processor: stop,
+            start: separators[stop] as usize,
+            least: known,
+        };
     }
-    walk_block(
-        startup, speeds, holds, weights, sums, held, bound, first, stop, start, separators,
-    )
+    walk_block::<HELD>(line, bound, first, stop, start, separators)
 }
 
-// Inner. Where the block from p on ends: BLOCK processors on, or at the last.
-fn block_end(p: usize, last: usize) -> usize
-    requires { p ≤ last }
-    ensures { result ≡ last - (last - (p + block)) }
-{
-    if last - p < BLOCK {
-        return last;
-    }
-    p + BLOCK
-}
-
-// Inner. The probe at the bound, block by block: writes the separators of the processors that it comes to, whether it fits or not, and
-// answers. The lists of leasts have the least bid of each block in the walk that stands in front of the separators, as load and speed, or one at
-// most the bound where none is known; they are left with those of this walk, where it fails.
-fn walk_blocks(
-    startup: u32,
-    speeds: &[u32],
-    holds: &[u16],
-    weights: &[u32],
-    sums: &[u32],
-    held: bool,
+// Inner. The probe at the bound, block by block: writes the separators of the processors that it comes to, whether
+// it fits or not, and answers. The list of leasts has the least bid of each block in the walk that stands in front
+// of the separators, or one at most the bound where none is known; it is left with those of this walk, where it
+// fails.
+fn walk_blocks<const HELD: bool>(
+    line: Line,
     bound: Bound,
     separators: &mut [u32],
-    loads: &mut [u64; BLOCKS],
-    rates: &mut [u64; BLOCKS],
+    leasts: &mut [Bound; BLOCKS],
 ) -> Outcome
-    requires ready { let job : Job = job_of startup speeds.now holds.now weights.now in Ready job sums.now }
     requires lendable { Lendable bound × Narrow bound }
-    requires job_in_bounds { let job : Job = job_of startup speeds.now holds.now weights.now in processors job < length separators.old }
-    requires laid { let job : Job = job_of startup speeds.now holds.now weights.now in 0 < tasks job → Laid job bound 0 separators.old }
-    requires known { let job : Job = job_of startup speeds.now holds.now weights.now in Known job bound separators.old loads.old rates.old }
-    requires held_value { let job : Job = job_of startup speeds.now holds.now weights.now in held ≡ counts.held job }
-    ensures value { let job : Job = job_of startup speeds.now holds.now weights.now in result ≡ probe job bound }
-    ensures separators_after { let job : Job = job_of startup speeds.now holds.now weights.now in separators.new ≡ begun job bound separators.old }
-    ensures leasts { let job : Job = job_of startup speeds.now holds.now weights.now in T (not (fits job bound)) → Leasts job bound loads.new rates.new }
+    requires room { processors (the line.job) < length separators.old }
+    requires laid { 0 < tasks (the line.job) → Laid (the line.job) bound 0 separators.old }
+    requires known { Known (the line.job) bound separators.old leasts.old }
+    requires held_is { T (counts.held (the line.job)) → T HELD }
+    ensures value { result ≡ probe (the line.entry.job) bound }
+    ensures separators { separators.new ≡ begun (the line.entry.job) bound separators.old }
+    ensures leasts { T (not (fits (the line.entry.job) bound)) → Leasts (the line.entry.job) bound leasts.new }
 {
-    let last = speeds.len() - 1;
-    let n = weights.len();
+    let last = line.job.speeds.len() - 1;
+    let n = line.job.weights.len();
     let mut best = Bound::INFINITE;
     let mut a = 0;
-    let mut k = 0;
     if n <= a {
         return Outcome::Fits(0);
     }
-    while BLOCK * k < last {
-        let p = BLOCK * k;
-        let known = Bound {
-            load: loads[k],
-            speed: rates[k],
-        };
-        let point = pass_block(
-            startup,
-            speeds,
-            holds,
-            weights,
-            sums,
-            held,
-            bound,
-            p,
-            block_end(p, last),
-            a,
-            known,
-            separators,
-        );
+    for k in 0..last.div_ceil(BLOCK) {
+        let first = BLOCK * k;
+        let stop = last.min(first + BLOCK);
+        let known = leasts[k];
+        let point = pass_block::<HELD>(line, bound, first, stop, a, known, separators);
         a = point.start;
         if n <= a {
             return Outcome::Fits(point.processor);
         }
-        loads[k] = point.least.load;
-        rates[k] = point.least.speed;
-        best = Bound::lesser(best, point.least);
-        k += 1;
+        leasts[k] = point.least;
+        best = best.lesser(point.least);
     }
-    separators[last] = narrow(a);
-    let rest = rest_at(startup, speeds, holds, weights, sums, held, last, a);
-    if Bound::at_most(rest, bound) {
-        return Outcome::Fits(speeds.len());
+    separators[last] = a as u32;
+    let rest = rest_of::<HELD>(line, last, a);
+    if rest.at_most(bound) {
+        return Outcome::Fits(line.job.speeds.len());
     }
-    Outcome::Fails(Bound::lesser(best, rest))
+    Outcome::Fails(best.lesser(rest))
 }
 
-// Inner. Bidding: a trial at the ideal, then at each least next bid until one fits. Each walk goes on with the one before where the two
-// meet. It leaves the walk at the bound found.
-pub fn bidding_in(
-    startup: u32,
-    speeds: &[u32],
-    holds: &[u16],
-    weights: &[u32],
-    sums: &[u32],
-    separators: &mut [u32],
-) -> Found
-    requires ready_kept { let job : Job = job_of startup speeds.now holds.now weights.now in ReadyKept job sums.now }
-    requires job_in_bounds { let job : Job = job_of startup speeds.now holds.now weights.now in processors job < length separators.old }
-    ensures bidding_ends { let job : Job = job_of startup speeds.now holds.now weights.now in BiddingEnds job result.count result.bound }
-    ensures separators_after { let job : Job = job_of startup speeds.now holds.now weights.now in separators.new ≡ walk job result.bound ++ drop (suc (processors job)) separators.old }
+// Inner. The trials, one after the other. Each walk goes on with the one before where the two meet.
+fn trials<const HELD: bool>(line: Line, separators: &mut [u32]) -> Found
+    requires enough { T (enough (the line.job)) }
+    requires room { processors (the line.job) < length separators.old }
+    requires held_is { T (counts.held (the line.job)) → T HELD }
+    ensures bidding_ends { BiddingEnds (the line.entry.job) result.count result.bound }
+    ensures separators { let job = the line.entry.job in
+        separators.new ≡ walk job result.bound ++ drop (suc (processors job)) separators.old }
 {
-    let held = any_hold(startup, speeds, holds, weights);
-    let mut bound = ideal_of(startup, speeds, holds, weights, sums);
-    let mut loads = [0u64; BLOCKS];
-    let mut rates = [1u64; BLOCKS];
-    let mut failures = 0u32;
-    fill(separators, 0, speeds.len(), 0);
+    let count = line.job.speeds.len();
+    let n = line.job.weights.len() as u32;
+    let mut bound = ideal_of(line);
+    let mut leasts = [Bound::ZERO; BLOCKS];
+    let mut failures = 0;
+    separators[..count].fill(0);
     loop {
-        let answer = walk_blocks(
-            startup, speeds, holds, weights, sums, held, bound, separators, &mut loads, &mut rates,
-        );
-        match answer {
+        match walk_blocks::<HELD>(line, bound, separators, &mut leasts) {
             Outcome::Fits(visited) => {
-                fill(separators, visited, speeds.len() + 1, narrow(weights.len()));
+                separators[visited..count + 1].fill(n);
                 return Found {
                     bound,
                     count: failures + 1,
@@ -435,4 +265,18 @@ pub fn bidding_in(
             }
         }
     }
+}
+
+// Inner. Bidding: the bound found, and the count of trials. It leaves the walk at that bound.
+pub fn bidding_in(line: &Line, separators: &mut [u32]) -> Found
+    requires enough { T (enough (the line.now.job)) }
+    requires room { processors (the line.now.job) < length separators.old }
+    ensures bidding_ends { BiddingEnds (the line.now.job) result.count result.bound }
+    ensures separators { let job = the line.now.job in
+        separators.new ≡ walk job result.bound ++ drop (suc (processors job)) separators.old }
+{
+    if line.held {
+        return trials::<true>(*line, separators);
+    }
+    trials::<false>(*line, separators)
 }

@@ -4,6 +4,7 @@ use Prim.Native.Nat.{ℕ, zero, suc, ◌+◌, ◌<◌, ◌^◌}
 use mathlib.Core.Path.{◌≡◌, refl, sym, ap, ap₂, subst, ◌∙◌}
 use mathlib.Core.Bool.{Bool, true, false, not, ◌&&◌}
 use mathlib.Core.List.{List, ◌++◌}
+use Rattle.std.specs.Prelude.{Option, Some, None}
 use native.Mathlib.Omega.{arith}
 use native.Mathlib.Numerals.{add-one}
 use lib.Dec.{T, lit<}
@@ -30,7 +31,7 @@ use Rattle.chain.proofs.Best.{Least, least_met}
 use Rattle.chain.proofs.Demand.{ideal_least_bound, fit_is_plan}
 use Rattle.parts.proofs.Front.{taken}
 use Rattle.probe.proofs.Answer.{walk_count}
-use Rattle.bisection.specs.Closed.{FitStands, PlanStands}
+use Rattle.bisection.specs.Closed.{FitStands, PlanStands, Fitted, Closed}
 
 -- A round where the trial at the middle fits, and one where it fails.
 pub ends-fits : (job : Job) (E : Ends) → T (fits job (middle E.low E.high))
@@ -189,8 +190,8 @@ copied_walk {job} v M l xs {trial} {ys} e c =
     subst (λ (n : ℕ). ys ≡ take n trial ++ drop n xs) (add-one (processors job)) c
     ∙ ap (λ (t : List ℕ). t ++ drop (suc (processors job)) xs) (taken (walk job M) l (walk_count v M) e)
 
-pub fit_stands : {job : Job} {B : Bound} (v : Valid job) (M : Bound) (l : List ℕ) {ys : List ℕ} → T (fits job M) → ys ≡ walk job M ++ l → B ≡ bottleneck job (walk job M)
-    → FitStands job B ys
+pub fit_stands : {job : Job} {B : Bound} (v : Valid job) (M : Bound) (l : List ℕ) {ys : List ℕ} → T (fits job M) → ys ≡ walk job M ++ l
+    → B ≡ bottleneck job (walk job M) → FitStands job B ys
 fit_stands {job} v M l f e b = record { bound = M; fitting = f; front = taken (walk job M) l (walk_count v M) e; measured = b }
 
 -- Where the bottleneck of the walk that stands there is the least bound, that walk is the plan.
@@ -206,3 +207,14 @@ ideal_plan {job} {B} v l t i f e c =
     let can = valid_plannable v t in
     let b : Least job B = subst (Least job) (sym i) (ideal_least_bound can (subst (λ (D : Bound). T (fits job D)) i f)) in
     fit_plan can b (subst (λ (D : Bound). D ≼ B) (sym c) (least_met can.proper b).to) (fit_stands v B l f e c)
+
+-- Where the walk of a trial that fitted at the high end is the plan, the plan stands in the list,
+pub closed_by : {job : Job} {high : Bound} {xs : List ℕ} (fitted : Option Bound) → Fitted job fitted high xs
+    → (FitStands job high xs → PlanStands job high xs) → Closed job fitted xs
+closed_by {job} {high} {xs} (Some B) (e, f) plan =
+    subst (λ (C : Bound). PlanStands job C xs) (sym e) (plan (subst (λ (C : Bound). FitStands job C xs) e f))
+closed_by None h plan = tt
+
+-- with the bottleneck that is given.
+pub plan_stands : {job : Job} {B : Bound} {xs : List ℕ} {measured : Option Bound} → measured ≡ Some B → Closed job measured xs → PlanStands job B xs
+plan_stands {job} {B} {xs} e h = subst (λ (m : Option Bound). Closed job m xs) e h

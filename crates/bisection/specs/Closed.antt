@@ -1,5 +1,5 @@
 -- What bisection leaves in the lent list: the walk of its last trial that fitted, which may be the plan.
-use Rattle.std.specs.Prelude.{suc, ◌≡◌, Bool, true, List, ℕ, T, take}
+use Rattle.std.specs.Prelude.{ℕ, suc, ◌≡◌, Option, IfSome, List, T, take}
 use Rattle.bound.specs.declared.Bound.{Bound}
 use Rattle.chain.specs.Job.{Job, processors, bottleneck}
 use Rattle.chain.specs.Probe.{walk, fits}
@@ -17,9 +17,10 @@ pub record PlanStands (job : Job) (B : Bound) (xs : List ℕ) : Type 0 where
   pub front : take (suc (processors job)) xs ≡ plan_of job
   pub measured : B ≡ bottleneck job (plan_of job)
 
--- The same where the flag is set.
-abbrev pub Fitted : Job → Bool → Bound → List ℕ → Type 0
-Fitted job flag B xs = flag ≡ true → FitStands job B xs
+-- The first where a trial has fitted: its bottleneck is the high end.
+abbrev pub Fitted : Job → Option Bound → Bound → List ℕ → Type 0
+Fitted job fitted high xs = IfSome fitted (λ B. (B ≡ high) × FitStands job B xs)
 
-abbrev pub Closed : Job → Bool → Bound → List ℕ → Type 0
-Closed job flag B xs = flag ≡ true → PlanStands job B xs
+-- The second where a bottleneck is given.
+abbrev pub Closed : Job → Option Bound → List ℕ → Type 0
+Closed job measured xs = IfSome measured (λ B. PlanStands job B xs)

@@ -1,10 +1,12 @@
 -- The small algebra of fractions: sum, half, multiple, midpoint, rounding up.
 -- Assumes nothing.
 use Prim.Native.Nat.{ℕ, suc, ◌+◌, ◌-◌, ◌*◌, ◌≤◌, ◌<◌, ◌/◌}
-use mathlib.Core.Path.{◌≡◌, ap₂}
+use mathlib.Core.Path.{◌≡◌, sym, subst}
 use mathlib.Core.Logic.{◌↔◌}
 use native.Mathlib.Omega.{arith}
 use native.Mathlib.Nat.{mul-le-mul_right, le_of_mul-le-mul_right, one-le-mul, div-lt_iff_lt-mul}
+use Rattle.std.specs.Int.{div_ceil}
+use Rattle.std.proofs.lemmas.Grind.{div_ceil_times}
 use Rattle.bound.specs.declared.Bound.{Bound}
 use Rattle.bound.specs.Order.{over, ◌≼◌, plus, half, times, middle, rounded_up, Finite}
 use Rattle.bound.proofs.Order.{open_le, make_le}
@@ -63,7 +65,16 @@ rounded_least {B} f n = (
   λ h. below_quotient f.speed_positive (omega (arith, open_le h)),
 )
 
--- By the sum that code divides.
-pub rounded_is : (B : Bound) {n d : ℕ} → n ≡ B.load + (B.speed - 1) → d ≡ B.speed → n / d ≡ rounded_up B
+-- As std rounds a quotient up.
+pub rounded_is : (B : Bound) {n : ℕ} → 0 < B.speed → n ≡ div_ceil B.load B.speed → n ≡ rounded_up B
 unfolding rounded_up
-rounded_is B e f = ap₂ (λ (n d : ℕ). n / d) e f
+rounded_is B {n} p e = omega (arith, least, below)
+  where
+    times : (B.load ≤ n * B.speed) × (n * B.speed < B.load + B.speed)
+    times = subst (λ (m : ℕ). (B.load ≤ m * B.speed) × (m * B.speed < B.load + B.speed)) (sym e) (div_ceil_times B.load B.speed p)
+
+    least : (B.load + (B.speed - 1)) / B.speed ≤ n
+    least = below_quotient p (omega (arith, times.0))
+
+    below : (B.load + (B.speed - 1)) / B.speed < n → ⊥
+    below h = let l : B.load + (B.speed - 1) < n * B.speed = (div-lt_iff_lt-mul {k = B.speed} {y = n} p).0 h in omega (arith, times.1)

@@ -4,7 +4,7 @@
 ghost use Rattle.std.specs.Prelude.{◌<◌, ◌*◌, ◌+◌, ◌^◌, ◌≡◌};
 ghost use Rattle.bound.specs.Order.{nought, le, greater, lesser, middle, rounded_up};
 
-#[derive(Clone, Copy)]
+#[derive(Clone, Copy, Debug, PartialEq, Eq)]
 pub struct Bound {
     pub load: u64,
     pub speed: u64,
@@ -17,53 +17,54 @@ impl Bound {
     // 1/0, above every bound with a speed.
     pub const INFINITE: Bound = Bound { load: 1, speed: 0 };
 
-    // Whether a is at most b. Inner: the two products fit 64 bits.
-    pub fn at_most(a: Bound, b: Bound) -> bool
-        requires { (a.load * b.speed < 2 ^ 64) × (b.load * a.speed < 2 ^ 64) }
-        ensures { result ≡ le a b }
+    // Whether it is at most the other. Inner: the two products fit 64 bits.
+    pub fn at_most(self, other: Bound) -> bool
+        requires { (self.load * other.speed < 2 ^ 64) × (other.load * self.speed < 2 ^ 64) }
+        ensures { result ≡ le self other }
     {
-        a.load * b.speed <= b.load * a.speed
+        self.load * other.speed <= other.load * self.speed
     }
 
-    // Whether a is nought, as a bound. Inner.
-    pub fn is_nought(a: Bound) -> bool
-        ensures { result ≡ le a nought }
+    // Whether it is nought, as a bound. Inner.
+    pub fn is_nought(self) -> bool
+        ensures { result ≡ le self nought }
     {
-        Bound::at_most(a, Bound::ZERO)
+        self.at_most(Bound::ZERO)
     }
 
-    // The greater of two bounds, the first among equals. Inner: the two products fit 64 bits.
-    pub fn greater(a: Bound, b: Bound) -> Bound
-        requires { (b.load * a.speed < 2 ^ 64) × (a.load * b.speed < 2 ^ 64) }
-        ensures { result ≡ greater a b }
+    // The greater of the two, itself among equals. Inner: the two products fit 64 bits.
+    pub fn greater(self, other: Bound) -> Bound
+        requires { (other.load * self.speed < 2 ^ 64) × (self.load * other.speed < 2 ^ 64) }
+        ensures { result ≡ greater self other }
     {
-        if Bound::at_most(b, a) { a } else { b }
+        if other.at_most(self) { self } else { other }
     }
 
-    // The lesser of two bounds, the first among equals. Inner: the two products fit 64 bits.
-    pub fn lesser(a: Bound, b: Bound) -> Bound
-        requires { (a.load * b.speed < 2 ^ 64) × (b.load * a.speed < 2 ^ 64) }
-        ensures { result ≡ lesser a b }
+    // The lesser of the two, itself among equals. Inner: the two products fit 64 bits.
+    pub fn lesser(self, other: Bound) -> Bound
+        requires { (other.load * self.speed < 2 ^ 64) × (self.load * other.speed < 2 ^ 64) }
+        ensures { result ≡ lesser self other }
     {
-        if Bound::at_most(a, b) { a } else { b }
+        if self.at_most(other) { self } else { other }
     }
 
-    // Half the sum of a and b. Inner: its load and its speed fit 64 bits.
-    pub fn midpoint(a: Bound, b: Bound) -> Bound
-        requires { (a.load * b.speed + b.load * a.speed < 2 ^ 64) × (2 * (a.speed * b.speed) < 2 ^ 64) }
-        ensures { result ≡ middle a b }
+    // Half the sum of the two. Inner: its load and its speed fit 64 bits.
+    pub fn midpoint(self, other: Bound) -> Bound
+        requires load_fits { self.load * other.speed + other.load * self.speed < 2 ^ 64 }
+        requires speed_fits { 2 * (self.speed * other.speed) < 2 ^ 64 }
+        ensures { result ≡ middle self other }
     {
         Bound {
-            load: a.load * b.speed + b.load * a.speed,
-            speed: 2 * (a.speed * b.speed),
+            load: self.load * other.speed + other.load * self.speed,
+            speed: 2 * (self.speed * other.speed),
         }
     }
 
-    // a, rounded up to a whole number. Inner: it has a speed, and load and speed together fit 64 bits.
-    pub fn rounded_up(a: Bound) -> u64
-        requires { (0 < a.speed) × (a.load + a.speed < 2 ^ 64) }
-        ensures { result ≡ rounded_up a }
+    // Rounded up to a whole number. Inner: it has a speed, and load and speed together fit 64 bits.
+    pub fn rounded_up(self) -> u64
+        requires { (0 < self.speed) × (self.load + self.speed < 2 ^ 64) }
+        ensures { result ≡ rounded_up self }
     {
-        (a.load + (a.speed - 1)) / a.speed
+        self.load.div_ceil(self.speed)
     }
 }

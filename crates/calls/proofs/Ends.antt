@@ -1,19 +1,19 @@
--- What each call answers and leaves in the lent list, by the number of its refusal.
+-- What each call needs, answers and leaves in the lent list, once its tests have passed.
 -- Assumes nothing.
-use Prim.Native.Nat.{ℕ, suc}
-use mathlib.Core.Path.{◌≡◌, sym, ap, ◌∙◌}
-use mathlib.Core.Bool.{Bool, cond}
+use Prim.Native.Nat.{ℕ, suc, ◌≤◌, ◌<◌}
+use mathlib.Core.Path.{◌≡◌, sym, ap, subst, ◌∙◌}
 use mathlib.Core.List.{List, ◌++◌}
-use mathlib.Core.Logic.{◌≢◌}
 use lib.ListN.{length, take, drop}
-use borrow.Author.Tests.{ne_eqb}
+use Rattle.std.specs.Prelude.{Ok}
 use Rattle.bound.specs.declared.Bound.{Bound}
-use Rattle.chain.specs.Job.{Job, Partition, processors, bottleneck}
 use Rattle.chain.specs.declared.Outcome.{Outcome}
+use Rattle.chain.specs.Numbers.{answered}
+use Rattle.chain.specs.Job.{Job, Partition, processors, bottleneck}
 use Rattle.chain.specs.Probe.{walked, probe}
 use Rattle.chain.specs.Heuristic.{heuristic}
-use Rattle.chain.specs.Halving.{halving}
-use Rattle.chain.specs.Refusal.{Inputs, measure_inputs, halving_inputs, refusal}
+use Rattle.chain.specs.Halving.{Halvable, halving}
+use Rattle.chain.specs.Refusal.{measure_inputs, halving_inputs, refusal}
+use Rattle.chain.proofs.Numbers.{answered_ok}
 use Rattle.chain.proofs.Parts.{valid_proper}
 use Rattle.chain.proofs.Within.{free_of}
 use Rattle.chain.proofs.Heuristic.{heuristic_partition}
@@ -21,93 +21,99 @@ use Rattle.chain.proofs.Halving.{halving_partition}
 use Rattle.chain.proofs.Walk.{walked-length}
 use Rattle.refusals.specs.Answers.{lent_after}
 use Rattle.refusals.specs.Inputs.{probe_inputs, heuristic_inputs}
-use Rattle.refusals.proofs.Lent.{lent-front, lent_kept}
-use Rattle.refusals.proofs.Accepted.{passed}
-use Rattle.calls.specs.declared.Measured.{Measured}
-use Rattle.calls.specs.declared.Measured.TheVariants.{Bottleneck, Refused}
-use Rattle.calls.specs.declared.Probed.{Probed}
-use Rattle.calls.specs.declared.Probed.TheVariants.{Answered, Refused as ProbeRefused}
-use Rattle.calls.specs.Answers.{measured_of, measure_answer, probed_of, probe_answer, probe_writes, heuristic_answer, heuristic_writes, halving_answer, halving_writes}
+use Rattle.refusals.proofs.Accepted.{accepted}
+use Rattle.refusals.proofs.Lent.{lent-front}
+use Rattle.parts.proofs.Front.{front_partition, front-bottleneck}
+use Rattle.calls.specs.Answers.{measure_answer, probe_answer, probe_writes, heuristic_answer, heuristic_writes}
+use Rattle.calls.specs.Answers.{halving_answer, halving_writes}
 
--- An answer that is refused, and one that is not: n is what the tests gave.
-measured_refused : {n number : ℕ} (B : Bound) → n ≡ number → n ≢ 0 → Refused n ≡ measured_of number B
-unfolding measured_of
-measured_refused {n} B e h =
-    sym (ap (λ (b : Bool). cond b (Bottleneck B) (Refused n)) (ne_eqb n 0 h)) ∙ ap (λ (k : ℕ). measured_of k B) e
+-- The job that was tested is the one that was lent.
+module _ (job : Job) (s : List ℕ) {tested : Job} (same : tested ≡ job) where
+  roomy : {n : ℕ} → suc (processors job) ≤ n → processors tested < n
+  roomy {n} h = subst (λ (g : Job). processors g < n) (sym same) h
 
-measured_accepted : {number : ℕ} {B C : Bound} → number ≡ 0 → C ≡ B → Bottleneck C ≡ measured_of number B
-unfolding measured_of
-measured_accepted {number} {B} z f = ap (measured_of 0) f ∙ ap (λ (k : ℕ). measured_of k B) (sym z)
+  -- Measuring.
+  module _ (z : refusal job (measure_inputs job s) ≡ 0) where
+    pub measure_front : Partition tested (take (suc (processors tested)) s)
+    measure_front = subst (λ (g : Job). Partition g (take (suc (processors g)) s)) (sym same) (accepted z).divisions.0
 
-probed_refused : {n number : ℕ} (r : Outcome) → n ≡ number → n ≢ 0 → ProbeRefused n ≡ probed_of number r
-unfolding probed_of
-probed_refused {n} r e h = sym (ap (λ (b : Bool). cond b (Answered r) (ProbeRefused n)) (ne_eqb n 0 h)) ∙ ap (λ (k : ℕ). probed_of k r) e
+    pub measure_accepted : {B : Bound} → B ≡ bottleneck tested (take (suc (processors tested)) s)
+        → Ok B ≡ measure_answer job s
+    unfolding measure_answer
+    measure_accepted {B} f =
+        answered_ok B z
+        ∙ ap (answered (refusal job (measure_inputs job s)))
+        (f ∙ ap (λ (g : Job). bottleneck g (take (suc (processors g)) s)) same)
 
-module _ (job : Job) (s : List ℕ) where
-  pub measure_refused : {n : ℕ} → n ≡ refusal job (measure_inputs job s) → n ≢ 0 → Refused n ≡ measure_answer job s
-  unfolding measure_answer
-  measure_refused e h = measured_refused (bottleneck job (take (suc (processors job)) s)) e h
+  -- The probe.
+  module _ (B : Bound) (z : refusal job (probe_inputs job B (length s)) ≡ 0) where
+    pub probe_room : processors tested < length s
+    probe_room = roomy (accepted z).lists.0
 
-  pub measure_accepted : {n : ℕ} → n ≡ refusal job (measure_inputs job s) → n ≡ 0 → {B : Bound} → B ≡ bottleneck job (take (suc (processors job)) s)
-      → Bottleneck B ≡ measure_answer job s
-  unfolding measure_answer
-  measure_accepted e z f = measured_accepted (sym e ∙ z) f
-
-  -- What a call answers that divides the job by d, and the list then.
-  module _ (inputs : Inputs) (d : List ℕ) where
-    divides_refused : {n : ℕ} → n ≡ refusal job inputs → n ≢ 0
-        → (Refused n ≡ measured_of (refusal job inputs) (bottleneck job d)) × (s ≡ lent_after (refusal job inputs) d s)
-    divides_refused e h = (measured_refused (bottleneck job d) e h, lent_kept d s e h)
-
-    divides_accepted : {n : ℕ} → n ≡ refusal job inputs → n ≡ 0 → Partition job d → {B : Bound} {now : List ℕ} → B ≡ bottleneck job d
-        → now ≡ d ++ drop (suc (processors job)) s
-        → (Bottleneck B ≡ measured_of (refusal job inputs) (bottleneck job d)) × (now ≡ lent_after (refusal job inputs) d s)
-    divides_accepted e z pa f g = (measured_accepted (sym e ∙ z) f, g ∙ sym (lent-front d s (sym e ∙ z) pa.count))
-
-  -- The heuristic,
-  abbrev pub Guessed : Measured → List ℕ → Type 0
-  Guessed r now = (r ≡ heuristic_answer job s) × (now ≡ heuristic_writes job s)
-
-  pub heuristic_refused : {n : ℕ} → n ≡ refusal job (heuristic_inputs job (length s)) → n ≢ 0 → Guessed (Refused n) s
-  unfolding heuristic_answer heuristic_writes
-  heuristic_refused e h = divides_refused (heuristic_inputs job (length s)) (heuristic job) e h
-
-  pub heuristic_accepted : {n : ℕ} → n ≡ refusal job (heuristic_inputs job (length s)) → n ≡ 0 → {B : Bound} {now : List ℕ} → B ≡ bottleneck job (heuristic job)
-      → now ≡ heuristic job ++ drop (suc (processors job)) s → Guessed (Bottleneck B) now
-  unfolding heuristic_answer heuristic_writes
-  heuristic_accepted e z f g =
-      divides_accepted (heuristic_inputs job (length s)) (heuristic job) e z (heuristic_partition (valid_proper (passed e z).valid) (free_of (passed e z).free.0)) f g
-
-  -- and halving the row.
-  abbrev pub Halved : Measured → List ℕ → Type 0
-  Halved r now = (r ≡ halving_answer job s) × (now ≡ halving_writes job s)
-
-  pub halving_refused : {n : ℕ} → n ≡ refusal job (halving_inputs job (length s)) → n ≢ 0 → Halved (Refused n) s
-  unfolding halving_answer halving_writes
-  halving_refused e h = divides_refused (halving_inputs job (length s)) (halving job) e h
-
-  pub halving_accepted : {n : ℕ} → n ≡ refusal job (halving_inputs job (length s)) → n ≡ 0 → {B : Bound} {now : List ℕ} → B ≡ bottleneck job (halving job)
-      → now ≡ halving job ++ drop (suc (processors job)) s → Halved (Bottleneck B) now
-  unfolding halving_answer halving_writes
-  halving_accepted e z f g =
-      divides_accepted (halving_inputs job (length s)) (halving job) e z (halving_partition job (passed e z).rows.0 (free_of (passed e z).free.0)) f g
-
-  -- What a probe answers, and the list then.
-  module _ (B : Bound) where
-    abbrev pub Tried : Probed → List ℕ → Type 0
-    Tried r now = (r ≡ probe_answer job B s) × (now ≡ probe_writes job B s)
-
-    pub probe_refused : {n : ℕ} → n ≡ refusal job (probe_inputs job B (length s)) → n ≢ 0 → Tried (ProbeRefused n) s
+    pub probe_accepted : {r : Outcome} {now : List ℕ} → r ≡ probe tested B
+        → now ≡ walked tested B ++ drop (suc (processors tested)) s
+        → (Ok r ≡ probe_answer job B s) × (now ≡ probe_writes job B s)
     unfolding probe_answer probe_writes
-    probe_refused e h = (probed_refused (probe job B) e h, lent_kept _ s e h)
-
-    pub probe_accepted : {n : ℕ} → n ≡ refusal job (probe_inputs job B (length s)) → n ≡ 0 → {r : Outcome} {now : List ℕ} → r ≡ probe job B
-        → now ≡ walked job B ++ drop (suc (processors job)) s → Tried (Answered r) now
-    unfolding probe_answer probe_writes probed_of
-    probe_accepted e z f g = (
-      ap Answered f ∙ ap (λ (k : ℕ). probed_of k (probe job B)) (sym (sym e ∙ z)),
-      g ∙ sym (lent-front (walked job B) s (sym e ∙ z) (walked-length job B)),
+    probe_accepted {r} {now} f g = (
+      answered_ok r z ∙ ap (answered (refusal job (probe_inputs job B (length s))))
+          (f ∙ ap (λ (j : Job). probe j B) same),
+      g ∙ ap (λ (j : Job). walked j B ++ drop (suc (processors j)) s) same
+          ∙ sym (lent-front (walked job B) s z (walked-length job B)),
     )
 
--- For `search`: at each return the law that its tests meet.
-pub ruleset measure_ends = (measure_refused, measure_accepted)
+  -- A call that divides the job writes the separators, and measures them.
+  module _ (divide : Job → List ℕ) (part : Partition job (divide job)) {now : List ℕ}
+      (w : now ≡ divide tested ++ drop (suc (processors tested)) s) where
+    written : now ≡ divide job ++ drop (suc (processors job)) s
+    written = w ∙ ap (λ (g : Job). divide g ++ drop (suc (processors g)) s) same
+
+    divided_front : Partition tested (take (suc (processors tested)) now)
+    divided_front =
+        subst (λ (g : Job). Partition g (take (suc (processors g)) now)) (sym same)
+        (front_partition (divide job) (drop (suc (processors job)) s) part written)
+
+    divided : {n : ℕ} {B : Bound} → n ≡ 0 → B ≡ bottleneck tested (take (suc (processors tested)) now)
+        → (Ok B ≡ answered n (bottleneck job (divide job))) × (now ≡ lent_after n (divide job) s)
+    divided {n} {B} z f =
+        let g = f ∙ ap (λ (j : Job). bottleneck j (take (suc (processors j)) now)) same in (
+          answered_ok B z ∙ ap (answered n) (front-bottleneck (divide job) (drop (suc (processors job)) s) part
+              written g),
+          written ∙ sym (lent-front (divide job) s z part.count),
+        )
+
+  -- The heuristic.
+  module _ (z : refusal job (heuristic_inputs job (length s)) ≡ 0) where
+    pub heuristic_room : processors tested < length s
+    heuristic_room = roomy (accepted z).lists.0
+
+    part : Partition job (heuristic job)
+    part = heuristic_partition (valid_proper (accepted z).valid) (free_of (accepted z).free.0)
+
+    module _ {now : List ℕ} (w : now ≡ heuristic tested ++ drop (suc (processors tested)) s) where
+      pub heuristic_front : Partition tested (take (suc (processors tested)) now)
+      heuristic_front = divided_front heuristic part w
+
+      pub heuristic_accepted : {B : Bound} → B ≡ bottleneck tested (take (suc (processors tested)) now)
+          → (Ok B ≡ heuristic_answer job s) × (now ≡ heuristic_writes job s)
+      unfolding heuristic_answer heuristic_writes
+      heuristic_accepted f = divided heuristic part w z f
+
+  -- Halving the row.
+  module _ (z : refusal job (halving_inputs job (length s)) ≡ 0) where
+    pub halving_room : processors tested < length s
+    halving_room = roomy (accepted z).lists.0
+
+    pub halving_row : Halvable tested.speeds
+    halving_row = subst (λ (g : Job). Halvable g.speeds) (sym same) (accepted z).rows.0
+
+    halves : Partition job (halving job)
+    halves = halving_partition job (accepted z).rows.0 (free_of (accepted z).free.0)
+
+    module _ {now : List ℕ} (w : now ≡ halving tested ++ drop (suc (processors tested)) s) where
+      pub halving_front : Partition tested (take (suc (processors tested)) now)
+      halving_front = divided_front halving halves w
+
+      pub halving_accepted : {B : Bound} → B ≡ bottleneck tested (take (suc (processors tested)) now)
+          → (Ok B ≡ halving_answer job s) × (now ≡ halving_writes job s)
+      unfolding halving_answer halving_writes
+      halving_accepted f = divided halving halves w z f

@@ -1,24 +1,29 @@
 -- What a caller may read off the answers of the four calls and off the list that they leave.
 -- Assumes nothing.
 use Prim.Native.Nat.{ℕ, suc, ◌+◌, ◌*◌, ◌≤◌, ◌<◌}
-use mathlib.Core.Path.{◌≡◌, refl, sym, ap, subst, ◌∙◌}
-use mathlib.Core.Bool.{Bool, true, false, not, cond}
+use mathlib.Core.Path.{◌≡◌, sym, ap, subst, ◌∙◌}
+use mathlib.Core.Bool.{not}
 use mathlib.Core.List.{List, [], ◌∷◌, ◌++◌, Memᴰ}
 use mathlib.Core.Logic.{◌≢◌, ◌↔◌}
-use native.Mathlib.Omega.{arith}
-use lib.Dec.{T, eqb, eqb→eq}
+use lib.Dec.{T}
 use lib.ListN.{length, take, drop}
 use lib.Seq.{drop_at}
+use Rattle.std.specs.Prelude.{Ok}
 use Rattle.bound.specs.declared.Bound.{Bound}
 use Rattle.bound.specs.Order.{plus, ◌≼◌, ◌≺◌}
-use Rattle.chain.specs.Job.{Job, Valid, Partition, Within, processors, last, part_load, total_weight, heaviest, ideal, at, bottleneck}
+use Rattle.chain.specs.Job.{Job, Valid, Partition, Within, processors, last, part_load, total_weight, heaviest, ideal}
+use Rattle.chain.specs.Job.{at, bottleneck}
 use Rattle.chain.specs.declared.Outcome.{Outcome}
 use Rattle.chain.specs.declared.Outcome.TheVariants.{Fits, Fails}
 use Rattle.chain.specs.Probe.{walk, walked, fits, next_bid, visited, probe}
 use Rattle.chain.specs.Heuristic.{margin, heuristic}
 use Rattle.chain.specs.Halving.{Halvable, halving}
 use Rattle.chain.specs.Plan.{plan_of}
-use Rattle.chain.specs.Refusal.{startup_test, speeds_test, weights_test, processors_test, tasks_test, row_test, length_test, holds_test, enough_test, free_test, bound_test, partition_test, FirstFailing, job_tests, Inputs, measure_inputs, halving_inputs, call_tests, refusal}
+use Rattle.chain.specs.Refusal.{startup_test, speeds_test, weights_test, processors_test, tasks_test, row_test}
+use Rattle.chain.specs.Refusal.{length_test, holds_test, enough_test, free_test, bound_test, partition_test}
+use Rattle.chain.specs.Refusal.{FirstFailing, job_tests, Inputs, measure_inputs, halving_inputs, call_tests, refusal}
+use Rattle.chain.specs.Numbers.{answered}
+use Rattle.chain.proofs.Numbers.{answered_ok}
 use Rattle.chain.proofs.Tests.{T_true}
 use Rattle.chain.proofs.Refusals.{gives, given_number}
 use Rattle.chain.proofs.Parts.{Proper, valid_proper, valid_plannable}
@@ -32,30 +37,14 @@ use Rattle.chain.proofs.Demand.{plan_of_best}
 use Rattle.refusals.specs.Inputs.{probe_inputs, heuristic_inputs}
 use Rattle.refusals.specs.Answers.{said_by, bound_values, lent_after}
 use Rattle.refusals.proofs.Accepted.{accepted}
-use Rattle.refusals.proofs.Answering.{said_choice, number_of_lem}
+use Rattle.refusals.proofs.Answering.{answer_said_lem, number_of_lem}
+use Rattle.refusals.proofs.Known.{refusal_known}
 use Rattle.refusals.proofs.Lent.{lent_refused, lent-front}
-use Rattle.calls.specs.declared.Measured.TheVariants.{Bottleneck, Refused}
-use Rattle.calls.specs.declared.Probed.TheVariants.{Answered, Refused as ProbeRefused}
-use Rattle.calls.specs.Answers.{measured_said, outcome_values, probed_said, measured_of, measure_answer, probed_of, probe_answer, probe_writes, heuristic_answer, heuristic_writes, halving_answer, halving_writes}
+use Rattle.refusals.proofs.Values.{answered_value}
+use Rattle.calls.specs.Answers.{measured_said, outcome_values, probed_said, measure_answer, probe_answer, probe_writes}
+use Rattle.calls.specs.Answers.{heuristic_answer, heuristic_writes, halving_answer, halving_writes}
 use Rattle.parts.proofs.Front.{taken}
 use Rattle.probe.proofs.Answer.{outcome_fits, fits_outcome, fails_outcome}
-
--- What an answer says, by its number.
-measured_said_lem : (n : ℕ) (B : Bound) → measured_said (measured_of n B) ≡ said_by n (bound_values B)
-unfolding measured_of said_by
-measured_said_lem n B = said_choice measured_said (eqb n 0) (Bottleneck B) (Refused n)
-
-probed_said_lem : (n : ℕ) (r : Outcome) → probed_said (probed_of n r) ≡ said_by n (outcome_values r)
-unfolding probed_of said_by
-probed_said_lem n r = said_choice probed_said (eqb n 0) (Answered r) (ProbeRefused n)
-
-measured_bottleneck : {n : ℕ} {B C : Bound} → measured_of n B ≡ Bottleneck C → (n ≡ 0) × (C ≡ B)
-unfolding measured_of
-measured_bottleneck {n} {B} {C} e = go (eqb n 0) refl e
-  where
-    go : (b : Bool) → eqb n 0 ≡ b → cond b (Bottleneck B) (Refused n) ≡ Bottleneck C → (n ≡ 0) × (C ≡ B)
-    go true f h = (eqb→eq n 0 (subst T (sym f) tt), cc)
-    go false f h = let z : ◌≡◌ {A = ℕ} 0 1 = cc in absurd (let y : ⊥ = omega arith in y)
 
 -- Measuring.
 module _ (job : Job) (s : List ℕ) where
@@ -63,7 +52,8 @@ module _ (job : Job) (s : List ℕ) where
   pub measure_said : measured_said (measure_answer job s)
       ≡ said_by (refusal job (measure_inputs job s)) (bound_values (bottleneck job (take (suc (processors job)) s)))
   unfolding measure_answer
-  measure_said = measured_said_lem (refusal job (measure_inputs job s)) (bottleneck job (take (suc (processors job)) s))
+  measure_said = answer_said_lem (refusal_known job (measure_inputs job s)) bound_values
+      (bottleneck job (take (suc (processors job)) s))
 
   pub measure_number : (measured_said (measure_answer job s)).number ≡ refusal job (measure_inputs job s)
   measure_number = number_of_lem (bound_values (bottleneck job (take (suc (processors job)) s))) measure_said
@@ -71,7 +61,8 @@ module _ (job : Job) (s : List ℕ) where
   -- It is 0, 16, or one of 5 to 9 and 11;
   pub measure_numbers : Memᴰ (measured_said (measure_answer job s)).number (0 ∷ 16 ∷ 5 ∷ 6 ∷ 7 ∷ 8 ∷ 9 ∷ 11 ∷ [])
   unfolding refusal call_tests job_tests startup_test speeds_test weights_test processors_test tasks_test length_test holds_test partition_test
-  measure_numbers = given_number (16 ∷ 5 ∷ 6 ∷ 7 ∷ 8 ∷ 9 ∷ 11 ∷ []) (call_tests job (measure_inputs job s)) measure_number tt
+  measure_numbers = given_number (16 ∷ 5 ∷ 6 ∷ 7 ∷ 8 ∷ 9 ∷ 11 ∷ []) (call_tests job (measure_inputs job s))
+      measure_number tt
 
   -- and that of the first test that fails.
   pub measure_gives : {n : ℕ} → n ≢ 0
@@ -80,10 +71,12 @@ module _ (job : Job) (s : List ℕ) where
   measure_gives h = gives (call_tests job (measure_inputs job s)) measure_number h
 
   -- A bottleneck is given for a partition alone, and it is that partition's.
-  pub measure_promise : {B : Bound} → measure_answer job s ≡ Bottleneck B
+  pub measure_promise : {B : Bound} → measure_answer job s ≡ Ok B
       → Partition job (take (suc (processors job)) s) × (B ≡ bottleneck job (take (suc (processors job)) s))
   unfolding measure_answer
-  measure_promise e = let m = measured_bottleneck e in ((accepted m.0).divisions.0, m.1)
+  measure_promise e =
+      let m = answered_value (refusal job (measure_inputs job s)) (bottleneck job (take (suc (processors job)) s)) e in
+      ((accepted m.0).divisions.0, m.1)
 
 -- A call that divides the job by d: a bottleneck is given for d alone, and the list then begins with it.
 module _ (job : Job) (s : List ℕ) (inputs : Inputs) (d : List ℕ) where
@@ -91,9 +84,10 @@ module _ (job : Job) (s : List ℕ) (inputs : Inputs) (d : List ℕ) where
     passed : refusal job inputs ≡ 0
     measured : C ≡ bottleneck job d
     front : Partition job d → take (suc (processors job)) (lent_after (refusal job inputs) d s) ≡ d
-    behind : Partition job d → drop (suc (processors job)) (lent_after (refusal job inputs) d s) ≡ drop (suc (processors job)) s
+    behind : Partition job d
+        → drop (suc (processors job)) (lent_after (refusal job inputs) d s) ≡ drop (suc (processors job)) s
 
-  divided : {C : Bound} → measured_of (refusal job inputs) (bottleneck job d) ≡ Bottleneck C → Divided C
+  divided : {C : Bound} → answered (refusal job inputs) (bottleneck job d) ≡ Ok C → Divided C
   divided {C} e =
       record {
         passed = m.0;
@@ -103,7 +97,7 @@ module _ (job : Job) (s : List ℕ) (inputs : Inputs) (d : List ℕ) where
       }
     where
       m : (refusal job inputs ≡ 0) × (C ≡ bottleneck job d)
-      m = measured_bottleneck e
+      m = answered_value (refusal job inputs) (bottleneck job d) e
 
       rest : List ℕ
       rest = drop (suc (processors job)) s
@@ -116,7 +110,8 @@ module _ (job : Job) (s : List ℕ) where
   pub heuristic-said : measured_said (heuristic_answer job s)
       ≡ said_by (refusal job (heuristic_inputs job (length s))) (bound_values (bottleneck job (heuristic job)))
   unfolding heuristic_answer
-  heuristic-said = measured_said_lem (refusal job (heuristic_inputs job (length s))) (bottleneck job (heuristic job))
+  heuristic-said = answer_said_lem (refusal_known job (heuristic_inputs job (length s))) bound_values
+      (bottleneck job (heuristic job))
 
   pub heuristic-number : (measured_said (heuristic_answer job s)).number ≡ refusal job (heuristic_inputs job (length s))
   heuristic-number = number_of_lem (bound_values (bottleneck job (heuristic job))) heuristic-said
@@ -124,10 +119,12 @@ module _ (job : Job) (s : List ℕ) where
   -- 0, 16, one of 5 to 9, or 18; that of the first test that fails.
   pub heuristic-numbers : Memᴰ (measured_said (heuristic_answer job s)).number (0 ∷ 16 ∷ 5 ∷ 6 ∷ 7 ∷ 8 ∷ 9 ∷ 18 ∷ [])
   unfolding refusal call_tests job_tests startup_test speeds_test weights_test processors_test tasks_test length_test holds_test free_test
-  heuristic-numbers = given_number (16 ∷ 5 ∷ 6 ∷ 7 ∷ 8 ∷ 9 ∷ 18 ∷ []) (call_tests job (heuristic_inputs job (length s))) heuristic-number tt
+  heuristic-numbers = given_number (16 ∷ 5 ∷ 6 ∷ 7 ∷ 8 ∷ 9 ∷ 18 ∷ [])
+      (call_tests job (heuristic_inputs job (length s))) heuristic-number tt
 
   pub heuristic_gives : {n : ℕ} → n ≢ 0
-      → ((measured_said (heuristic_answer job s)).number ≡ n) ↔ FirstFailing (call_tests job (heuristic_inputs job (length s))) n
+      → ((measured_said (heuristic_answer job s)).number ≡ n) ↔ FirstFailing
+      (call_tests job (heuristic_inputs job (length s))) n
   unfolding refusal
   heuristic_gives h = gives (call_tests job (heuristic_inputs job (length s))) heuristic-number h
 
@@ -143,13 +140,14 @@ module _ (job : Job) (s : List ℕ) where
     pub close : C ≼ plus (ideal job) (margin job)
     pub behind : drop (suc (processors job)) (heuristic_writes job s) ≡ drop (suc (processors job)) s
 
-  pub heuristic_promise : {C : Bound} → heuristic_answer job s ≡ Bottleneck C → Guess C
+  pub heuristic_promise : {C : Bound} → heuristic_answer job s ≡ Ok C → Guess C
   unfolding heuristic_answer heuristic_writes
   heuristic_promise {C} e =
       record {
         partition = subst (Partition job) (sym (w.front pa)) pa;
         measured = w.measured ∙ ap (bottleneck job) (sym (w.front pa));
-        close = subst (λ (B : Bound). B ≼ plus (ideal job) (margin job)) (sym w.measured) (heuristic_bound (valid_proper v) free);
+        close = subst (λ (B : Bound). B ≼ plus (ideal job) (margin job)) (sym w.measured)
+            (heuristic_bound (valid_proper v) free);
         behind = w.behind pa;
       }
     where
@@ -170,7 +168,8 @@ module _ (job : Job) (s : List ℕ) where
   pub halving-said : measured_said (halving_answer job s)
       ≡ said_by (refusal job (halving_inputs job (length s))) (bound_values (bottleneck job (halving job)))
   unfolding halving_answer
-  halving-said = measured_said_lem (refusal job (halving_inputs job (length s))) (bottleneck job (halving job))
+  halving-said = answer_said_lem (refusal_known job (halving_inputs job (length s))) bound_values
+      (bottleneck job (halving job))
 
   pub halving-number : (measured_said (halving_answer job s)).number ≡ refusal job (halving_inputs job (length s))
   halving-number = number_of_lem (bound_values (bottleneck job (halving job))) halving-said
@@ -178,10 +177,12 @@ module _ (job : Job) (s : List ℕ) where
   -- 0, 16, one of 5 to 9, 14 or 18; that of the first test that fails.
   pub halving-numbers : Memᴰ (measured_said (halving_answer job s)).number (0 ∷ 16 ∷ 5 ∷ 6 ∷ 7 ∷ 8 ∷ 14 ∷ 9 ∷ 18 ∷ [])
   unfolding refusal call_tests job_tests startup_test speeds_test weights_test processors_test tasks_test row_test length_test holds_test free_test
-  halving-numbers = given_number (16 ∷ 5 ∷ 6 ∷ 7 ∷ 8 ∷ 14 ∷ 9 ∷ 18 ∷ []) (call_tests job (halving_inputs job (length s))) halving-number tt
+  halving-numbers = given_number (16 ∷ 5 ∷ 6 ∷ 7 ∷ 8 ∷ 14 ∷ 9 ∷ 18 ∷ [])
+      (call_tests job (halving_inputs job (length s))) halving-number tt
 
   pub halving_gives : {n : ℕ} → n ≢ 0
-      → ((measured_said (halving_answer job s)).number ≡ n) ↔ FirstFailing (call_tests job (halving_inputs job (length s))) n
+      → ((measured_said (halving_answer job s)).number ≡ n) ↔ FirstFailing
+      (call_tests job (halving_inputs job (length s))) n
   unfolding refusal
   halving_gives h = gives (call_tests job (halving_inputs job (length s))) halving-number h
 
@@ -202,7 +203,7 @@ module _ (job : Job) (s : List ℕ) where
     pub least : bottleneck job (plan_of job) ≼ C
     pub behind : drop (suc (processors job)) (halving_writes job s) ≡ drop (suc (processors job)) s
 
-  pub halving_promise : {C : Bound} → halving_answer job s ≡ Bottleneck C → Splits C
+  pub halving_promise : {C : Bound} → halving_answer job s ≡ Ok C → Splits C
   unfolding halving_answer halving_writes
   halving_promise {C} e =
       record {
@@ -210,11 +211,14 @@ module _ (job : Job) (s : List ℕ) where
         front = w.front pa;
         partition = pa;
         measured = w.measured;
-        light = subst (λ (B : Bound). processors job * B.load ≤ total_weight job + heaviest job * last job + job.startup * processors job) (sym w.measured) (halving_bound job row (valid_proper v));
+        light = subst (λ (B : Bound). processors job * B.load ≤ total_weight job + heaviest job * last job +
+            job.startup * processors job) (sym w.measured) (halving_bound job row (valid_proper v));
         greatest = λ p h.
-            subst (λ (B : Bound). part_load job (at (halving job) p) (at (halving job) (suc p)) ≤ B.load) (sym w.measured)
+            subst (λ (B : Bound). part_load job (at (halving job) p) (at (halving job) (suc p)) ≤ B.load)
+            (sym w.measured)
             (halving_greatest job row (valid_proper v) p h);
-        least = subst (λ (B : Bound). bottleneck job (plan_of job) ≼ B) (sym w.measured) ((plan_of_best (free_plannable (valid_proper v) free)).least (halving job) pa);
+        least = subst (λ (B : Bound). bottleneck job (plan_of job) ≼ B) (sym w.measured)
+            ((plan_of_best (free_plannable (valid_proper v) free)).least (halving job) pa);
         behind = w.behind pa;
       }
     where
@@ -234,18 +238,15 @@ module _ (job : Job) (s : List ℕ) where
       pa = halving_partition job row free
 
 -- The probe.
-answered : {n : ℕ} {r o : Outcome} → probed_of n r ≡ Answered o → (n ≡ 0) × (r ≡ o)
-unfolding probed_of
-answered {n} {r} {o} e = go (eqb n 0) refl e
-  where
-    go : (b : Bool) → eqb n 0 ≡ b → cond b (Answered r) (ProbeRefused n) ≡ Answered o → (n ≡ 0) × (r ≡ o)
-    go true f h = (eqb→eq n 0 (subst T (sym f) tt), cc)
-    go false f h = let z : ◌≡◌ {A = ℕ} 0 1 = cc in absurd (let y : ⊥ = omega arith in y)
-
 module _ (job : Job) (B : Bound) (s : List ℕ) where
-  pub probe-said : probed_said (probe_answer job B s) ≡ said_by (refusal job (probe_inputs job B (length s))) (outcome_values (probe job B))
+  tried : {outcome : Outcome} → answered (refusal job (probe_inputs job B (length s))) (probe job B) ≡ Ok outcome
+      → (refusal job (probe_inputs job B (length s)) ≡ 0) × (outcome ≡ probe job B)
+  tried e = answered_value (refusal job (probe_inputs job B (length s))) (probe job B) e
+
+  pub probe-said : probed_said (probe_answer job B s) ≡ said_by (refusal job (probe_inputs job B (length s)))
+      (outcome_values (probe job B))
   unfolding probe_answer
-  probe-said = probed_said_lem (refusal job (probe_inputs job B (length s))) (probe job B)
+  probe-said = answer_said_lem (refusal_known job (probe_inputs job B (length s))) outcome_values (probe job B)
 
   pub probe-number : (probed_said (probe_answer job B s)).number ≡ refusal job (probe_inputs job B (length s))
   probe-number = number_of_lem (outcome_values (probe job B)) probe-said
@@ -253,10 +254,12 @@ module _ (job : Job) (B : Bound) (s : List ℕ) where
   -- 0, 16, one of 5 to 9, 17 or 10; that of the first test that fails.
   pub probe-numbers : Memᴰ (probed_said (probe_answer job B s)).number (0 ∷ 16 ∷ 5 ∷ 6 ∷ 7 ∷ 8 ∷ 9 ∷ 17 ∷ 10 ∷ [])
   unfolding refusal call_tests job_tests startup_test speeds_test weights_test processors_test tasks_test length_test holds_test enough_test bound_test
-  probe-numbers = given_number (16 ∷ 5 ∷ 6 ∷ 7 ∷ 8 ∷ 9 ∷ 17 ∷ 10 ∷ []) (call_tests job (probe_inputs job B (length s))) probe-number tt
+  probe-numbers = given_number (16 ∷ 5 ∷ 6 ∷ 7 ∷ 8 ∷ 9 ∷ 17 ∷ 10 ∷ [])
+      (call_tests job (probe_inputs job B (length s))) probe-number tt
 
   pub probe_gives : {n : ℕ} → n ≢ 0
-      → ((probed_said (probe_answer job B s)).number ≡ n) ↔ FirstFailing (call_tests job (probe_inputs job B (length s))) n
+      → ((probed_said (probe_answer job B s)).number ≡ n) ↔ FirstFailing
+      (call_tests job (probe_inputs job B (length s))) n
   unfolding refusal
   probe_gives h = gives (call_tests job (probe_inputs job B (length s))) probe-number h
 
@@ -266,25 +269,33 @@ module _ (job : Job) (B : Bound) (s : List ℕ) where
   probe-keeps h = lent_refused h (walked job B) s
 
   -- An accepted probe: the list then begins with how far each processor gets, whether it fits or not, and the entries behind stay.
-  written : refusal job (probe_inputs job B (length s)) ≡ 0 → probe_writes job B s ≡ walked job B ++ drop (suc (processors job)) s
+  written : refusal job (probe_inputs job B (length s)) ≡ 0
+      → probe_writes job B s ≡ walked job B ++ drop (suc (processors job)) s
   unfolding probe_writes
   written e = lent-front (walked job B) s e (walks.walked-length job B)
 
-  pub probe-front : refusal job (probe_inputs job B (length s)) ≡ 0 → take (suc (processors job)) (probe_writes job B s) ≡ walked job B
+  pub probe-front : refusal job (probe_inputs job B (length s)) ≡ 0
+      → take (suc (processors job)) (probe_writes job B s) ≡ walked job B
   probe-front e = taken (walked job B) (drop (suc (processors job)) s) (walks.walked-length job B) (written e)
 
-  pub probe_behind : refusal job (probe_inputs job B (length s)) ≡ 0 → drop (suc (processors job)) (probe_writes job B s) ≡ drop (suc (processors job)) s
+  pub probe_behind : refusal job (probe_inputs job B (length s)) ≡ 0
+      → drop (suc (processors job)) (probe_writes job B s) ≡ drop (suc (processors job)) s
   probe_behind e =
-      ap (drop (suc (processors job))) (written e) ∙ drop_at (walked job B) (drop (suc (processors job)) s) (suc (processors job)) (walks.walked-length job B)
+      ap (drop (suc (processors job))) (written e) ∙ drop_at (walked job B) (drop (suc (processors job)) s)
+      (suc (processors job)) (walks.walked-length job B)
 
   -- Demand 2: an accepted probe fits exactly when some partition stays within the bound.
   pub probe-fits_exactly : refusal job (probe_inputs job B (length s)) ≡ 0
-      → ((n : ℕ) × (probe_answer job B s ≡ Answered (Fits n))) ↔ ((t : List ℕ) × Partition job t × Within job t B)
-  unfolding probe_answer probed_of
+      → ((n : ℕ) × (probe_answer job B s ≡ Ok (Fits n))) ↔ ((t : List ℕ) × Partition job t × Within job t B)
+  unfolding probe_answer
   probe-fits_exactly e =
       let f = walks.fits_exactly (valid_proper (accepted e).valid) B in (
-        λ h. f.0 (fits_outcome job B (answered {n = refusal job (probe_inputs job B (length s))} h.1).1).0,
-        λ x. (visited job B, ap (λ (n : ℕ). probed_of n (probe job B)) e ∙ ap Answered (outcome_fits job B (T_true (fits job B) (f.1 x)))),
+        λ h. f.0 (fits_outcome job B (sym (tried h.1).1)).0,
+        λ x. (
+          visited job B,
+          sym (answered_ok (probe job B) e)
+              ∙ ap Ok (outcome_fits job B (T_true (fits job B) (f.1 x))),
+        ),
       )
 
   -- A fit: it is a partition within the bound, and n is the number of processors that its walk came to.
@@ -294,7 +305,7 @@ module _ (job : Job) (B : Bound) (s : List ℕ) where
     pub partition : Partition job (take (suc (processors job)) (probe_writes job B s))
     pub within : Within job (take (suc (processors job)) (probe_writes job B s)) B
 
-  pub probe_fitted : {n : ℕ} → probe_answer job B s ≡ Answered (Fits n) → Fitted n
+  pub probe_fitted : {n : ℕ} → probe_answer job B s ≡ Ok (Fits n) → Fitted n
   unfolding probe_answer
   probe_fitted {n} e =
       record {
@@ -306,8 +317,8 @@ module _ (job : Job) (B : Bound) (s : List ℕ) where
     where
       m : (refusal job (probe_inputs job B (length s)) ≡ 0) × T (fits job B) × (n ≡ visited job B)
       m =
-          let a = answered e in
-          let f = fits_outcome job B a.1 in
+          let a = tried e in
+          let f = fits_outcome job B (sym a.1) in
           (a.0, f.0, f.1)
 
       ok : Proper job
@@ -321,19 +332,21 @@ module _ (job : Job) (B : Bound) (s : List ℕ) where
     pub above : B ≺ C
     pub least : (D : Bound) → (t : List ℕ) → Partition job t → Within job t D → C ≼ D
 
-  pub probe_failed : {C : Bound} → probe_answer job B s ≡ Answered (Fails C) → Failed C
+  pub probe_failed : {C : Bound} → probe_answer job B s ≡ Ok (Fails C) → Failed C
   unfolding probe_answer
   probe_failed {C} e =
       record {
-        above = subst (λ (D : Bound). B ≺ D) (sym m.2) (bids.next_above (valid_plannable v (accepted m.0).keeping.0) B m.1);
+        above = subst (λ (D : Bound). B ≺ D) (sym m.2) (bids.next_above (valid_plannable v (accepted m.0).keeping.0) B
+            m.1);
         least = λ D t pa w.
-            subst (λ (E : Bound). E ≼ D) (sym m.2) (bids.next_least (valid_proper v) B D m.1 (walks.partition_fits (valid_proper v) pa w));
+            subst (λ (E : Bound). E ≼ D) (sym m.2) (bids.next_least (valid_proper v) B D m.1
+            (walks.partition_fits (valid_proper v) pa w));
       }
     where
       m : (refusal job (probe_inputs job B (length s)) ≡ 0) × T (not (fits job B)) × (C ≡ next_bid job B)
       m =
-          let a = answered e in
-          let f = fails_outcome job B a.1 in
+          let a = tried e in
+          let f = fails_outcome job B (sym a.1) in
           (a.0, f.0, f.1)
 
       v : Valid job

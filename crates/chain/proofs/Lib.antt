@@ -31,3 +31,4 @@ pub mod Visited
 pub mod Counts
 pub mod Cut
 pub mod Within
+pub mod Numbers

@@ -13,3 +13,4 @@ pub mod Plan
 pub mod Refusal
 pub mod Grade
 pub mod Marked
+pub mod Numbers

@@ -7,52 +7,67 @@ use mathlib.Core.List.{List, [], ◌∷◌, ◌++◌, map, Memᴰ}
 use mathlib.Core.Logic.{◌≢◌, ◌↔◌}
 use native.Mathlib.Omega.{arith}
 use lib.Dec.{T, eqb}
-use lib.ListN.{length, take}
+use lib.ListN.{length}
+use Rattle.std.specs.Prelude.{Result, Ok}
 use Rattle.bound.specs.declared.Bound.{Bound}
+use Rattle.chain.specs.declared.Refusal.{Refusal}
 use Rattle.chain.specs.declared.Outcome.{Outcome}
 use Rattle.chain.specs.declared.Outcome.TheVariants.{Fits}
 use Rattle.chain.specs.Job.{Edition, startup_of, Job, job_of, bottleneck}
 use Rattle.chain.specs.Plan.{plan_of, Best}
 use Rattle.chain.specs.Probe as probing
 use Rattle.chain.specs.Heuristic as guessing
-use Rattle.chain.specs.Refusal.{Test, each_between, method_test, startup_test, speeds_test, weights_test, processors_test, tasks_test, row_test, length_test, holds_test, enough_test, free_test, bound_test, partition_test, plan_length_test, joined_test, true_test, first_refusal, job_tests, plan_tests, Inputs, nothing, call_tests, refusal, measure_inputs, halving_inputs}
+use Rattle.chain.specs.Refusal.{Test, each_between, method_test, startup_test, speeds_test, weights_test}
+use Rattle.chain.specs.Refusal.{processors_test, tasks_test, row_test, length_test, holds_test, enough_test, free_test}
+use Rattle.chain.specs.Refusal.{bound_test, partition_test, plan_length_test, joined_test, true_test, first_refusal}
+use Rattle.chain.specs.Refusal.{job_tests, plan_tests, Inputs, nothing, call_tests, refusal, measure_inputs}
+use Rattle.chain.specs.Refusal.{halving_inputs}
+use Rattle.chain.proofs.Numbers.{answered_ok}
 use Rattle.chain.proofs.Demand.{plan_of_best}
 use Rattle.chain.proofs.Parts.{valid_plannable}
-use Rattle.chain.proofs.Refusals.{Numbered, numbered_nil, numbered_cons, numbered_append, numbered_map, call_numbered, plan_numbered, accepted_passes, passes_accepted, gives}
+use Rattle.chain.proofs.Refusals.{Numbered, numbered_nil, numbered_cons, numbered_append, numbered_map, call_numbered}
+use Rattle.chain.proofs.Refusals.{plan_numbered, accepted_passes, passes_accepted, gives}
 use Rattle.fields.specs.Field.{Bytes}
-use Rattle.refusals.specs.Inputs.{plan_needed, plan_lists, free_by, probe_inputs, heuristic_inputs, plan_inputs, write_inputs, write_plan_inputs}
+use Rattle.refusals.specs.Inputs.{plan_needed, plan_lists, free_by, probe_inputs, heuristic_inputs, plan_inputs}
+use Rattle.refusals.specs.Inputs.{write_inputs, write_plan_inputs}
 use Rattle.refusals.specs.Answers.{Said, said_by}
 use Rattle.refusals.proofs.Answering.{said-alone, said-nothing, number_of_lem}
 use Rattle.refusals.proofs.Lent.{lent_refused}
 use Rattle.refusals.proofs.Promises.{job_numbers}
-use Rattle.jobs.specs.declared.JobRead.{JobRead}
 use Rattle.jobs.specs.JobFile.{job_bytes}
-use Rattle.jobs.specs.Parse.{multiple_test, form_test, order_test, place_test, speed_test, weight_test, work_test, record_tests, records_tests, record_count, second_in, startup_in, value_at, speeds_of, holds_of, weights_of, edition_in, job_in, file_tests}
-use Rattle.jobs.specs.Answers.{read_tests, read_refusal, read_answer, read_speeds, read_holds, read_weights, write_answer, write_bytes}
-use Rattle.jobs.proofs.AllRecords.{answer_read}
-use Rattle.jobs.proofs.Calls.{file_numbered, read_numbered, read_said_lem, read_number, write_said, WrittenAgain, written_again}
+use Rattle.jobs.specs.Parse.{multiple_test, form_test, order_test, place_test, speed_test, weight_test, work_test}
+use Rattle.jobs.specs.Parse.{record_tests, records_tests, record_count, second_in, value_at, speeds_of}
+use Rattle.jobs.specs.Parse.{holds_of, weights_of, edition_in, job_in, file_tests}
+use Rattle.jobs.specs.Answers.{read_in, read_tests, read_refusal, read_answer, read_speeds, read_holds, read_weights}
+use Rattle.jobs.specs.Answers.{write_answer, write_bytes}
+use Rattle.jobs.proofs.Calls.{file_numbered, read_numbered, read_said_lem, read_number, write_said, WrittenAgain}
+use Rattle.jobs.proofs.Calls.{written_again}
 use Rattle.jobs.proofs.Promises.{read_numbers, write_numbers}
-use Rattle.calls.specs.declared.Probed.TheVariants.{Answered}
-use Rattle.calls.specs.declared.Measured.TheVariants.{Bottleneck}
-use Rattle.calls.specs.Answers.{measured_of, probed_of, probe_answer, heuristic_answer}
-use Rattle.calls.proofs.Promises.{measure_said, measure_numbers, heuristic-said, heuristic-number, heuristic-numbers, heuristic-keeps, heuristic_promise, halving-said, halving-numbers, halving-keeps, probe-said, probe-number, probe-numbers, probe-keeps, probe-fits_exactly, probe_fitted}
+use Rattle.calls.specs.Answers.{probe_answer, heuristic_answer}
+use Rattle.calls.proofs.Promises.{measure_said, measure_numbers, heuristic-said, heuristic-number, heuristic-numbers}
+use Rattle.calls.proofs.Promises.{heuristic-keeps, heuristic_promise, halving-said, halving-numbers, halving-keeps}
+use Rattle.calls.proofs.Promises.{probe-said, probe-number, probe-numbers, probe-keeps, probe-fits_exactly}
+use Rattle.calls.proofs.Promises.{probe_fitted}
 use Rattle.planfile.specs.PlanFile.{plan_bytes, plan_read, grade_inputs}
 use Rattle.planfile.specs.Answers.{write_plan_bytes}
 use Rattle.planfile.proofs.Promises.{write_plan_said, write_plan_numbers}
 use Rattle.grading.specs.Files.{grade_tests, grade_refusal, host_grade}
 use Rattle.grading.proofs.Promises.{grade_said, grade_numbers, host_grade_numbers, host_grade_keeps}
 use Rattle.planner.specs.declared.Figures.{Figures}
-use Rattle.planner.specs.declared.Planned.TheVariants.{Accepted}
 use Rattle.planner.specs.Answers.{plan_refusal, plan_answer, plan_writes}
 use Rattle.planner.specs.HostCall.{hold_tests, host_file_tests, host_tests, host_answer}
-use Rattle.planner.proofs.Promises.{plan_said, plan_number, plan_accepted, plan_keeps, given, accepted_best, accepted_plan, accepted_count, accepted_separators}
+use Rattle.planner.proofs.Promises.{plan_said, plan_number, plan_accepted, plan_keeps, given, accepted_best}
+use Rattle.planner.proofs.Promises.{accepted_plan, accepted_count, accepted_separators}
 use Rattle.planner.proofs.Numbers.{plan_numbers, host_numbers, host_plan, host_keeps, host_valid, host_enough}
 use Rattle.listing.specs.Answers.{list_tests, list_refusal}
 use Rattle.listing.proofs.Promises.{list_said, list_numbers, list_keeps}
 use Rattle.jobs.proofs.Taken.{Taken, read_taken, taken_job}
 use Rattle.refusals.proofs.Editions.{edition_effective}
-use Rattle.demands.specs.Call.{ByLists, edition_by, job_by, lists_in, Call, TestJob, ReadJob, WriteJob, Measure, Probe, Heuristic, Halving, Plan, WritePlan, Grade, ListJob, PlanJob, GradePlan, said, values, tests, numbers, records_order, file_order, free_order, order, lent, Leaves}
-use Rattle.demands.specs.Demands.{number, Accepts, DemandOne, front, SomeWithin, Trial, QuickPlan, lists_read, WrittenBack, DemandTwo, PlanLeft, HostLeft, DemandThree}
+use Rattle.demands.specs.Call.{ByLists, edition_by, job_by, lists_in, Call, TestJob, ReadJob, WriteJob, Measure, Probe}
+use Rattle.demands.specs.Call.{Heuristic, Halving, Plan, WritePlan, Grade, ListJob, PlanJob, GradePlan, said, values}
+use Rattle.demands.specs.Call.{tests, numbers, records_order, file_order, free_order, order, lent, Leaves}
+use Rattle.demands.specs.Demands.{number, Accepts, DemandOne, front, SomeWithin, Trial, QuickPlan, lists_read}
+use Rattle.demands.specs.Demands.{WrittenBack, DemandTwo, PlanLeft, HostLeft, DemandThree}
 
 -- Demand 1. What each call says;
 says : (call : Call) → said call ≡ said_by (first_refusal (tests call)) (values call)
@@ -87,13 +102,15 @@ records_ordered : (file : List ℕ) (n : ℕ) → numbers_of (records_tests file
 unfolding records_tests record_tests form_test order_test place_test speed_test weight_test work_test records_order
 records_ordered file zero = refl
 records_ordered file (suc n) =
-    numbers_after (records_tests file n) (record_tests file n) ∙ ap (λ (ns : List ℕ). ns ++ 3 ∷ 4 ∷ 15 ∷ 5 ∷ 6 ∷ 16 ∷ []) (records_ordered file n)
+    numbers_after (records_tests file n) (record_tests file n)
+    ∙ ap (λ (ns : List ℕ). ns ++ 3 ∷ 4 ∷ 15 ∷ 5 ∷ 6 ∷ 16 ∷ []) (records_ordered file n)
 
 file_ordered : (file : List ℕ) → numbers_of (file_tests file) ≡ file_order file
 unfolding file_tests multiple_test processors_test tasks_test file_order
 file_ordered file =
     ap (λ (ns : List ℕ). 2 ∷ ns)
-    (numbers_after (records_tests file (record_count file)) (processors_test (speeds_of file) ∷ tasks_test (weights_of file) ∷ [])
+    (numbers_after (records_tests file (record_count file))
+    (processors_test (speeds_of file) ∷ tasks_test (weights_of file) ∷ [])
     ∙ ap (λ (ns : List ℕ). ns ++ 7 ∷ 8 ∷ []) (records_ordered file (record_count file)))
 
 -- That of the holds, by method 4.
@@ -120,20 +137,28 @@ planning m job separators scratch free =
     }
 
 plan_ordered : (m : ℕ) (job : Job) (separators scratch : ℕ)
-    → numbers_of (call_tests job (plan_inputs job m separators scratch)) ≡ 1 ∷ 16 ∷ 5 ∷ 6 ∷ 7 ∷ 8 ∷ 9 ∷ 9 ∷ 9 ∷ 17 ∷ free_order m
+    → numbers_of (call_tests job (plan_inputs job m separators scratch))
+    ≡ 1 ∷ 16 ∷ 5 ∷ 6 ∷ 7 ∷ 8 ∷ 9 ∷ 9 ∷ 9 ∷ 17 ∷ free_order m
 unfolding free_by free_order
 plan_ordered m job separators scratch = go (eqb m 4)
   where
     go : (b : Bool) → numbers_of (call_tests job (planning m job separators scratch (cond b (job ∷ []) [])))
         ≡ 1 ∷ 16 ∷ 5 ∷ 6 ∷ 7 ∷ 8 ∷ 9 ∷ 9 ∷ 9 ∷ 17 ∷ cond b (18 ∷ []) []
-    go true = unfold call_tests job_tests method_test startup_test speeds_test weights_test processors_test tasks_test holds_test length_test enough_test free_test in refl
-    go false = unfold call_tests job_tests method_test startup_test speeds_test weights_test processors_test tasks_test holds_test length_test enough_test in refl
+    go true =
+        unfold call_tests job_tests method_test startup_test speeds_test weights_test processors_test tasks_test
+        holds_test length_test enough_test free_test in refl
+    go false =
+        unfold call_tests job_tests method_test startup_test speeds_test weights_test processors_test tasks_test
+        holds_test length_test enough_test in refl
 
 ordered : (call : Call) → numbers_of (tests call) ≡ order call
-unfolding read_tests host_tests host_file_tests hold_tests list_tests grade_tests plan_tests call_tests job_tests method_test startup_test speeds_test weights_test processors_test tasks_test row_test length_test holds_test enough_test free_test bound_test partition_test plan_length_test joined_test true_test
+unfolding read_tests host_tests host_file_tests hold_tests list_tests grade_tests plan_tests call_tests job_tests
+    method_test startup_test speeds_test weights_test processors_test tasks_test row_test length_test holds_test
+    enough_test free_test bound_test partition_test plan_length_test joined_test true_test
 ordered (TestJob g) = refl
 ordered (ReadJob file es hs ws) =
-    numbers_after (file_tests file) (length_test (length (weights_of file)) (length ws) ∷ length_test (length (speeds_of file)) (length es) ∷ length_test (length (holds_of file)) (length hs) ∷ [])
+    numbers_after (file_tests file) (length_test (length (weights_of file)) (length ws)
+    ∷ length_test (length (speeds_of file)) (length es) ∷ length_test (length (holds_of file)) (length hs) ∷ [])
     ∙ ap (λ (ns : List ℕ). ns ++ 9 ∷ 9 ∷ 9 ∷ []) (file_ordered file)
 ordered (WriteJob g file) = refl
 ordered (Measure g s) = refl
@@ -146,10 +171,12 @@ ordered (Grade g plan) = refl
 ordered (ListJob file out) = refl
 ordered (PlanJob file m plan) =
     ap (λ (ns : List ℕ). 1 ∷ ns)
-    (numbers_after (file_tests file) (length_test (plan_needed (job_in file)) (length plan) ∷ hold_tests m (job_in file))
+    (numbers_after (file_tests file) (length_test (plan_needed (job_in file)) (length plan)
+    ∷ hold_tests m (job_in file))
     ∙ ap₂ (λ (ns ms : List ℕ). ns ++ 9 ∷ 17 ∷ ms) (file_ordered file) (free_ordered m (job_in file)))
 ordered (GradePlan file plan grade) =
-    numbers_after (file_tests file) (length_test 1 (length grade) ∷ plan_tests (job_in file) (plan_read (job_in file) plan))
+    numbers_after (file_tests file) (length_test 1 (length grade)
+    ∷ plan_tests (job_in file) (plan_read (job_in file) plan))
     ∙ ap (λ (ns : List ℕ). ns ++ 9 ∷ 12 ∷ 11 ∷ 13 ∷ []) (file_ordered file)
 
 -- It is one of the row, which are from 1 to 18.
@@ -200,17 +227,22 @@ numbered (Grade g plan) = call_numbered (job_by g) (grade_inputs (job_by g) plan
 numbered (ListJob file out) = numbered_cons (omega arith) numbered_nil
 numbered (PlanJob file m plan) =
     numbered_cons (omega arith)
-    (numbered_append (file_numbered file) (numbered_cons (omega arith) (numbered_cons (omega arith) (numbered_map free_test (λ j. omega arith) (free_by m (job_in file))))))
+    (numbered_append (file_numbered file) (numbered_cons (omega arith)
+    (numbered_cons (omega arith) (numbered_map free_test (λ j. omega arith) (free_by m (job_in file))))))
 numbered (GradePlan file plan grade) =
-    numbered_append (file_numbered file) (numbered_cons (omega arith) (plan_numbered (job_in file) (plan_read (job_in file) plan)))
+    numbered_append (file_numbered file) (numbered_cons (omega arith)
+    (plan_numbered (job_in file) (plan_read (job_in file) plan)))
 
 kept : (call : Call) → first_refusal (tests call) ≢ 0 → (left : List (List ℕ)) → Leaves call left → left ≡ lent call
-unfolding read_refusal refusal plan_refusal host_answer list_refusal host_grade grade_refusal read_speeds read_holds read_weights write_bytes write_plan_bytes
+unfolding read_refusal refusal plan_refusal host_answer list_refusal host_grade grade_refusal read_speeds read_holds
+    read_weights write_bytes write_plan_bytes
 kept (TestJob g) h left e = e
 kept (ReadJob file es hs ws) h left e =
-    e ∙ ap₂ (λ (x y : List ℕ). x ∷ y ∷ read_weights file es hs ws ∷ []) (lent_refused h (speeds_of file) es) (lent_refused h (holds_of file) hs)
+    e ∙ ap₂ (λ (x y : List ℕ). x ∷ y ∷ read_weights file es hs ws ∷ []) (lent_refused h (speeds_of file) es)
+    (lent_refused h (holds_of file) hs)
     ∙ ap (λ (x : List ℕ). es ∷ hs ∷ x ∷ []) (lent_refused h (weights_of file) ws)
-kept (WriteJob g file) h left e = e ∙ ap (λ (x : List ℕ). x ∷ []) (lent_refused h (job_bytes (edition_by g) (job_by g)) file)
+kept (WriteJob g file) h left e =
+    e ∙ ap (λ (x : List ℕ). x ∷ []) (lent_refused h (job_bytes (edition_by g) (job_by g)) file)
 kept (Measure g s) h left e = e
 kept (Probe g B s) h left e = e ∙ ap (λ (x : List ℕ). x ∷ []) (probe-keeps (job_by g) B s h)
 kept (Heuristic g s) h left e = e ∙ ap (λ (x : List ℕ). x ∷ []) (heuristic-keeps (job_by g) s h)
@@ -232,23 +264,31 @@ demand_one call =
       ranged = ranged call;
       ordered = ordered call;
       first = λ n h. gives (tests call) (tested call) h;
-      accepted = (λ e. accepted_passes (tests call) (numbered call) (sym (tested call) ∙ e), λ p. tested call ∙ passes_accepted (tests call) p);
-      nothing_else = λ h. ap (λ (s : Said). s.values) (says call ∙ said-alone (λ z. h (tested call ∙ z)) (values call));
+      accepted = (
+        λ e. accepted_passes (tests call) (numbered call) (sym (tested call) ∙ e),
+        λ p. tested call ∙ passes_accepted (tests call) p,
+      );
+      nothing_else =
+          λ h. ap (λ (s : Said). s.values) (says call ∙ said-alone (λ z. h (tested call ∙ z)) (values call));
       kept = λ h. kept call (λ z. h (tested call ∙ z));
     }
 
+-- Two values that are answered the same are the same.
+pub ok_same : {A : Type 0} {x y : A} → ◌≡◌ {A = Result A Refusal} (Ok x) (Ok y) → x ≡ y
+ok_same e = cc e
+
 -- Demand 2. An accepted trial,
 trial : (g : ByLists) (B : Bound) (s : List ℕ) → Accepts (Probe g B s) → Trial (job_by g) B s
-unfolding probe_answer probed_of
+unfolding probe_answer
 trial g B s e =
     record {
       outcome = outcome;
       answer = answer;
       exactly = (
-        λ f. exactly.0 (f.0, answer ∙ ap Answered f.1),
-        λ w. let x = exactly.1 w in (x.0, outcome_same (sym answer ∙ x.1)),
+        λ f. exactly.0 (f.0, answer ∙ ap Ok f.1),
+        λ w. let x = exactly.1 w in (x.0, ok_same (sym answer ∙ x.1)),
       );
-      written = λ f. let w = probe_fitted (job_by g) B s (answer ∙ ap Answered f.1) in (w.partition, w.within);
+      written = λ f. let w = probe_fitted (job_by g) B s (answer ∙ ap Ok f.1) in (w.partition, w.within);
     }
   where
     outcome : Outcome
@@ -257,48 +297,44 @@ trial g B s e =
     none : refusal (job_by g) (probe_inputs (job_by g) B (length s)) ≡ 0
     none = sym (probe-number (job_by g) B s) ∙ e
 
-    answer : probe_answer (job_by g) B s ≡ Answered outcome
-    answer = ap (λ (n : ℕ). probed_of n outcome) none
+    answer : probe_answer (job_by g) B s ≡ Ok outcome
+    answer = sym (answered_ok outcome none)
 
-    exactly : ((n : ℕ) × (probe_answer (job_by g) B s ≡ Answered (Fits n))) ↔ SomeWithin (job_by g) B
+    exactly : ((n : ℕ) × (probe_answer (job_by g) B s ≡ Ok (Fits n))) ↔ SomeWithin (job_by g) B
     exactly = probe-fits_exactly (job_by g) B s none
-
-    outcome_same : {a b : Outcome} → Answered a ≡ Answered b → a ≡ b
-    outcome_same h = cc h
 
 -- an accepted quick plan,
 quick : (g : ByLists) (s : List ℕ) → Accepts (Heuristic g s) → QuickPlan (job_by g) s
-unfolding heuristic_answer measured_of
+unfolding heuristic_answer
 quick g s e =
     let bound = bottleneck (job_by g) (guessing.heuristic (job_by g)) in
-    let answer : heuristic_answer (job_by g) s ≡ Bottleneck bound = ap (λ (n : ℕ). measured_of n bound) (sym (heuristic-number (job_by g) s) ∙ e) in
+    let answer : heuristic_answer (job_by g) s ≡ Ok bound =
+    sym (answered_ok bound (sym (heuristic-number (job_by g) s) ∙ e)) in
     let h = heuristic_promise (job_by g) s answer in
     record { bound = bound; answer = answer; partition = h.partition; measured = h.measured; close = h.close }
 
 -- and an accepted file, whose job is the one that was read.
-again : (file es hs ws buffer : List ℕ) → Bytes file → Accepts (ReadJob file es hs ws) → length file ≤ length buffer → WrittenBack file es hs ws buffer
+again : (file es hs ws buffer : List ℕ) → Bytes file → Accepts (ReadJob file es hs ws) → length file ≤ length buffer
+    → WrittenBack file es hs ws buffer
 unfolding read_answer
 again file es hs ws buffer b e l =
     record {
-      second = second_in file;
-      startup = startup_in file;
-      p = length (speeds_of file);
-      n = length (weights_of file);
+      read = read_in file;
       answer = answer;
       written = ap₂ (λ (d : Edition) (job : Job). write_answer d job (length buffer)) t.edition job_is ∙ w.answer;
       bytes = ap₂ (λ (d : Edition) (job : Job). write_bytes d job buffer) t.edition job_is ∙ w.bytes;
     }
   where
-    answer : read_answer file (length es) (length hs) (length ws) ≡ JobRead.Read (second_in file) (startup_in file) (length (speeds_of file)) (length (weights_of file))
-    answer = sym (answer_read file (sym (read_number file (length es) (length hs) (length ws)) ∙ e) refl refl refl refl)
+    answer : read_answer file (length es) (length hs) (length ws) ≡ Ok (read_in file)
+    answer = sym (answered_ok (read_in file) (sym (read_number file (length es) (length hs) (length ws)) ∙ e))
 
-    t : Taken file (read_speeds file es hs ws) (read_holds file es hs ws) (read_weights file es hs ws) (second_in file) (startup_in file) (length (speeds_of file)) (length (weights_of file))
+    t : Taken file (read_speeds file es hs ws) (read_holds file es hs ws) (read_weights file es hs ws) (read_in file)
     t = read_taken file es hs ws refl answer refl refl refl
 
-    job_is : job_by (lists_read file es hs ws (second_in file) (startup_in file) (length (speeds_of file)) (length (weights_of file))) ≡ job_in file
+    job_is : job_by (lists_read file es hs ws (read_in file)) ≡ job_in file
     job_is =
-        ap (λ (d : Edition). job_of (startup_of d) (take (length (speeds_of file)) (read_speeds file es hs ws)) (take (length (speeds_of file)) (read_holds file es hs ws)) (take (length (weights_of file)) (read_weights file es hs ws))) t.edition
-        ∙ taken_job t
+        let g = lists_read file es hs ws (read_in file) in
+        ap (λ (d : Edition). job_of (startup_of d) g.speeds g.holds g.weights) t.edition ∙ taken_job t
 
     w : WrittenAgain file buffer
     w = written_again file buffer b t.accepted l
@@ -308,7 +344,7 @@ demand_two = record { trial = trial; quick = quick; again = again }
 
 -- Demand 3. Where nothing refuses planning, it answers with figures.
 module _ (m : ℕ) (g : ByLists) (s t : List ℕ) (e : Accepts (Plan m g s t)) where
-  figured : (f : Figures) × (plan_answer (edition_by g) (job_by g) m s t ≡ Accepted f)
+  figured : (f : Figures) × (plan_answer (edition_by g) (job_by g) m s t ≡ Ok f)
   figured = plan_accepted (edition_by g) (job_by g) m s t (sym (plan_number (edition_by g) (job_by g) m s t) ∙ e)
 
   pub left : front (job_by g) (plan_writes (job_by g) m s t) ≡ plan_of (job_by g)
@@ -338,7 +374,8 @@ pub lists_edition : (file : List ℕ) → edition_by (lists_in file) ≡ edition
 lists_edition file = edition_effective (second_in file) (value_at file 0)
 
 pub lists_job : (file : List ℕ) → job_by (lists_in file) ≡ job_in file
-lists_job file = ap (λ (d : Edition). job_of (startup_of d) (speeds_of file) (holds_of file) (weights_of file)) (lists_edition file)
+lists_job file =
+    ap (λ (d : Edition). job_of (startup_of d) (speeds_of file) (holds_of file) (weights_of file)) (lists_edition file)
 
 host : (file plan : List ℕ) (m : ℕ) → Accepts (PlanJob file m plan) → HostLeft file plan m (plan_of (job_in file))
 host file plan m e =
@@ -355,5 +392,6 @@ demand_three =
       host = λ file plan m e. (plan_of (job_in file), host file plan m e);
       host_same = λ file plan m k s t e h.
           subst (λ (job : Job). HostLeft file plan m (front job (plan_writes job k s t))) (lists_job file)
-          (subst (HostLeft file plan m) (sym (left k (lists_in file) s t h ∙ ap plan_of (lists_job file))) (host file plan m e));
+          (subst (HostLeft file plan m) (sym (left k (lists_in file) s t h ∙ ap plan_of (lists_job file)))
+          (host file plan m e));
     }

@@ -1,6 +1,6 @@
 -- A job is answered alike with every limit of machines that it is within: `any_limit`.
 -- Assumes nothing.
-use Prim.Native.Nat.{ℕ, zero, suc, ◌+◌, ◌*◌, ◌/◌, ◌%◌, ◌≤◌, ◌<◌}
+use Prim.Native.Nat.{ℕ, zero, suc, ◌+◌, ◌*◌, ◌%◌, ◌≤◌, ◌<◌}
 use mathlib.Core.Path.{◌≡◌, refl, sym, ap, ap₂, subst, ◌∙◌}
 use mathlib.Core.Bool.{Bool, true, false, cond, ◌&&◌}
 use mathlib.Core.List.Memᴰ
@@ -14,17 +14,21 @@ use borrow.Author.Tests.{le-leb}
 use Rattle.chain.specs.Limits.{max_processors}
 use Rattle.chain.specs.Job.{Edition, First, Second, Job, processors, speed_of, enough}
 use Rattle.chain.specs.Plan.{plan_of, Best}
-use Rattle.chain.specs.Refusal.{Test, test, between, method_test, startup_test, speeds_test, weights_test, processors_test, tasks_test, row_test, length_test, holds_test, enough_test, free_test, bound_test, partition_test, plan_length_test, joined_test, true_test, first_refusal, job_tests, plan_tests, call_tests, refusal}
+use Rattle.chain.specs.Refusal.{Test, test, between, method_test, startup_test, speeds_test, weights_test}
+use Rattle.chain.specs.Refusal.{processors_test, tasks_test, row_test, length_test, holds_test, enough_test, free_test}
+use Rattle.chain.specs.Refusal.{bound_test, partition_test, plan_length_test, joined_test, true_test, first_refusal}
+use Rattle.chain.specs.Refusal.{job_tests, plan_tests, call_tests, refusal}
 use Rattle.chain.proofs.Best.{best_unique}
 use Rattle.chain.proofs.Refusals.{Numbered, numbered_tail, pass_head, pass_skip}
 use Rattle.chain.proofs.Tests.{and_right}
 use Rattle.chain.proofs.Demand.{plan_of_best}
 use Rattle.refusals.specs.Inputs.{head_records, plan_needed, free_by, plan_inputs}
 use Rattle.refusals.specs.Answers.{said_by}
-use Rattle.jobs.specs.Parse.{second_in, startup_in, edition_in, multiple_test, form_test, order_test, place_test, speed_test, weight_test, work_test, record_tests, records_tests, record_count, speeds_of, holds_of, weights_of, job_in, file_tests, file_refusal}
+use Rattle.jobs.specs.Parse.{edition_in, multiple_test, form_test, order_test, place_test}
+use Rattle.jobs.specs.Parse.{speed_test, weight_test, work_test, record_tests, records_tests, record_count, speeds_of}
+use Rattle.jobs.specs.Parse.{holds_of, weights_of, job_in, file_tests, file_refusal}
 use Rattle.jobs.specs.Answers.{read_tests, read_refusal, read_speeds, read_holds, read_weights, write_bytes}
-use Rattle.jobs.specs.Inner.{Counted}
-use Rattle.jobs.proofs.Reading.{accepted_multiple, accepted_counts, file_early}
+use Rattle.jobs.proofs.Reading.{accepted_multiple, accepted_together, file_early}
 use Rattle.jobs.proofs.RoundTrip.{accepted_valid}
 use Rattle.calls.specs.Answers.{probe_writes, heuristic_writes, halving_writes}
 use Rattle.planfile.specs.PlanFile.{plan_read}
@@ -36,15 +40,19 @@ use Rattle.listing.specs.Room.{room_for, listing_room}
 use Rattle.listing.specs.Listing.{listing_of, listed_tests, listed_refusal, intake_for, intake, listing}
 use Rattle.listing.specs.Answers.{list_tests, list_refusal, list_writes}
 use Rattle.listing.proofs.Listings.{listed_whole}
-use Rattle.demands.specs.Call.{job_by, Call, TestJob, ReadJob, WriteJob, Measure, Probe, Heuristic, Halving, Plan, WritePlan, Grade, ListJob, PlanJob, GradePlan, values, tests, records_order, file_order, free_order, order, Leaves}
+use Rattle.demands.specs.Call.{job_by, Call, TestJob, ReadJob, WriteJob, Measure, Probe, Heuristic, Halving, Plan}
+use Rattle.demands.specs.Call.{WritePlan, Grade, ListJob, PlanJob, GradePlan, values, tests, records_order, file_order}
+use Rattle.demands.specs.Call.{free_order, order, Leaves}
 use Rattle.demands.specs.Demands.{Accepts}
-use Rattle.demands.specs.Limit.{processors_in, limited, limited_to, number_with, LeavesBy, Counts, listing_with, Alike, AnyLimit}
+use Rattle.demands.specs.Limit.{processors_in, limited, limited_to, number_with, LeavesBy, Counts, listing_with, Alike}
+use Rattle.demands.specs.Limit.{AnyLimit}
 use Rattle.demands.proofs.Demands.{tested, planning, numbered, demand_one, left}
 
 -- Tests that are within both limits are the same tests.
 limits_same : {l m p : ℕ} → p ≤ l → p ≤ m → (ts : List Test) → limited_to l p ts ≡ limited_to m p ts
 limits_same {l} {m} {p} h k ts =
-    ap (λ (b : Bool). map (λ t. cond (eqb t.number 7) (test 7 (leb 1 p && b)) t) ts) (le-leb p l h ∙ sym (le-leb p m k))
+    ap (λ (b : Bool). map (λ t. cond (eqb t.number 7) (test 7 (leb 1 p && b)) t) ts)
+    (le-leb p l h ∙ sym (le-leb p m k))
 
 -- The tests of records are as they are with every limit,
 records_limited : (file : List ℕ) (l p n : ℕ) → limited_to l p (records_tests file n) ≡ records_tests file n
@@ -69,32 +77,44 @@ file_ours file =
 file_and : (file : List ℕ) (ts : List Test) → limited_to max_processors (length (speeds_of file)) ts ≡ ts
     → limited_to max_processors (length (speeds_of file)) (file_tests file ++ ts) ≡ file_tests file ++ ts
 file_and file ts e =
-    map-append (limited max_processors (length (speeds_of file))) (file_tests file) ts ∙ ap₂ (λ (us vs : List Test). us ++ vs) (file_ours file) e
+    map-append (limited max_processors (length (speeds_of file))) (file_tests file) ts
+    ∙ ap₂ (λ (us vs : List Test). us ++ vs) (file_ours file) e
 
 -- and those of every call.
-free_ours : (m p : ℕ) (job : Job) → limited_to max_processors p (map free_test (free_by m job)) ≡ map free_test (free_by m job)
+free_ours : (m p : ℕ) (job : Job) → limited_to max_processors p (map free_test (free_by m job))
+    ≡ map free_test (free_by m job)
 unfolding free_by
 free_ours m p job = go (eqb m 4)
   where
-    go : (b : Bool) → limited_to max_processors p (map free_test (cond b (job ∷ []) [])) ≡ map free_test (cond b (job ∷ []) [])
+    go : (b : Bool) → limited_to max_processors p (map free_test (cond b (job ∷ []) []))
+        ≡ map free_test (cond b (job ∷ []) [])
     go true = unfold free_test in refl
     go false = refl
 
 plan_ours : (m : ℕ) (job : Job) (separators scratch : ℕ)
-    → limited_to max_processors (processors job) (call_tests job (plan_inputs job m separators scratch)) ≡ call_tests job (plan_inputs job m separators scratch)
+    → limited_to max_processors (processors job) (call_tests job (plan_inputs job m separators scratch))
+    ≡ call_tests job (plan_inputs job m separators scratch)
 unfolding free_by
 plan_ours m job separators scratch = go (eqb m 4)
   where
-    go : (b : Bool) → limited_to max_processors (processors job) (call_tests job (planning m job separators scratch (cond b (job ∷ []) [])))
+    go : (b : Bool) → limited_to max_processors (processors job)
+        (call_tests job (planning m job separators scratch (cond b (job ∷ []) [])))
         ≡ call_tests job (planning m job separators scratch (cond b (job ∷ []) []))
-    go true = unfold call_tests job_tests method_test startup_test speeds_test weights_test processors_test tasks_test holds_test length_test enough_test free_test in refl
-    go false = unfold call_tests job_tests method_test startup_test speeds_test weights_test processors_test tasks_test holds_test length_test enough_test in refl
+    go true =
+        unfold call_tests job_tests method_test startup_test speeds_test weights_test processors_test tasks_test
+        holds_test length_test enough_test free_test in refl
+    go false =
+        unfold call_tests job_tests method_test startup_test speeds_test weights_test processors_test tasks_test
+        holds_test length_test enough_test in refl
 
 call_ours : (call : Call) → limited_to max_processors (processors_in call) (tests call) ≡ tests call
-unfolding read_tests host_tests host_file_tests hold_tests list_tests grade_tests plan_tests call_tests job_tests method_test startup_test speeds_test weights_test processors_test tasks_test row_test length_test holds_test enough_test free_test bound_test partition_test plan_length_test joined_test true_test
+unfolding read_tests host_tests host_file_tests hold_tests list_tests grade_tests plan_tests call_tests job_tests
+    method_test startup_test speeds_test weights_test processors_test tasks_test row_test length_test holds_test
+    enough_test free_test bound_test partition_test plan_length_test joined_test true_test
 call_ours (TestJob g) = refl
 call_ours (ReadJob file es hs ws) =
-    file_and file (length_test (length (weights_of file)) (length ws) ∷ length_test (length (speeds_of file)) (length es) ∷ length_test (length (holds_of file)) (length hs) ∷ []) refl
+    file_and file (length_test (length (weights_of file)) (length ws)
+    ∷ length_test (length (speeds_of file)) (length es) ∷ length_test (length (holds_of file)) (length hs) ∷ []) refl
 call_ours (WriteJob g file) = refl
 call_ours (Measure g s) = refl
 call_ours (Probe g B s) = refl
@@ -107,29 +127,33 @@ call_ours (ListJob file out) = refl
 call_ours (PlanJob file m plan) =
     ap (λ (ts : List Test). method_test m ∷ ts)
     (file_and file (length_test (plan_needed (job_in file)) (length plan) ∷ hold_tests m (job_in file))
-    (ap (λ (ts : List Test). length_test (plan_needed (job_in file)) (length plan) ∷ enough_test (job_in file) ∷ ts) (free_ours m (length (speeds_of file)) (job_in file))))
+    (ap (λ (ts : List Test). length_test (plan_needed (job_in file)) (length plan) ∷ enough_test (job_in file) ∷ ts)
+    (free_ours m (length (speeds_of file)) (job_in file))))
 call_ours (GradePlan file plan grade) =
     file_and file (length_test 1 (length grade) ∷ plan_tests (job_in file) (plan_read (job_in file) plan)) refl
 
 -- What a call leaves is by the number that it gives.
 left_by : (call : Call) (left : List (List ℕ)) → LeavesBy (first_refusal (tests call)) call left ↔ Leaves call left
-unfolding read_refusal refusal plan_refusal host_answer list_refusal host_grade grade_refusal read_speeds read_holds read_weights write_bytes probe_writes heuristic_writes halving_writes plan_writes write_plan_bytes list_writes bytes_after host_writes host_grades
-left_by (TestJob g) left = (λ e. e, λ e. e)
-left_by (ReadJob file es hs ws) left = (λ e. e, λ e. e)
-left_by (WriteJob g file) left = (λ e. e, λ e. e)
-left_by (Measure g s) left = (λ e. e, λ e. e)
-left_by (Probe g B s) left = (λ e. e, λ e. e)
-left_by (Heuristic g s) left = (λ e. e, λ e. e)
-left_by (Halving g s) left = (λ e. e, λ e. e)
-left_by (Plan m g s t) left = (λ e. e, λ e. e)
-left_by (WritePlan g s plan) left = (λ e. e, λ e. e)
-left_by (Grade g plan) left = (λ e. e, λ e. e)
-left_by (ListJob file out) left = (λ e. e, λ e. e)
-left_by (PlanJob file m plan) left = (λ e. e, λ e. e)
-left_by (GradePlan file plan grade) left = (λ e. e, λ e. e)
+unfolding read_refusal refusal plan_refusal host_answer list_refusal host_grade grade_refusal read_speeds read_holds
+    read_weights write_bytes probe_writes heuristic_writes halving_writes plan_writes write_plan_bytes list_writes
+    bytes_after host_writes host_grades
+left_by (TestJob g) lists = (λ e. e, λ e. e)
+left_by (ReadJob file es hs ws) lists = (λ e. e, λ e. e)
+left_by (WriteJob g file) lists = (λ e. e, λ e. e)
+left_by (Measure g s) lists = (λ e. e, λ e. e)
+left_by (Probe g B s) lists = (λ e. e, λ e. e)
+left_by (Heuristic g s) lists = (λ e. e, λ e. e)
+left_by (Halving g s) lists = (λ e. e, λ e. e)
+left_by (Plan m g s t) lists = (λ e. e, λ e. e)
+left_by (WritePlan g s plan) lists = (λ e. e, λ e. e)
+left_by (Grade g plan) lists = (λ e. e, λ e. e)
+left_by (ListJob file out) lists = (λ e. e, λ e. e)
+left_by (PlanJob file m plan) lists = (λ e. e, λ e. e)
+left_by (GradePlan file plan grade) lists = (λ e. e, λ e. e)
 
 -- So where the number is the same all is.
-alike_by : (limit : ℕ) (call : Call) → limited_to limit (processors_in call) (tests call) ≡ tests call → Alike limit call
+alike_by : (limit : ℕ) (call : Call) → limited_to limit (processors_in call) (tests call) ≡ tests call
+    → Alike limit call
 alike_by limit call e =
     let n : number_with limit call ≡ first_refusal (tests call) = ap first_refusal e in
     record {
@@ -150,10 +174,12 @@ module _ (l p : ℕ) where
       go true = omega arith
       go false = h
 
-  limited-within : (ts : List Test) → Numbered ts → first_refusal (limited_to l p ts) ≡ 0 → Memᴰ 7 (map (λ t. t.number) ts) → p ≤ l
+  limited-within : (ts : List Test) → Numbered ts → first_refusal (limited_to l p ts) ≡ 0
+      → Memᴰ 7 (map (λ t. t.number) ts) → p ≤ l
   limited-within [] n e m = absurd (Memᴰ.not-nil m)
   limited-within (t ∷ ts) n e m =
-      let h : T (limited l p t).passes = pass_head (limited l p t) (limited_to l p ts) (limited-number t (n.positive t (Memᴰ.head refl))) e in
+      let h : T (limited l p t).passes =
+      pass_head (limited l p t) (limited_to l p ts) (limited-number t (n.positive t (Memᴰ.head refl))) e in
       elim (Memᴰ.cases_cons m) [
         | inl k ↦
             leb→le p l (and_right (leb 1 p) (leb p l)
@@ -186,9 +212,11 @@ in_order (GradePlan file plan grade) c = Memᴰ.append_left (9 ∷ 12 ∷ 11 ∷
 
 accepted_within : (limit : ℕ) (call : Call) → Counts call → number_with limit call ≡ 0 → processors_in call ≤ limit
 accepted_within limit call c z =
-    limited-within limit (processors_in call) (tests call) (numbered call) z (subst (Memᴰ 7) (sym (demand_one call).ordered) (in_order call c))
+    limited-within limit (processors_in call) (tests call) (numbered call) z
+    (subst (Memᴰ 7) (sym (demand_one call).ordered) (in_order call c))
 
-kept : (limit : ℕ) (call : Call) → Counts call → processors_in call ≤ max_processors → number_with limit call ≡ 0 → Accepts call × Alike limit call
+kept : (limit : ℕ) (call : Call) → Counts call → processors_in call ≤ max_processors → number_with limit call ≡ 0
+    → Accepts call × Alike limit call
 kept limit call c k z =
     let same = within_both limit call (accepted_within limit call c z) k in
     (tested call ∙ ap first_refusal (sym same) ∙ z, alike_by limit call same)
@@ -198,9 +226,9 @@ pub file_length : (file : List ℕ) → file_refusal file ≡ 0
     → length file ≡ 8 * (head_records (edition_in file) + (length (speeds_of file) + length (weights_of file)))
 file_length file e =
     let r = file_early file e in
-    let c : Counted file (second_in file) (startup_in file) (length (speeds_of file)) (length (weights_of file)) = accepted_counts file r in
     let m : length file % 8 ≡ 0 = accepted_multiple file r in
-    let t : head_records (edition_in file) + (length (speeds_of file) + length (weights_of file)) ≡ length file / 8 = c.together in
+    let t : head_records (edition_in file) + (length (speeds_of file) + length (weights_of file)) ≡ record_count file =
+    accepted_together file r in
     omega (arith, m, t)
 
 pub one_head : (edition : Edition) → head_records edition ≤ 1
@@ -209,17 +237,21 @@ one_head First = omega arith
 one_head (Second c) = omega arith
 
 -- The tests that a file is listed by are as they are with our limit,
-listed_ours : (file : List ℕ) → limited_to max_processors (length (speeds_of file)) (listed_tests file) ≡ listed_tests file
+listed_ours : (file : List ℕ) → limited_to max_processors (length (speeds_of file)) (listed_tests file)
+    ≡ listed_tests file
 unfolding listed_tests enough_test
 listed_ours file = file_and file (enough_test (job_in file) ∷ []) refl
 
-listed : (limit : ℕ) (file : List ℕ) → file_refusal file ≡ 0 → length (speeds_of file) ≤ limit → listing_with limit file ≡ listing file
+listed : (limit : ℕ) (file : List ℕ) → file_refusal file ≡ 0 → length (speeds_of file) ≤ limit
+    → listing_with limit file ≡ listing file
 unfolding intake file_refusal listed_refusal
 listed limit file e h =
     let v = accepted_valid file e in
     let l = file_length file e in
-    ap (λ (f : List ℕ). listing_of (first_refusal (limited_to limit (length (speeds_of f)) (listed_tests f))) f) (take_all (intake_for limit) file (omega (arith, l, one_head (edition_in file), v.tasks_limit)))
-    ∙ ap (λ (ts : List Test). listing_of (first_refusal ts) file) (limits_same {l = limit} {m = max_processors} h v.processors_limit (listed_tests file) ∙ listed_ours file)
+    ap (λ (f : List ℕ). listing_of (first_refusal (limited_to limit (length (speeds_of f)) (listed_tests f))) f)
+    (take_all (intake_for limit) file (omega (arith, l, one_head (edition_in file), v.tasks_limit)))
+    ∙ ap (λ (ts : List Test). listing_of (first_refusal ts) file)
+    (limits_same {l = limit} {m = max_processors} h v.processors_limit (listed_tests file) ∙ listed_ours file)
     ∙ listed_whole file (omega (arith, l, one_head (edition_in file), v.tasks_limit, v.processors_limit))
 
 ours_listing : (file : List ℕ) → listing_with max_processors file ≡ listing file
@@ -231,7 +263,8 @@ ours_listing file =
 best : (job : Job) → 1 ≤ processors job → ((p : ℕ) → 1 ≤ speed_of job p) → T (enough job)
     → Best job (plan_of job) × ((d : List ℕ) → Best job d → d ≡ plan_of job)
 best job some positive enough-holds =
-    let b : Best job (plan_of job) = plan_of_best (record { proper = record { some = some; positive = positive }; enough-holds = enough-holds }) in
+    let b : Best job (plan_of job) =
+    plan_of_best (record { proper = record { some = some; positive = positive }; enough-holds = enough-holds }) in
     (b, λ d e. best_unique e b)
 
 room : (limit : ℕ) → max_processors ≤ limit → listing_room ≤ room_for limit

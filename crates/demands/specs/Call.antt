@@ -1,29 +1,33 @@
--- Every callable function in one type: what a call takes, what it says, the tests that it makes, what it leaves. A line says it by
--- the definition that the function's contract is an equation with. The rows are those of docs/API.md, in its order.
+-- Every callable function in one type: what a call takes, what it says, the tests that it makes, what it leaves. A
+-- line says it by the definition that the function's contract is an equation with. The rows are those of docs/API.md,
+-- in its order.
 use Rattle.std.specs.Prelude.{ℕ, zero, suc, ◌≡◌, Bool, cond, List, [], ◌∷◌, ◌++◌, eqb, length, take}
 use Rattle.bound.specs.declared.Bound.{Bound}
+use Rattle.chain.specs.Numbers.{chosen_of}
 use Rattle.chain.specs.Job.{Edition, startup_of, edition_of, Job, job_of, bottleneck}
 use Rattle.chain.specs.Probe as probing
 use Rattle.chain.specs.Heuristic as guessing
 use Rattle.chain.specs.Halving as splitting
 use Rattle.chain.specs.Refusal.{Test, nothing, measure_inputs, halving_inputs, call_tests, refusal}
-use Rattle.refusals.specs.Methods.{chosen_of}
-use Rattle.refusals.specs.Inputs.{plan_needed, bytes_needed, probe_inputs, heuristic_inputs, plan_inputs, write_inputs, write_plan_inputs}
+use Rattle.refusals.specs.Inputs.{plan_needed, bytes_needed, probe_inputs, heuristic_inputs, plan_inputs, write_inputs}
+use Rattle.refusals.specs.Inputs.{write_plan_inputs}
 use Rattle.refusals.specs.Answers.{Said, alone, bound_values, written_said}
 use Rattle.jobs.specs.Parse.{record_count, second_in, startup_in, speeds_of, holds_of, weights_of}
-use Rattle.jobs.specs.Answers.{read_said, read_tests, read_answer, read_speeds, read_holds, read_weights, write_answer, write_bytes}
-use Rattle.calls.specs.Answers.{measured_said, outcome_values, probed_said, measure_answer, probe_answer, probe_writes, heuristic_answer, heuristic_writes, halving_answer, halving_writes}
+use Rattle.jobs.specs.Answers.{read_said, read_tests, read_answer, read_speeds, read_holds, read_weights, write_answer}
+use Rattle.jobs.specs.Answers.{write_bytes}
+use Rattle.calls.specs.Answers.{measured_said, outcome_values, probed_said, measure_answer, probe_answer, probe_writes}
+use Rattle.calls.specs.Answers.{heuristic_answer, heuristic_writes, halving_answer, halving_writes}
 use Rattle.planfile.specs.Answers.{write_plan_answer, write_plan_bytes}
 use Rattle.planfile.specs.PlanFile.{grade_inputs}
-use Rattle.grading.specs.Answers.{graded_said, read_grade, grade_answer}
+use Rattle.grading.specs.Answers.{grade_values, graded_said, read_grade, grade_answer}
 use Rattle.grading.specs.Files.{grade_tests, host_grade, host_grades}
 use Rattle.planner.specs.Answers.{planned_said, chosen_values, plan_refusal, plan_answer, plan_writes, ScratchAfter}
 use Rattle.planner.specs.HostCall.{host_tests, host_answer, host_writes}
 use Rattle.listing.specs.Listing.{listing}
 use Rattle.listing.specs.Answers.{list_tests, list_answer, list_writes}
 
--- A job as a call by lists takes it. Scope 17.3: "By lists the edition is given as a yes or no, second or not, with c beside it". Scope 18.3: "by lists the
--- holds are a third list, in the order of the row".
+-- A job as a call by lists takes it. Scope 17.3: "By lists the edition is given as a yes or no, second or not, with c
+-- beside it". Scope 18.3: "by lists the holds are a third list, in the order of the row".
 pub record ByLists : Type 0 where
   pub second : Bool
   pub startup : ℕ
@@ -79,7 +83,8 @@ said (GradePlan file plan grade) = alone (host_grade file plan (length grade))
 -- The values that it says where nothing refuses it.
 abbrev pub values : Call → List ℕ
 values (TestJob g) = []
-values (ReadJob file es hs ws) = cond (second_in file) 2 1 ∷ startup_in file ∷ length (speeds_of file) ∷ length (weights_of file) ∷ []
+values (ReadJob file es hs ws) =
+    cond (second_in file) 2 1 ∷ startup_in file ∷ length (speeds_of file) ∷ length (weights_of file) ∷ []
 values (WriteJob g file) = bytes_needed (edition_by g) (job_by g) ∷ []
 values (Measure g s) = bound_values (bottleneck (job_by g) (take (suc (length g.speeds)) s))
 values (Probe g B s) = outcome_values (probing.probe (job_by g) B)
@@ -87,7 +92,7 @@ values (Heuristic g s) = bound_values (bottleneck (job_by g) (guessing.heuristic
 values (Halving g s) = bound_values (bottleneck (job_by g) (splitting.halving (job_by g)))
 values (Plan m g s t) = chosen_values (edition_by g) (job_by g) (chosen_of m)
 values (WritePlan g s plan) = plan_needed (job_by g) ∷ []
-values (Grade g plan) = (graded_said (read_grade (job_by g) plan)).values
+values (Grade g plan) = grade_values (read_grade (job_by g) plan)
 values (ListJob file out) = length (listing file) ∷ []
 values (PlanJob file m plan) = []
 values (GradePlan file plan grade) = []
@@ -124,7 +129,8 @@ numbers (ListJob file out) = 9 ∷ []
 numbers (PlanJob file m plan) = 1 ∷ 2 ∷ 3 ∷ 4 ∷ 15 ∷ 5 ∷ 6 ∷ 16 ∷ 7 ∷ 8 ∷ 9 ∷ 17 ∷ 18 ∷ []
 numbers (GradePlan file plan grade) = 2 ∷ 3 ∷ 4 ∷ 15 ∷ 5 ∷ 6 ∷ 16 ∷ 7 ∷ 8 ∷ 9 ∷ 12 ∷ 11 ∷ 13 ∷ []
 
--- Scope 8.3: "the tests 3, 4, 15, 5, 6 and 16 go record by record from the front, within a record in this order". Of n records:
+-- Scope 8.3: "the tests 3, 4, 15, 5, 6 and 16 go record by record from the front, within a record in this order". Of n
+-- records:
 unfoldable pub records_order : ℕ → List ℕ
 records_order zero = []
 records_order (suc n) = records_order n ++ 3 ∷ 4 ∷ 15 ∷ 5 ∷ 6 ∷ 16 ∷ []
@@ -136,9 +142,9 @@ file_order file = 2 ∷ (records_order (record_count file) ++ 7 ∷ 8 ∷ [])
 unfoldable pub free_order : ℕ → List ℕ
 free_order m = cond (eqb m 4) (18 ∷ []) []
 
--- Scope 8.2: "The tests are made in the order of the numbers, but 14 directly after 8, 17 and then 18 directly after 9, 12 before 11, 15 directly
--- after 4, and 16 directly after 6 or, in lists, directly before 5": the number of each test, 9 for each list that is lent and for the list of
--- holds.
+-- Scope 8.2: "The tests are made in the order of the numbers, but 14 directly after 8, 17 and then 18 directly after
+-- 9, 12 before 11, 15 directly after 4, and 16 directly after 6 or, in lists, directly before 5": the number of each
+-- test, 9 for each list that is lent and for the list of holds.
 abbrev pub order : Call → List ℕ
 order (TestJob g) = numbers (TestJob g)
 order (ReadJob file es hs ws) = file_order file ++ 9 ∷ 9 ∷ 9 ∷ []
@@ -154,7 +160,8 @@ order (ListJob file out) = numbers (ListJob file out)
 order (PlanJob file m plan) = 1 ∷ (file_order file ++ 9 ∷ 17 ∷ free_order m)
 order (GradePlan file plan grade) = file_order file ++ 9 ∷ 12 ∷ 11 ∷ 13 ∷ []
 
--- The lists and buffers that are lent to it for writing. What it only reads it cannot write: a `&[..]` of its signature.
+-- The lists and buffers that are lent to it for writing. What it only reads it cannot write: a `&[..]` of its
+-- signature.
 abbrev pub lent : Call → List (List ℕ)
 lent (TestJob g) = []
 lent (ReadJob file es hs ws) = es ∷ hs ∷ ws ∷ []
@@ -173,7 +180,8 @@ lent (GradePlan file plan grade) = grade ∷ []
 -- It leaves these in their place. Of the work numbers of a plan this says what its contract does, and no more.
 abbrev pub Leaves : Call → List (List ℕ) → Type 0
 Leaves (TestJob g) left = left ≡ []
-Leaves (ReadJob file es hs ws) left = left ≡ read_speeds file es hs ws ∷ read_holds file es hs ws ∷ read_weights file es hs ws ∷ []
+Leaves (ReadJob file es hs ws) left =
+    left ≡ read_speeds file es hs ws ∷ read_holds file es hs ws ∷ read_weights file es hs ws ∷ []
 Leaves (WriteJob g file) left = left ≡ write_bytes (edition_by g) (job_by g) file ∷ []
 Leaves (Measure g s) left = left ≡ []
 Leaves (Probe g B s) left = left ≡ probe_writes (job_by g) B s ∷ []

@@ -1,13 +1,14 @@
 -- Crossings, values and moves of the table, in the words of the code.
 -- Assumes nothing.
-use Prim.Native.Nat.{ℕ, zero, suc, ◌+◌, ◌-◌, ◌*◌, ◌^◌, ◌≤◌, ◌<◌}
+use Prim.Native.Nat.{ℕ, zero, suc, ◌+◌, ◌-◌, ◌*◌, ◌^◌, ◌≤◌, ◌<◌, min}
 use mathlib.Core.Path.{◌≡◌, sym, ap, ap₂, subst, ◌∙◌}
-use mathlib.Core.Bool.{Bool}
+use mathlib.Core.Bool.{Bool, true, false}
 use mathlib.Core.List.{List}
 use mathlib.Core.Logic.{◌≢◌}
 use native.Mathlib.Omega.{arith}
 use native.Mathlib.Nat.{mul-le-mul}
 use native.Mathlib.Decide.{ℕ_discrete}
+use native.Mathlib.Numerals.{add-one}
 use lib.Dec.{lit<}
 use lib.ListN.{get_or}
 use Rattle.bound.specs.declared.Bound.{Bound}
@@ -24,7 +25,7 @@ use Rattle.chain.proofs.Table.{start_unlimited, start_limited, start_keeps, cros
 use Rattle.chain.proofs.Within.{offer_part}
 use Rattle.parts.specs.Prefix.{load_between, Ready}
 use Rattle.parts.proofs.Laws.{speed_read, speed_bound}
-use Rattle.dynamic.specs.Rows.{entry_at, RowReady, FreeTo}
+use Rattle.dynamic.specs.Rows.{entry_at, RowAt, Begins}
 
 -- What the code's test of two bounds says of the bounds that they are.
 pub tested : {B C X Y : Bound} {r t : Bool} → B ≡ X → C ≡ Y → r ≡ le B C → r ≡ t → le X Y ≡ t
@@ -34,14 +35,14 @@ tested e f h k = sym (ap₂ le e f) ∙ sym h ∙ k
 pub narrow_same : {B C : Bound} → B ≡ C → Narrow C → Narrow B
 narrow_same e s = subst Narrow (sym e) s
 
--- The speed that the code reads is that of the processor after p.
-pub next_speed : (job : Job) (p : ℕ) {k : ℕ} → k ≡ suc p → suc p < processors job → get_or job.speeds k 0 ≡ speed_of job (suc p)
-next_speed job p e h = ap (λ (q : ℕ). get_or job.speeds q 0) e ∙ speed_read job (suc p) h
+-- The speed that the code reads is that of the processor behind p.
+pub next_speed : (job : Job) (p : ℕ) → suc p < processors job → get_or job.speeds (p + 1) 0 ≡ speed_of job (suc p)
+next_speed job p h = ap (λ (q : ℕ). get_or job.speeds q 0) (add-one p) ∙ speed_read job (suc p) h
 
--- What is read of the row before is its value,
-pub row_read : {job : Job} {xs : List ℕ} {o p k : ℕ} {B : Bound} → RowReady job xs o p → k ≤ tasks job → B ≡ entry_at xs o k
+-- What is read of a whole row is its value,
+pub row_read : {job : Job} {xs : List ℕ} {p k : ℕ} {B : Bound} → RowAt job xs p (suc (tasks job)) → k ≤ tasks job → B ≡ entry_at xs k
     → B ≡ table_value job p k
-row_read {job} {xs} {o} {p} {k} r h f = f ∙ r.row.entries k (omega arith)
+row_read {k = k} r h f = f ∙ r.entries k (omega arith)
 
 -- and the bound of a part that keeps the hold is what it offers.
 pub part_offered : {job : Job} {xs : List ℕ} {e k i : ℕ} {B : Bound} (p : ℕ) → Ready job xs → start_of job (suc p) i ≤ k → k ≤ i → i ≤ tasks job
@@ -54,22 +55,47 @@ pub crossing_later : (job : Job) (p i : ℕ) {first at : ℕ} → first ≡ star
     → start_of job (suc p) i < at
 crossing_later job p i e f n = omega (arith, (crossing_is job p i).from)
 
+-- How many entries of a row have j begin at 0, with hold h: all without a limit, else as many as the hold and one more, and no more than there are.
+pub record Free (h n free : ℕ) : Type 0 where
+  pub to : free ≤ suc n
+  pub limited : h ≢ 0 → free ≤ suc h
+  pub rest : free ≤ n → (0 < h) × (free ≡ suc h)
+
+pub free_unlimited : {h n free : ℕ} → h ≡ 0 → free ≡ n + 1 → Free h n free
+free_unlimited e f = record { to = omega arith; limited = λ z. absurd (z e); rest = λ l. absurd (let z : ⊥ = omega arith in z) }
+
+pub free_limited : {h n free : ℕ} → h ≢ 0 → free ≡ min (n + 1) (h + 1) → Free h n free
+free_limited f e = record { to = omega arith; limited = λ z. omega arith; rest = λ l. (omega arith, omega arith) }
+
 -- Where j begins: with a limit, at i less the hold; at 0 up to the hold, and everywhere without a limit.
 module _ (job : Job) (p : ℕ) {h : ℕ} (e : h ≡ hold_of job (suc p)) where
   pub start_behind : (i : ℕ) → 0 < h → start_of job (suc p) i ≡ i - h
   start_behind i l = omega (arith, start_limited job (suc p) i (λ z. omega arith))
 
-  pub free_to : (end : ℕ) → end ≤ suc (tasks job) → (h ≢ 0 → end ≤ suc h) → FreeTo job p end
-  free_to end l f =
-      record {
-        to = l;
-        begins =
-            λ i k.
-            elim (ℕ_discrete h 0) [
-              | yes z ↦ start_unlimited job (suc p) i (omega arith)
-              | no n ↦ omega (arith, start_behind i (omega arith), f n)
-            ];
-      }
+  -- So at the first `free` entries it is at 0, and behind them it is limited.
+  module _ {free : ℕ} (w : Free h (tasks job) free) where
+    pub begins_free : Begins job p false h 0 free
+    begins_free =
+        record {
+          ordered = omega arith;
+          inside = w.to;
+          behind = λ e. absurd (let z : ◌≡◌ {A = ℕ} 0 1 = cc in let y : ⊥ = omega arith in y);
+          starts =
+              λ i l m.
+              elim (ℕ_discrete h 0) [
+                | yes z ↦ start_unlimited job (suc p) i (omega arith)
+                | no n ↦ omega (arith, start_behind i (omega arith), w.limited n)
+              ];
+        }
+
+    pub begins_limited : {all : ℕ} → all ≡ suc (tasks job) → Begins job p true h free all
+    begins_limited e =
+        record {
+          ordered = omega (arith, w.to);
+          inside = omega arith;
+          behind = λ t l. omega (arith, w.rest (omega arith));
+          starts = λ i l m. start_behind i (omega (arith, w.rest (omega arith)));
+        }
 
 -- The value at i: that of the row before at the crossing; past where j begins, the lesser of it and of the part before the crossing.
 module _ (job : Job) (p i : ℕ) {at : ℕ} {B : Bound} (e : at ≡ crossing job p i) (b : B ≡ table_value job p at) where

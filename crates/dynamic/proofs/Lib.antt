@@ -1,3 +1,3 @@
 pub mod Crossing
-pub mod Scratch
 pub mod Laws
+pub mod Row

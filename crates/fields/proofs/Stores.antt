@@ -1,29 +1,18 @@
 -- Bytes put at a place of a list.
 -- Assumes nothing.
-use Prim.Native.Nat.{ℕ, suc, ◌+◌, ◌/◌, ◌%◌, ◌≤◌}
+use Prim.Native.Nat.{ℕ, ◌+◌, ◌-◌, ◌≤◌}
 use mathlib.Core.Path.{◌≡◌, sym, ap, ap₂, ◌∙◌}
-use mathlib.Core.List.{List, ◌++◌}
+use mathlib.Core.List.{List, ◌++◌, append_assoc}
 use native.Mathlib.Omega.{arith}
-use lib.ListN.{length, take, drop, set, length-append, length-drop}
-use lib.Seq.{take_at, length-take-le, drop-drop, drop-append-add, sets-eq}
-use Rattle.fields.specs.Field.{field_size, field_bytes, half_size, half_bytes}
+use lib.ListN.{length, take, drop, length-append, length-drop}
+use lib.Seq.{take_at, length-take-le, drop-drop, drop-append-add}
 
--- Four stores make a field.
-pub field_stores : (l : List ℕ) (a v : ℕ) → a + field_size ≤ length l
-    → set (set (set (set l a (v % 256)) (a + 1) (v / 256 % 256)) (a + 2) (v / 65536 % 256)) (a + 3) (v / 16777216 % 256)
-    ≡ take a l ++ field_bytes v ++ drop (a + field_size) l
-unfolding field_bytes
-field_stores l a v h =
-    let e1 : a + 1 ≡ suc a = omega arith in
-    let e2 : a + 2 ≡ suc (suc a) = omega arith in
-    let e3 : a + 3 ≡ suc (suc (suc a)) = omega arith in
-    rw (e1, e2, e3) (sets-eq (field_bytes v) l a h)
-
--- Two make half a field.
-pub half_stores : (l : List ℕ) (a v : ℕ) → a + half_size ≤ length l
-    → set (set l a (v % 256)) (a + 1) (v / 256 % 256) ≡ take a l ++ half_bytes v ++ drop (a + half_size) l
-unfolding half_bytes
-half_stores l a v h = let e : a + 1 ≡ suc a = omega arith in rw (e) (sets-eq (half_bytes v) l a h)
+-- Bytes copied over k bytes from place a on, as the code leaves them.
+pub part_copied : (l R : List ℕ) (a k : ℕ) {now : List ℕ} → now ≡ R
+    → take a l ++ (now ++ drop (a + k - a) (drop a l)) ≡ take a l ++ R ++ drop (a + k) l
+part_copied l R a k {now} e =
+    ap₂ (λ (x y : List ℕ). take a l ++ (x ++ y)) e (drop-drop (a + k - a) a l ∙ ap (λ (n : ℕ). drop n l) (let m : a + (a + k - a) ≡ a + k = omega arith in m))
+    ∙ sym (append_assoc (take a l) R (drop (a + k) l))
 
 -- Bytes put within a list leave its length.
 pub put_length : (l R : List ℕ) (a k : ℕ) → length R ≡ k → a + k ≤ length l → length (take a l ++ R ++ drop (a + k) l) ≡ length l

@@ -3,13 +3,17 @@
 use Prim.Native.Nat.{ℕ, zero, suc, ◌+◌, ◌*◌, ◌≤◌, ◌<◌, ◌^◌}
 use mathlib.Core.Path.{◌≡◌, refl, sym, ap, ap₂, subst, ◌∙◌}
 use mathlib.Core.Bool.{Bool, true, false, ◌&&◌, cond}
-use mathlib.Core.List.{List, [], ◌∷◌, ◌++◌}
+use mathlib.Core.List.{List, [], ◌∷◌, ◌++◌, map}
 use native.Mathlib.Omega.{arith}
 use native.Mathlib.Numerals.{add-one}
-use lib.Dec.{T, eqb}
+use lib.Dec.{eqb}
 use lib.ListN.{length, get_or, drop, set, length-set}
 use lib.Seq.{get_or-set_same}
 use borrow.Author.Tests.{ne_eqb, eq-eqb}
+use Rattle.std.specs.List.{list_all, range_with_len}
+use Rattle.std.proofs.Common.{zero-add}
+use Rattle.std.proofs.lemmas.List.Folds.{list_all-append, list_all-map}
+use Rattle.std.proofs.lemmas.List.FromFn.{map-range_with_len_more}
 use Rattle.bound.specs.declared.Bound.{Bound}
 use Rattle.bound.specs.Order.{le}
 use Rattle.chain.specs.declared.Method.TheVariants.{Bisection}
@@ -19,8 +23,7 @@ use Rattle.chain.specs.Job.{Job, Valid, processors, speed_of, part_load, at, Par
 use Rattle.chain.specs.Plan.{BisectionEnds, takes}
 use Rattle.chain.specs.Grade.{unbeaten}
 use Rattle.chain.specs.Refusal.{PlanRecords, separators_of, joined}
-use Rattle.chain.proofs.Indices.{all-at, table_of}
-use Rattle.chain.proofs.Tests.{same_test}
+use Rattle.chain.proofs.Indices.{table_of}
 use Rattle.chain.proofs.Parts.{valid_proper, valid_plannable}
 use Rattle.chain.proofs.Ranges.{probe_products, bottleneck_small}
 use Rattle.chain.proofs.Demand.{method_least}
@@ -30,24 +33,10 @@ use Rattle.fields.specs.Field.{field_at}
 use Rattle.parts.proofs.Front.{Front, front_next, front_end}
 use Rattle.planfile.specs.PlanFile.{plan_read}
 use Rattle.planfile.proofs.Reading.{read_length, read_first, read_next}
-use Rattle.grading.specs.declared.Graded.{Graded}
-use Rattle.grading.specs.Inner.{tells_at}
+use Rattle.grading.specs.declared.grades.Grade.{Grade}
+use Rattle.grading.specs.declared.PlanRecord.{PlanRecord}
+use Rattle.grading.specs.Inner.{record_at, tells_at}
 use Rattle.grading.specs.Answers.{grade_of}
-
--- One comparison more.
-pub differs : (b : Bool) (x y : ℕ) → (x ≡ y → ⊥) → false ≡ (b && eqb x y)
-differs b x y h = go b (ne_eqb x y h)
-  where
-    go : (b : Bool) {c : Bool} → c ≡ false → false ≡ (b && c)
-    go true e = sym e
-    go false e = refl
-
-pub agrees : (b : Bool) (x y : ℕ) → x ≡ y → b ≡ (b && eqb x y)
-agrees b x y h = go b (eq-eqb x y h)
-  where
-    go : (b : Bool) {c : Bool} → c ≡ true → b ≡ (b && c)
-    go true e = sym e
-    go false e = refl
 
 -- The loop that takes the separators: the first p + 1 are taken, and b says whether the first p records begin at theirs.
 module _ (job : Job) (plan : List ℕ) where
@@ -78,20 +67,20 @@ module _ (job : Job) (plan : List ℕ) where
       first (suc k) m = absurd (let z : ⊥ = omega arith in z)
 
   module _ {before now : List ℕ} {b : Bool} {p : ℕ} (t : Taking before now b p) where
-    pub taking_next : p < processors job → (m n : ℕ) {x y v : ℕ} {c : Bool} → x ≡ field_at plan m → m ≡ 16 * p → y ≡ get_or now p 0
-        → c ≡ (b && eqb x y) → v ≡ field_at plan n → n ≡ 16 * p + 4 → Taking before (set now (p + 1) v) c (p + 1)
+    pub taking_next : p < processors job → {r : PlanRecord} → r ≡ record_at plan p
+        → Taking before (set now (p + 1) r.to) (b && eqb r.from (get_or now p 0)) (p + 1)
     unfolding all
-    taking_next h m n {x} {y} {v} {c} ex em ey ec ev en =
+    taking_next h {r} e =
         record {
           done = omega arith;
           room = t.room;
           front =
-              subst (λ (k : ℕ). Front (at (separators_of job file)) (suc k) before (set now k v)) (sym (add-one p))
-              (subst (λ (k : ℕ). Front (at (separators_of job file)) k before (set now (suc p) v)) (add-one (suc p))
-              (front_next v t.front (omega (arith, t.room)) (ev ∙ ap (field_at plan) en ∙ sym (read_next job file p h))));
+              subst (λ (k : ℕ). Front (at (separators_of job file)) (suc k) before (set now k r.to)) (sym (add-one p))
+              (subst (λ (k : ℕ). Front (at (separators_of job file)) k before (set now (suc p) r.to)) (add-one (suc p))
+              (front_next r.to t.front (omega (arith, t.room)) (ap (λ (q : PlanRecord). q.to) e ∙ sym (read_next job file p h))));
           begins =
-              ec ∙ ap₂ (λ (d : Bool) (z : ℕ). d && eqb z y) t.begins (ex ∙ ap (field_at plan) em)
-              ∙ ap (λ (z : ℕ). all begun p && eqb (file.from p) z) (ey ∙ t.front.done p (omega arith))
+              ap₂ (λ (c : Bool) (q : PlanRecord). c && eqb q.from (get_or now p 0)) t.begins e
+              ∙ ap (λ (z : ℕ). all begun p && eqb (file.from p) z) (t.front.done p (omega arith))
               ∙ ap (all begun) (sym (add-one p));
         }
 
@@ -122,30 +111,36 @@ taken_all job plan l v t h = (
   taken_front job plan t h ∙ ap (λ (xs : List ℕ). separators_of job (plan_read job plan) ++ xs) (drop_first (processors job) l v),
 )
 
--- The records, one by one.
-pub all_none : (f : ℕ → Bool) → all f 0 ≡ true
-unfolding all
-all_none f = refl
-
-pub all_more : (f : ℕ → Bool) (p : ℕ) → all f p ≡ true → f p ≡ true → all f (p + 1) ≡ true
-unfolding all
-all_more f p e g = ap (all f) (add-one p) ∙ ap₂ (λ (x y : Bool). x && y) e g
-
-pub all-ends : (f : ℕ → Bool) (n p : ℕ) → p < n → f p ≡ false → false ≡ all f n
-all-ends f n p h e = same_test false (all f n) (λ x. absurd x) (λ t. subst T e (all-at f n t p h))
-
 -- The load of processor p's part, by its two separators.
-pub load_read : (job : Job) (s : List ℕ) (p : ℕ) {i j : ℕ} → i ≡ at s p → j ≡ at s (p + 1) → part_load job i j ≡ part_load job (at s p) (at s (suc p))
-load_read job s p e f = ap₂ (part_load job) e (f ∙ ap (at s) (add-one p))
+pub load_read : (job : Job) (s : List ℕ) (p : ℕ) {v : ℕ} → v ≡ part_load job (at s p) (at s (p + 1)) → v ≡ part_load job (at s p) (at s (suc p))
+load_read job s p e = e ∙ ap (λ (q : ℕ). part_load job (at s p) (at s q)) (add-one p)
 
--- What is compared at processor p: the load of its part, then its speed. The fields are read at the places m and n.
-pub tells_read : (job : Job) (s plan : List ℕ) (p m n : ℕ) {x y v w : ℕ} {b c : Bool} → x ≡ field_at plan m → m ≡ 16 * p + 8
-    → v ≡ part_load job (at s p) (at s (suc p)) → y ≡ field_at plan n → n ≡ 16 * p + 12 → w ≡ speed_of job p → b ≡ (true && eqb x v)
-    → c ≡ (b && eqb y w) → c ≡ tells_at job s plan p
-unfolding tells_at
-tells_read job s plan p m n {x} {y} {v} {w} ex em ev ey en ew eb ec =
-    ec ∙ ap (λ (d : Bool). d && eqb y w) (eb ∙ ap₂ (λ (i j : ℕ). eqb i j) (ex ∙ ap (field_at plan) em) ev)
-    ∙ ap₂ (λ (i j : ℕ). eqb (field_at plan (16 * p + 8)) (part_load job (at s p) (at s (suc p))) && eqb i j) (ey ∙ ap (field_at plan) en) ew
+-- What is told at processor p: r is its record, and v is the load of its part.
+module _ (job : Job) (s plan : List ℕ) (p : ℕ) {r : PlanRecord} {v : ℕ} (e : r ≡ record_at plan p) (f : v ≡ part_load job (at s p) (at s (suc p))) where
+  told_is : (eqb r.load v && eqb r.speed (speed_of job p)) ≡ tells_at job s plan p
+  unfolding tells_at
+  told_is = ap₂ (λ (q : PlanRecord) (w : ℕ). eqb q.load w && eqb q.speed (speed_of job p)) e f
+
+  pub load_told : {w : ℕ} → w ≡ speed_of job p → r.load ≡ v → eqb r.speed w ≡ tells_at job s plan p
+  load_told g h = ap₂ (λ (b : Bool) (w : ℕ). b && eqb r.speed w) (sym (eq-eqb r.load v h)) g ∙ told_is
+
+  pub load_untold : (r.load ≡ v → ⊥) → eqb r.load v ≡ tells_at job s plan p
+  load_untold h = let n = ne_eqb r.load v h in n ∙ ap (λ (b : Bool). b && eqb r.speed (speed_of job p)) (sym n) ∙ told_is
+
+-- The numbers of a range, tested one by one.
+pub range_all : (f : ℕ → Bool) (n : ℕ) → list_all f (range_with_len 0 n) ≡ all f n
+unfolding all
+range_all f zero = refl
+range_all f (suc n) =
+    sym (list_all-map (λ (b : Bool). b) f (range_with_len 0 (suc n)))
+    ∙ ap (list_all (λ (b : Bool). b)) (ap (λ (m : ℕ). map f (range_with_len 0 m)) (sym (add-one n)) ∙ map-range_with_len_more f 0 n n (zero-add n))
+    ∙ list_all-append (λ (b : Bool). b) (map f (range_with_len 0 n)) (f n ∷ [])
+    ∙ ap (λ (b : Bool). b && (f n && true)) (list_all-map (λ (b : Bool). b) f (range_with_len 0 n) ∙ range_all f n)
+    ∙ ap (λ (b : Bool). all f n && b) (last (f n))
+  where
+    last : (b : Bool) → (b && true) ≡ b
+    last true = refl
+    last false = refl
 
 -- The grade of a partition: C is its bottleneck, B what bisection found.
 module _ {job : Job} (v : Valid job) {s : List ℕ} (part : Partition job s) {n : ℕ} {B C : Bound} (is : C ≡ bottleneck job s) (ended : BisectionEnds job n B) where
@@ -157,12 +152,12 @@ module _ {job : Job} (v : Valid job) {s : List ℕ} (part : Partition job s) {n 
   graded =
       ap (λ (D : Bound). le D B) is ∙ unbeaten-at (valid_proper v) s (method_least (valid_plannable v (partition_enough job part)) Bisection tt n B ended)
 
-  pub graded_by : (b : Bool) → b ≡ le C B → cond b Graded.Best Graded.Valid ≡ grade_of job s
+  pub graded_by : (b : Bool) → b ≡ le C B → cond b Grade.Best Grade.Valid ≡ grade_of job s
   unfolding grade_of
-  graded_by b e = ap (λ (c : Bool). cond c Graded.Best Graded.Valid) (e ∙ graded)
+  graded_by b e = ap (λ (c : Bool). cond c Grade.Best Grade.Valid) (e ∙ graded)
 
-  pub graded_best : {b : Bool} → b ≡ le C B → b ≡ true → Graded.Best ≡ grade_of job s
-  graded_best {b} e t = ap (λ (c : Bool). cond c Graded.Best Graded.Valid) (sym t) ∙ graded_by b e
+  pub graded_best : {b : Bool} → b ≡ le C B → b ≡ true → Grade.Best ≡ grade_of job s
+  graded_best {b} e t = ap (λ (c : Bool). cond c Grade.Best Grade.Valid) (sym t) ∙ graded_by b e
 
-  pub graded_valid : {b : Bool} → b ≡ le C B → b ≡ false → Graded.Valid ≡ grade_of job s
-  graded_valid {b} e t = ap (λ (c : Bool). cond c Graded.Best Graded.Valid) (sym t) ∙ graded_by b e
+  pub graded_valid : {b : Bool} → b ≡ le C B → b ≡ false → Grade.Valid ≡ grade_of job s
+  graded_valid {b} e t = ap (λ (c : Bool). cond c Grade.Best Grade.Valid) (sym t) ∙ graded_by b e

@@ -7,9 +7,12 @@ use mathlib.Core.List.{List, [], ◌∷◌, ◌++◌, Memᴰ}
 use mathlib.Core.Logic.{◌≢◌, ◌↔◌}
 use native.Mathlib.Omega.{arith}
 use native.Mathlib.Decide.{dec_le}
-use lib.Dec.{T, eqb}
+use lib.Dec.{T}
 use lib.ListN.{length, drop}
+use Rattle.std.specs.Prelude.{Result, Ok}
 use Rattle.bound.specs.Order.{◌≼◌, ◌≺◌}
+use Rattle.chain.specs.declared.Refusal.{Refusal}
+use Rattle.chain.specs.Numbers.{answered}
 use Rattle.chain.specs.Job.{Job, Valid, enough, Partition, bottleneck}
 use Rattle.chain.specs.Plan.{plan_of}
 use Rattle.chain.specs.Grade.{unbeaten}
@@ -20,9 +23,10 @@ use Rattle.chain.proofs.Demand.{plan_of_best}
 use Rattle.chain.proofs.Grade.{unbeaten_exactly, plan_unbeaten, beaten_exactly}
 use Rattle.chain.proofs.Refusals.{Numbered, numbered_nil, numbered_cons, call_numbered, plan_accepted, append_accepted, others_decide, gives, given_number, numbers-append, numbers_behind, first_refusal_same}
 use Rattle.fields.specs.Field.{Bytes}
-use Rattle.refusals.specs.Answers.{Said, accepting, alone, said_by}
+use Rattle.refusals.specs.Answers.{said_by}
 use Rattle.refusals.proofs.Accepted.{accepted}
-use Rattle.refusals.proofs.Answering.{said_choice, number_of_lem}
+use Rattle.refusals.proofs.Answering.{answer_said_lem, number_of_lem}
+use Rattle.refusals.proofs.Known.{refusal_known}
 use Rattle.refusals.proofs.Tests.{length_short, length-enough}
 use Rattle.refusals.proofs.Steps.{passes}
 use Rattle.refusals.proofs.Lent.{lent-front, lent_refused}
@@ -32,8 +36,8 @@ use Rattle.jobs.proofs.Promises.{from_two, file_in}
 use Rattle.jobs.proofs.RoundTrip.{accepted_valid}
 use Rattle.planfile.specs.PlanFile.{plan_bytes, TruePlan, plan_read, grade_inputs}
 use Rattle.planfile.proofs.Reading.{read_back, file_told, true_exactly}
-use Rattle.grading.specs.declared.Graded.{Graded}
-use Rattle.grading.specs.Answers.{graded_said, grade_of, read_grade, graded_of, grade_answer}
+use Rattle.grading.specs.declared.grades.Grade.{Grade}
+use Rattle.grading.specs.Answers.{grade_values, graded_said, grade_of, read_grade, grade_answer}
 use Rattle.grading.specs.Files.{grade_tests, grade_refusal, file_grade, lent_grade, host_grade, host_grades}
 
 -- Room for a grade.
@@ -41,26 +45,14 @@ room_enough : (lent : ℕ) → first_refusal (length_test 1 lent ∷ []) ≡ 0 �
 room_enough lent e =
     elim (dec_le 1 lent) [ yes h ↦ h | no h ↦ let z = length_short 1 lent (omega arith) in absurd (omega (arith, e, z)) ]
 
--- A grade says its number and nothing else.
-grade_says : (job : Job) (s : List ℕ) → graded_said (grade_of job s) ≡ accepting (graded_said (grade_of job s)).values
-unfolding grade_of
-grade_says job s = go (unbeaten job s)
-  where
-    go : (b : Bool) → graded_said (cond b Graded.Best Graded.Valid) ≡ accepting (graded_said (cond b Graded.Best Graded.Valid)).values
-    go true = refl
-    go false = refl
-
 -- By lists: the answer says the grade, or the refusal's number;
 module _ (job : Job) (plan : List ℕ) where
-  pub grade_said : graded_said (grade_answer job plan) ≡ said_by (refusal job (grade_inputs job plan)) (graded_said (read_grade job plan)).values
-  unfolding grade_answer graded_of said_by read_grade
-  grade_said =
-      let n = refusal job (grade_inputs job plan) in
-      said_choice graded_said (eqb n 0) (grade_of job (separators_of job (plan_read job plan))) (Graded.Refused n)
-      ∙ ap (λ (x : Said). cond (eqb n 0) x (alone n)) (grade_says job (separators_of job (plan_read job plan)))
+  pub grade_said : graded_said (grade_answer job plan) ≡ said_by (refusal job (grade_inputs job plan)) (grade_values (read_grade job plan))
+  unfolding grade_answer
+  grade_said = answer_said_lem (refusal_known job (grade_inputs job plan)) grade_values (read_grade job plan)
 
   pub grade_number : (graded_said (grade_answer job plan)).number ≡ refusal job (grade_inputs job plan)
-  grade_number = number_of_lem (graded_said (read_grade job plan)).values grade_said
+  grade_number = number_of_lem (grade_values (read_grade job plan)) grade_said
 
   -- 0, 16, or one of 5 to 9, 12, 11 and 13;
   pub grade_numbers : Memᴰ (graded_said (grade_answer job plan)).number (0 ∷ 16 ∷ 5 ∷ 6 ∷ 7 ∷ 8 ∷ 9 ∷ 12 ∷ 11 ∷ 13 ∷ [])
@@ -89,32 +81,32 @@ module _ (job : Job) (plan : List ℕ) where
   )
 
   -- Where nothing refuses it, the answer is the grade of the separators that are read.
-  pub grade_accepted : refusal job (grade_inputs job plan) ≡ 0 → grade_answer job plan ≡ grade_of job (separators_of job (plan_read job plan))
-  unfolding grade_answer graded_of read_grade
-  grade_accepted e = ap (λ (n : ℕ). graded_of n (grade_of job (separators_of job (plan_read job plan)))) e
+  pub grade_accepted : refusal job (grade_inputs job plan) ≡ 0 → grade_answer job plan ≡ Ok (grade_of job (separators_of job (plan_read job plan)))
+  unfolding grade_answer answered read_grade
+  grade_accepted e = ap (λ (n : ℕ). answered n (grade_of job (separators_of job (plan_read job plan)))) e
 
 -- Best: no division has a smaller bottleneck. Valid: some division has.
 module _ {job : Job} (v : Valid job) (s : List ℕ) where
-  pub best_exactly : (grade_of job s ≡ Graded.Best) ↔ ((t : List ℕ) → Partition job t → bottleneck job s ≼ bottleneck job t)
+  pub best_exactly : (grade_of job s ≡ Grade.Best) ↔ ((t : List ℕ) → Partition job t → bottleneck job s ≼ bottleneck job t)
   unfolding grade_of
   best_exactly = (
     λ e. (unbeaten_exactly (valid_proper v) s).0 (T_of (is_best (unbeaten job s) e)),
-    λ h. ap (λ (b : Bool). cond b Graded.Best Graded.Valid) (T_true (unbeaten job s) ((unbeaten_exactly (valid_proper v) s).1 h)),
+    λ h. ap (λ (b : Bool). cond b Grade.Best Grade.Valid) (T_true (unbeaten job s) ((unbeaten_exactly (valid_proper v) s).1 h)),
   )
     where
-      is_best : (b : Bool) → cond b Graded.Best Graded.Valid ≡ Graded.Best → b ≡ true
+      is_best : (b : Bool) → cond b Grade.Best Grade.Valid ≡ Grade.Best → b ≡ true
       is_best true e = refl
-      is_best false e = let z : ◌≡◌ {A = ℕ} 0 1 = cc e in absurd (let w : ⊥ = omega arith in w)
+      is_best false e = absurd (cc e)
 
-  pub valid_exactly : T (enough job) → (grade_of job s ≡ Graded.Valid) ↔ ((t : List ℕ) × Partition job t × (bottleneck job t ≺ bottleneck job s))
+  pub valid_exactly : T (enough job) → (grade_of job s ≡ Grade.Valid) ↔ ((t : List ℕ) × Partition job t × (bottleneck job t ≺ bottleneck job s))
   unfolding grade_of
   valid_exactly h = (
     λ e. (beaten_exactly (valid_plannable v h) s).0 (is_valid (unbeaten job s) e),
-    λ x. ap (λ (b : Bool). cond b Graded.Best Graded.Valid) ((beaten_exactly (valid_plannable v h) s).1 x),
+    λ x. ap (λ (b : Bool). cond b Grade.Best Grade.Valid) ((beaten_exactly (valid_plannable v h) s).1 x),
   )
     where
-      is_valid : (b : Bool) → cond b Graded.Best Graded.Valid ≡ Graded.Valid → b ≡ false
-      is_valid true e = let z : ◌≡◌ {A = ℕ} 0 1 = cc e in absurd (let w : ⊥ = omega arith in w)
+      is_valid : (b : Bool) → cond b Grade.Best Grade.Valid ≡ Grade.Valid → b ≡ false
+      is_valid true e = absurd (cc e)
       is_valid false e = refl
 
 -- The writer's file of any division is accepted, and has the grade of that division;
@@ -123,15 +115,15 @@ module _ {job : Job} (v : Valid job) {s : List ℕ} (w : Partition job s) where
   division_accepted =
       (grade_parts job (plan_bytes job s)).1 (sym (valid_lists job v), (plan_accepted job (plan_read job (plan_bytes job s))).1 (file_told v w))
 
-  pub division_graded : grade_answer job (plan_bytes job s) ≡ grade_of job s
-  division_graded = grade_accepted job (plan_bytes job s) division_accepted ∙ ap (grade_of job) (read_back v w)
+  pub division_graded : grade_answer job (plan_bytes job s) ≡ Ok (grade_of job s)
+  division_graded = grade_accepted job (plan_bytes job s) division_accepted ∙ ap (λ (t : List ℕ). Ok (grade_of job t)) (read_back v w)
 
 -- that of our own plan is best.
-pub plan_graded : {job : Job} → Valid job → T (enough job) → grade_answer job (plan_bytes job (plan_of job)) ≡ Graded.Best
+pub plan_graded : {job : Job} → Valid job → T (enough job) → grade_answer job (plan_bytes job (plan_of job)) ≡ Ok Grade.Best
 unfolding grade_of
 plan_graded {job} v e =
     division_graded v (plan_of_best (valid_plannable v e)).partition
-    ∙ ap (λ (b : Bool). cond b Graded.Best Graded.Valid) (plan_unbeaten (valid_plannable v e))
+    ∙ ap (λ (b : Bool). Ok (cond b Grade.Best Grade.Valid)) (plan_unbeaten (valid_plannable v e))
 
 -- By files: 0, or one of 2 to 9, 15, 16, 12, 11 and 13; that of the first test that fails.
 module _ (file plan : List ℕ) (lent : ℕ) where
@@ -187,29 +179,26 @@ module _ (file plan : List ℕ) (lent : ℕ) where
 
 -- and leaves its grade in the first byte; a refusal leaves the buffer.
 module _ (file plan grade : List ℕ) where
-  one_value : length (graded_said (read_grade (job_in file) plan)).values ≡ 1
-  unfolding read_grade grade_of
-  one_value = go (unbeaten (job_in file) (separators_of (job_in file) (plan_read (job_in file) plan)))
-    where
-      go : (b : Bool) → length (graded_said (cond b Graded.Best Graded.Valid)).values ≡ 1
-      go true = refl
-      go false = refl
+  one_value : (g : Grade) → length (grade_values g) ≡ 1
+  one_value Grade.Best = refl
+  one_value Grade.Valid = refl
 
   pub host_grade_writes : host_grade file plan (length grade) ≡ 0 → host_grades file plan grade ≡ (graded_said (grade_answer (job_in file) plan)).values ++ drop 1 grade
   unfolding host_grades read_grade
   host_grade_writes e =
-      lent-front (graded_said (read_grade (job_in file) plan)).values grade e one_value
-      ∙ ap (λ (g : Graded). (graded_said g).values ++ drop 1 grade) (sym (grade_accepted (job_in file) plan (host_grade_same file plan (length grade) e)))
+      lent-front (grade_values (read_grade (job_in file) plan)) grade e (one_value (read_grade (job_in file) plan))
+      ∙ ap (λ (answer : Result Grade Refusal). (graded_said answer).values ++ drop 1 grade)
+      (sym (grade_accepted (job_in file) plan (host_grade_same file plan (length grade) e)))
 
   pub host_grade_keeps : host_grade file plan (length grade) ≢ 0 → host_grades file plan grade ≡ grade
   unfolding host_grades
-  host_grade_keeps h = lent_refused h (graded_said (read_grade (job_in file) plan)).values grade
+  host_grade_keeps h = lent_refused h (grade_values (read_grade (job_in file) plan)) grade
 
 -- A caller who lends a byte makes the tests of one who lends nothing, and gets the same grade.
 pub file_grade_lent : (file plan : List ℕ) → lent_grade file plan 1 ≡ file_grade file plan
 unfolding lent_grade file_grade grade_refusal grade_tests length_test
 file_grade_lent file plan =
-    ap (λ (n : ℕ). graded_of n (read_grade (job_in file) plan)) (first_refusal_same (file_tests file) (length_test 1 1 ∷ tests) tests (passes 9 tests refl))
+    ap (λ (n : ℕ). answered n (read_grade (job_in file) plan)) (first_refusal_same (file_tests file) (length_test 1 1 ∷ tests) tests (passes 9 tests refl))
   where
     tests : List Test
     tests = plan_tests (job_in file) (plan_read (job_in file) plan)

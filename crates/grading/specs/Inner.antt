@@ -1,11 +1,25 @@
 -- What the inner functions of grading compare and answer: a plan file's loads and speeds are held against a list of separators.
-use Rattle.std.specs.Prelude.{ℕ, suc, Bool, ◌&&◌, cond, List, ◌∷◌, eqb, take}
+use Rattle.std.specs.Prelude.{ℕ, suc, ◌+◌, ◌*◌, Bool, ◌&&◌, cond, List, eqb, take, Result, Ok, Err}
+use Rattle.chain.specs.declared.Refusal.{Refusal}
+use Rattle.chain.specs.declared.Refusal.TheVariants.{UntruePlan}
 use Rattle.chain.specs.Lists.{all}
 use Rattle.chain.specs.Job.{Job, processors, speed_of, part_load, at}
-use Rattle.chain.specs.Refusal.{length_test, first_refusal, plan_tests}
+use Rattle.fields.specs.Field.{field_size, field_at}
+use Rattle.refusals.specs.Inputs.{plan_record_size}
 use Rattle.planfile.specs.PlanFile.{plan_read}
-use Rattle.grading.specs.declared.Graded.{Graded}
-use Rattle.grading.specs.Answers.{grade_of, read_grade, graded_of}
+use Rattle.grading.specs.declared.PlanRecord.{PlanRecord}
+use Rattle.grading.specs.declared.grades.Grade.{Grade}
+use Rattle.grading.specs.Answers.{grade_of}
+
+-- The record of processor p in a plan file.
+abbrev pub record_at : List ℕ → ℕ → PlanRecord
+record_at plan p =
+    record {
+      from = field_at plan (plan_record_size * p);
+      to = field_at plan (plan_record_size * p + field_size);
+      load = field_at plan (plan_record_size * p + 2 * field_size);
+      speed = field_at plan (plan_record_size * p + 3 * field_size);
+    }
 
 -- The record of processor p has the load of its part and its speed.
 unfoldable pub tells_at : Job → List ℕ → List ℕ → ℕ → Bool
@@ -17,10 +31,5 @@ unfoldable pub tells : Job → List ℕ → List ℕ → Bool
 tells job s plan = all (tells_at job s plan) (processors job)
 
 -- The grade of the first P + 1 separators, where every record tells what is so.
-unfoldable pub told_grade : Job → List ℕ → List ℕ → Graded
-told_grade job s plan = cond (tells job s plan) (grade_of job (take (suc (processors job)) s)) (Graded.Refused 13)
-
--- Once the job is tested, of a caller who lends a buffer of this length, where this much is needed.
-unfoldable pub room_grade : Job → List ℕ → ℕ → ℕ → Graded
-room_grade job plan needed lent =
-    graded_of (first_refusal (length_test needed lent ∷ plan_tests job (plan_read job plan))) (read_grade job plan)
+unfoldable pub told_grade : Job → List ℕ → List ℕ → Result Grade Refusal
+told_grade job s plan = cond (tells job s plan) (Ok (grade_of job (take (suc (processors job)) s))) (Err UntruePlan)

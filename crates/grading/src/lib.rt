@@ -1,279 +1,167 @@
 // Grading: a plan file of any maker is read beside its job and called best or valid.
 #![tactic(auto)]
 
-ghost use Rattle.std.specs.Prelude.{suc, ◌*◌, ◌≤◌, ◌<◌, ◌≡◌, ◌&&◌, ◌++◌, eqb, length, take, drop};
-ghost use Rattle.chain.specs.Job as counts;
-ghost use Rattle.chain.specs.Job.{Job, job_of, processors, Valid, Partition};
+ghost use Rattle.std.specs.Prelude.{suc, ◌*◌, ◌≤◌, ◌<◌, ◌≡◌, ◌++◌, length, take, drop};
+ghost use Rattle.chain.specs.Numbers.{refused};
+ghost use Rattle.chain.specs.Job.{processors, Partition};
 ghost use Rattle.chain.specs.Refusal.{separators_of, joined};
-ghost use Rattle.refusals.specs.Inputs.{plan_needed};
-ghost use Rattle.parts.specs.Prefix.{Ready};
+ghost use Rattle.refusals.specs.Inputs.{plan_needed, plan_record_size};
+ghost use Rattle.parts.specs.Lent.{the, lent};
 ghost use Rattle.planfile.specs.PlanFile.{plan_read};
-ghost use Rattle.grading.specs.Inner.{tells_at, tells, told_grade, room_grade};
+ghost use Rattle.grading.specs.Inner.{record_at, tells_at, tells, told_grade};
 ghost use Rattle.grading.specs.Answers.{grade_of, plan_grade, grade_answer};
-ghost use Rattle.grading.specs.Files.{grade_needed, lent_grade, host_grade, host_grades};
+ghost use Rattle.grading.specs.Files.{lent_grade, host_grade, host_grades};
 
 use bisection::bisection_in;
-use bound::Bound;
+use chain::Refusal;
 use fields::{FIELD, get_field};
-use jobs::{JobRead, read_job};
-use parts::{index, measure_in, part_load, prefix_sums};
-use refusals::{
-    MAX_PROCESSORS, MAX_TASKS, PLAN_RECORD, effective, is_partition, test_all_lists, test_length,
-};
+use jobs::read_job;
+use parts::{JobLists, Line, ValidJob, measure_in, part_load, prefix_sums};
+use refusals::{MAX_PROCESSORS, MAX_TASKS, PLAN_RECORD, is_partition, test_all_lists, test_length};
+
+mod grades;
+
+pub use grades::Grade;
 
 // The bytes of a grade.
 const GRADE: usize = 1;
 
-// What grading answers: best, valid, or the refusal's number.
+// A record of a plan file: where a processor's part begins and ends, its load and the speed.
 #[derive(Clone, Copy)]
-pub enum Graded {
-    Best,
-    Valid,
-    Refused(u32),
+struct PlanRecord {
+    from: u32,
+    to: u32,
+    load: u32,
+    speed: u32,
 }
 
-// Inner. Whether all before were and these two are the same.
-fn and_same(all: bool, a: u32, b: u32) -> bool
-    ensures { result ≡ (all && eqb a b) }
+// Inner. The record of processor p.
+fn record_at(plan: &[u8], p: usize) -> PlanRecord
+    requires { plan_record_size * suc p ≤ length plan.now }
+    ensures { result ≡ record_at plan.now p }
 {
-    if a != b {
-        return false;
+    let place = PLAN_RECORD * p;
+    PlanRecord {
+        from: get_field(plan, place),
+        to: get_field(plan, place + FIELD),
+        load: get_field(plan, place + 2 * FIELD),
+        speed: get_field(plan, place + 3 * FIELD),
     }
-    all
 }
 
-// Inner. Takes the separators of the plan file to the front of the list, and answers whether each record begins where the one before
-// ends.
-fn take_separators(
-    startup: u32,
-    speeds: &[u32],
-    holds: &[u16],
-    weights: &[u32],
-    plan: &[u8],
-    separators: &mut [u32],
-) -> bool
-    requires valid { let job : Job = job_of startup speeds.now holds.now weights.now in Valid job }
-    requires job_in_bounds { let job : Job = job_of startup speeds.now holds.now weights.now in plan_needed job ≤ length plan.now }
-    requires job_in_bounds_2 { let job : Job = job_of startup speeds.now holds.now weights.now in processors job < length separators.old }
-    ensures value { let job : Job = job_of startup speeds.now holds.now weights.now in result ≡ joined job (plan_read job plan.now) }
-    ensures separators_after { let job : Job = job_of startup speeds.now holds.now weights.now in separators.new
-        ≡ separators_of job (plan_read job plan.now) ++ drop (suc (processors job)) separators.old }
+// Inner. Takes the separators of the plan file to the front of the list, and answers whether each record begins where
+// the one before ends.
+fn take_separators(job: ValidJob, plan: &[u8], separators: &mut [u32]) -> bool
+    requires records { plan_needed (the job) ≤ length plan.now }
+    requires room { processors (the job) < length separators.old }
+    ensures joined { let job = the job.entry in result ≡ joined job (plan_read job plan.now) }
+    ensures separators { let job = the job.entry in
+        separators.new ≡ separators_of job (plan_read job plan.now) ++ drop (suc (processors job)) separators.old }
 {
-    separators[0] = get_field(plan, 0);
-    let mut all = true;
-    let mut p = 0;
-    while p < speeds.len() {
-        let place = PLAN_RECORD * p;
-        all = and_same(all, get_field(plan, place), separators[p]);
-        p += 1;
-        separators[p] = get_field(plan, place + FIELD);
+    separators[0] = record_at(plan, 0).from;
+    let mut joined = true;
+    for p in 0..job.speeds.len() {
+        let record = record_at(plan, p);
+        joined &= record.from == separators[p];
+        separators[p + 1] = record.to;
     }
-    all
+    joined
 }
 
 // Inner. Whether the record of processor p has the load of its part and its speed.
-fn tells_at(
-    startup: u32,
-    speeds: &[u32],
-    holds: &[u16],
-    weights: &[u32],
-    sums: &[u32],
-    separators: &[u32],
-    plan: &[u8],
-    p: usize,
-) -> bool
-    requires ready { let job : Job = job_of startup speeds.now holds.now weights.now in Ready job sums.now }
-    requires partition { let job : Job = job_of startup speeds.now holds.now weights.now in Partition job (take (suc (processors job)) separators.now) }
-    requires job_in_bounds { let job : Job = job_of startup speeds.now holds.now weights.now in plan_needed job ≤ length plan.now }
-    requires p_bound { let job : Job = job_of startup speeds.now holds.now weights.now in p < processors job }
-    ensures { let job : Job = job_of startup speeds.now holds.now weights.now in result ≡ tells_at job separators.now plan.now p }
+fn tells_at(line: Line, separators: &[u32], plan: &[u8], p: usize) -> bool
+    requires partition { let job = the line.job in Partition job (take (suc (processors job)) separators.now) }
+    requires records { plan_needed (the line.job) ≤ length plan.now }
+    requires processor { p < processors (the line.job) }
+    ensures { result ≡ tells_at (the line.entry.job) separators.now plan.now p }
 {
-    let load = part_load(
-        startup,
-        sums,
-        index(separators[p]),
-        index(separators[p + 1]),
-    );
-    let speed = speeds[p];
-    let told_load = get_field(plan, PLAN_RECORD * p + 2 * FIELD);
-    let told_speed = get_field(plan, PLAN_RECORD * p + 3 * FIELD);
-    and_same(and_same(true, told_load, load), told_speed, speed)
+    let a = separators[p] as usize;
+    let b = separators[p + 1] as usize;
+    let load = part_load(line.job.startup, line.sums, a, b);
+    let record = record_at(plan, p);
+    record.load == load && record.speed == line.job.speeds[p]
 }
 
 // Inner. Whether every record has the load of its part and its speed.
-fn tells_all(
-    startup: u32,
-    speeds: &[u32],
-    holds: &[u16],
-    weights: &[u32],
-    sums: &[u32],
-    separators: &[u32],
-    plan: &[u8],
-) -> bool
-    requires ready { let job : Job = job_of startup speeds.now holds.now weights.now in Ready job sums.now }
-    requires partition { let job : Job = job_of startup speeds.now holds.now weights.now in Partition job (take (suc (processors job)) separators.now) }
-    requires job_in_bounds { let job : Job = job_of startup speeds.now holds.now weights.now in plan_needed job ≤ length plan.now }
-    ensures { let job : Job = job_of startup speeds.now holds.now weights.now in result ≡ tells job separators.now plan.now }
+fn tells_all(line: Line, separators: &[u32], plan: &[u8]) -> bool
+    requires partition { let job = the line.job in Partition job (take (suc (processors job)) separators.now) }
+    requires records { plan_needed (the line.job) ≤ length plan.now }
+    ensures { result ≡ tells (the line.entry.job) separators.now plan.now }
 {
-    let mut p = 0;
-    while p < speeds.len() {
-        if !tells_at(startup, speeds, holds, weights, sums, separators, plan, p) {
-            return false;
-        }
-        p += 1;
-    }
-    true
+    (0..line.job.speeds.len()).all(|p| tells_at(line, separators, plan, p))
 }
 
 // Inner. The grade of a partition: it is measured, and its bottleneck held against the one that bisection finds.
-fn grade_partition(
-    startup: u32,
-    speeds: &[u32],
-    holds: &[u16],
-    weights: &[u32],
-    sums: &[u32],
-    separators: &mut [u32],
-) -> Graded
-    requires ready { let job : Job = job_of startup speeds.now holds.now weights.now in Ready job sums.now }
-    requires partition { let job : Job = job_of startup speeds.now holds.now weights.now in Partition job (take (suc (processors job)) separators.old) }
-    ensures { let job : Job = job_of startup speeds.now holds.now weights.now in result ≡ grade_of job (take (suc (processors job)) separators.old) }
+fn grade_partition(line: Line, separators: &mut [u32]) -> Grade
+    requires { let job = the line.job in Partition job (take (suc (processors job)) separators.old) }
+    ensures { let job = the line.entry.job in result ≡ grade_of job (take (suc (processors job)) separators.old) }
 {
-    let measured = measure_in(startup, speeds, holds, weights, sums, separators);
-    let found = bisection_in(startup, speeds, holds, weights, sums, separators);
-    if Bound::at_most(measured, found.bound) {
-        return Graded::Best;
+    let measured = measure_in(line, separators);
+    let found = bisection_in(&line, separators);
+    if measured.at_most(found.bound) {
+        Grade::Best
+    } else {
+        Grade::Valid
     }
-    Graded::Valid
 }
 
 // Inner. The grade of the separators that were taken from the plan file, or 13.
-fn grade_told(
-    startup: u32,
-    speeds: &[u32],
-    holds: &[u16],
-    weights: &[u32],
-    plan: &[u8],
-    separators: &mut [u32],
-) -> Graded
-    requires valid { let job : Job = job_of startup speeds.now holds.now weights.now in Valid job }
-    requires job_in_bounds { let job : Job = job_of startup speeds.now holds.now weights.now in plan_needed job ≤ length plan.now }
-    requires partition { let job : Job = job_of startup speeds.now holds.now weights.now in Partition job (take (suc (processors job)) separators.old) }
-    ensures { let job : Job = job_of startup speeds.now holds.now weights.now in result ≡ told_grade job separators.old plan.now }
+fn grade_told(job: &ValidJob, plan: &[u8], separators: &mut [u32]) -> Result<Grade, Refusal>
+    requires partition { Partition (the job.now) (take (suc (processors (the job.now))) separators.old) }
+    requires records { plan_needed (the job.now) ≤ length plan.now }
+    ensures { result ≡ told_grade (the job.now) separators.old plan.now }
 {
     let mut sums = [0u32; MAX_TASKS + 1];
-    prefix_sums(weights, &mut sums);
-    if !tells_all(startup, speeds, holds, weights, &sums, separators, plan) {
-        return Graded::Refused(13);
+    prefix_sums(job.weights, &mut sums);
+    let line = Line::new(*job, &sums);
+    if !tells_all(line, separators, plan) {
+        return Err(Refusal::UntruePlan);
     }
-    grade_partition(startup, speeds, holds, weights, &sums, separators)
+    Ok(grade_partition(line, separators))
 }
 
 // Inner. Grades the plan file of a job that has been tested: the grade, or the refusal: 12, 11 or 13, in this order.
-fn grade_in(startup: u32, speeds: &[u32], holds: &[u16], weights: &[u32], plan: &[u8]) -> Graded
-    requires valid { let job : Job = job_of startup speeds.now holds.now weights.now in Valid job }
-    ensures { let job : Job = job_of startup speeds.now holds.now weights.now in result ≡ plan_grade job plan.now }
+fn grade_in(job: &ValidJob, plan: &[u8]) -> Result<Grade, Refusal>
+    ensures { result ≡ plan_grade (the job.now) plan.now }
 {
-    if plan.len() != PLAN_RECORD * speeds.len() {
-        return Graded::Refused(12);
+    if plan.len() != PLAN_RECORD * job.speeds.len() {
+        return Err(Refusal::PlanLength);
     }
     let mut separators = [0u32; MAX_PROCESSORS + 1];
-    if !take_separators(startup, speeds, holds, weights, plan, &mut separators) {
-        return Graded::Refused(11); // a gap, or an overlap
+    if !take_separators(*job, plan, &mut separators) || !is_partition(*job, &separators) {
+        return Err(Refusal::NoPartition);
     }
-    if !is_partition(startup, speeds, holds, weights, &separators) {
-        return Graded::Refused(11);
-    }
-    grade_told(startup, speeds, holds, weights, plan, &mut separators)
+    grade_told(job, plan, &mut separators)
 }
 
-// Inner. Grades a plan file beside the lists of its job, with the start-up work that counts.
-fn grade_with(startup: u32, speeds: &[u32], holds: &[u16], weights: &[u32], plan: &[u8]) -> Graded
-    ensures { let job = job_of startup speeds.now holds.now weights.now in
-        result ≡ grade_answer job plan.now }
+// Grades a plan file beside the lists of its job: best, valid, or the refusal: 16, 5, 6, 7, 8, 9, 12, 11 or 13, in this
+// order.
+pub fn grade(lists: JobLists, plan: &[u8]) -> Result<Grade, Refusal>
+    ensures { result ≡ grade_answer (lent lists.entry) plan.now }
 {
-    let number = test_all_lists(startup, speeds, holds, weights);
-    if number != 0 {
-        return Graded::Refused(number);
-    }
-    grade_in(startup, speeds, holds, weights, plan)
+    let job = test_all_lists(lists)?;
+    grade_in(&job, plan)
 }
 
-// Grades a plan file beside the lists of its job: best, valid, or the refusal: 16, 5, 6, 7, 8, 9, 12, 11 or 13, in this order.
-pub fn grade(
-    second: bool,
-    startup: u32,
-    speeds: &[u32],
-    holds: &[u16],
-    weights: &[u32],
-    plan: &[u8],
-) -> Graded
-    ensures { let job = job_of (counts.effective second startup) speeds.now holds.now weights.now in
-        result ≡ grade_answer job plan.now }
-{
-    grade_with(effective(second, startup), speeds, holds, weights, plan)
-}
-
-// Inner. The test of the buffer for the grade, of which so many bytes are lent, and the grade.
-fn grade_read(
-    startup: u32,
-    speeds: &[u32],
-    holds: &[u16],
-    weights: &[u32],
-    plan: &[u8],
-    lent: usize,
-) -> Graded
-    requires valid { let job : Job = job_of startup speeds.now holds.now weights.now in Valid job }
-    ensures { let job : Job = job_of startup speeds.now holds.now weights.now in result ≡ room_grade job plan.now grade_needed lent }
-{
-    let number = test_length(GRADE, lent);
-    if number != 0 {
-        return Graded::Refused(number);
-    }
-    grade_in(startup, speeds, holds, weights, plan)
-}
-
-// Inner. Grades a plan file beside its job file, so many bytes being lent for the grade: best, valid, or the refusal: 2 to 8, 15
-// and 16 on the job file, then 9, 12, 11 or 13, in this order.
-pub fn grade_files(job: &[u8], plan: &[u8], lent: usize) -> Graded
+// Inner. Grades a plan file beside its job file, so many bytes being lent for the grade: best, valid, or the refusal:
+// 2 to 8, 15 and 16 on the job file, then 9, 12, 11 or 13, in this order.
+pub fn grade_files(job: &[u8], plan: &[u8], lent: usize) -> Result<Grade, Refusal>
     ensures { result ≡ lent_grade job.now plan.now lent }
 {
     let mut speeds = [0u32; MAX_PROCESSORS];
     let mut holds = [0u16; MAX_PROCESSORS];
     let mut weights = [0u32; MAX_TASKS];
-    let answer = read_job(job, &mut speeds, &mut holds, &mut weights);
-    match answer {
-        JobRead::Refused(number) => Graded::Refused(number),
-        JobRead::Read {
-            second,
-            startup,
-            processors,
-            tasks,
-        } => grade_read(
-            startup,
-            &speeds[..processors],
-            &holds[..processors],
-            &weights[..tasks],
-            plan,
-            lent,
-        ),
-    }
+    let read = read_job(job, &mut speeds, &mut holds, &mut weights)?;
+    test_length(GRADE, lent)?;
+    grade_in(&read.job(&speeds, &holds, &weights), plan)
 }
 
-// Inner: what the C call does. Puts the grade into the buffer, 1 best, 2 valid: 0, or the refusal.
-pub fn grade_into(job: &[u8], plan: &[u8], grade: &mut [u8]) -> u32
-    ensures answer { result ≡ host_grade job.now plan.now (length grade.old) }
+// Inner: what the C call does. Puts the grade into the buffer, 1 best, 2 valid, or answers the refusal.
+pub fn grade_into(job: &[u8], plan: &[u8], grade: &mut [u8]) -> Result<(), Refusal>
+    ensures answer { refused result ≡ host_grade job.now plan.now (length grade.old) }
     ensures bytes { grade.new ≡ host_grades job.now plan.now grade.old }
 {
-    let graded = grade_files(job, plan, grade.len());
-    match graded {
-        Graded::Refused(number) => number,
-        Graded::Best => {
-            grade[0] = 1;
-            0
-        }
-        Graded::Valid => {
-            grade[0] = 2;
-            0
-        }
-    }
+    let found = grade_files(job, plan, grade.len())?;
+    grade[0] = found as u8;
+    Ok(())
 }

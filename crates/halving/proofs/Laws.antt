@@ -1,42 +1,31 @@
--- The split that is searched among the prefix sums is the job's; what two halves of a row leave in the list; and the ends of the row.
+-- The split that is searched among the prefix sums is the job's; what two halves of a row leave between its ends; and the ends.
 -- Assumes nothing.
-use Prim.Native.Nat.{ℕ, zero, suc, ◌+◌, ◌-◌, ◌*◌, ◌/◌, ◌^◌, ◌≤◌, ◌<◌}
+use Prim.Native.Nat.{ℕ, zero, suc, ◌+◌, ◌-◌, ◌/◌, ◌^◌, ◌≤◌, ◌<◌}
 use mathlib.Core.Path.{◌≡◌, refl, sym, ap, ap₂, subst, ◌∙◌}
+use mathlib.Core.Bool.{Bool, true, false}
 use mathlib.Core.List.{List, [], ◌∷◌, ◌++◌, append-nil, append_assoc}
 use native.Mathlib.Omega.{arith}
-use native.Mathlib.Numerals.{add-one}
-use lib.ListN.{length, set, take, drop, length-append, length-set, take-append-drop}
-use lib.Seq.{length-take-le, append_snoc, drop-append-add, set_split, take-set-le, drop-set-lt, take-suc-set, drop-drop, take_at, drop_at}
+use lib.Dec.{eqb}
+use borrow.Author.Tests.{eqb-true, eqb-false}
+use lib.ListN.{length, set, take, drop, length-append, length-set, length-take, length-drop}
+use lib.Seq.{length-take-le, append_snoc, set_split, take-set-le, drop-set-lt, take-suc-set, drop-drop, take_at, drop_at}
+use borrow.Rule.Slice.PartMut.{put_mid}
+use Rattle.std.proofs.lemmas.List.{drop_all}
 use Rattle.chain.specs.Lists.{smallest_least, levels, digits, digits_within}
 use Rattle.chain.specs.Job.{Job, tasks, processors, at}
 use Rattle.chain.specs.Halving.{uneven, split, splits_by, halving}
 use Rattle.chain.proofs.Parts.{weight_split}
 use Rattle.chain.proofs.Indices.{smallest_least_is}
-use Rattle.chain.proofs.Halving.{Halved, halved_power, split_from, split_to, length_splits}
+use Rattle.chain.proofs.Halving.{Halved, halved_power, split_from, split_to}
 use Rattle.parts.specs.Prefix.{Ready}
-use Rattle.parts.specs.Rising.{LastAtMost}
-use Rattle.heuristic.specs.Target.{off_in, nearest_in, PastFrom}
+use Rattle.heuristic.specs.Target.{off_in, nearest_in}
 use Rattle.heuristic.proofs.Nearest.{smallest_least_unique}
 use Rattle.halving.specs.Row.{split_in}
 
--- What the search for a split asks and gives.
-pub split_past : {xs : List ℕ} {a b cap target r : ℕ} → cap ≡ target / 2 → LastAtMost xs a b cap r → PastFrom xs 2 target a b (r + 1)
-split_past {xs} {a} {b} {cap} {target} {r} e w =
-    record {
-      past =
-          record {
-            some = omega arith;
-            to = omega (arith, w.to);
-            below = subst (λ (i : ℕ). at xs i * 2 ≤ target) (let z : r ≡ r + 1 - 1 = omega arith in z) (omega (arith, w.below));
-            above = λ l. subst (λ (i : ℕ). target < at xs i * 2) (sym (add-one r)) (omega (arith, w.above (omega arith)));
-          };
-      from = omega (arith, w.from);
-      nearer = λ l. absurd (let z : ⊥ = omega (arith, w.from) in z);
-    }
-
-pub split_found : (xs : List ℕ) (a b : ℕ) {target r : ℕ} → target ≡ at xs a + at xs b → r ≡ nearest_in xs 2 target a b → r ≡ split_in xs a b
+-- What the search for a split gives.
+pub split_found : (xs : List ℕ) (a b : ℕ) {x y r : ℕ} → x ≡ at xs a → y ≡ at xs b → r ≡ nearest_in xs 2 (x + y) a b → r ≡ split_in xs a b
 unfolding split_in
-split_found xs a b e f = f ∙ ap (λ (t : ℕ). nearest_in xs 2 t a b) e
+split_found xs a b e f g = g ∙ ap₂ (λ (x y : ℕ). nearest_in xs 2 (x + y) a b) e f
 
 -- A split lies in its part.
 pub split_in_from : (xs : List ℕ) (a b : ℕ) → a ≤ split_in xs a b
@@ -84,128 +73,127 @@ module _ {job : Job} {xs : List ℕ} (ready : Ready job xs) where
       ∙ ap₂ (λ (ys zs : List ℕ). ys ++ i ∷ zs) (splits_are k a i (split_from job a b) (omega (arith, split_to job a b h)))
       (splits_are k i b (split_to job a b h) l)
 
--- The two halves of a row, written one after the other: old is the list before, m the split, H and K what the halves write.
-module _ (old : List ℕ) (first middle last m : ℕ) (H K : List ℕ) (f : first < middle) (g : middle < last) (l : last < length old)
-    (e : suc first + length H ≡ middle)
-  where
-    front : List ℕ
-    front = take (suc first) old ++ H
+-- The separators between the processors of a row: xs is what stood there, m its middle, and v the split, which is put there. The first half
+-- leaves H in front of it, and the second K behind it.
+module _ (xs : List ℕ) (v : ℕ) {m : ℕ} (h : m < length xs) (H K : List ℕ) (left : length H ≡ m) where
+  row_left : H ++ drop m (set xs m v) ≡ (H ++ v ∷ []) ++ drop (suc m) xs
+  row_left =
+      ap (λ (d : List ℕ). H ++ d) (ap (drop m) (set_split xs m v h) ∙ drop_at (take m xs) (v ∷ drop (suc m) xs) m (length-take-le m xs (omega arith)))
+      ∙ sym (append_assoc H (v ∷ []) (drop (suc m) xs))
 
-    front_length : length front ≡ middle
-    unfolding front
-    front_length = omega (arith, length-append (take (suc first) old) H, length-take-le (suc first) old (omega arith))
+  pub row_split : put_mid (m + 1) (length (H ++ drop m (set xs m v)) - (m + 1)) (H ++ drop m (set xs m v)) K ≡ H ++ v ∷ K
+  row_split =
+      ap (λ (zs : List ℕ). put_mid (m + 1) (length zs - (m + 1)) zs K) row_left
+      ∙ ap₂ (λ (t d : List ℕ). t ++ (K ++ d)) (take_at front rest (m + 1) front_length)
+      (drop_all (length (front ++ rest) - (m + 1)) (drop (m + 1) (front ++ rest)) (omega (arith, length-drop (m + 1) (front ++ rest))))
+      ∙ ap (λ (k : List ℕ). front ++ k) (append-nil K)
+      ∙ append_assoc H (v ∷ []) K
+    where
+      front : List ℕ
+      front = H ++ v ∷ []
 
-    front_more : length (front ++ (m ∷ [])) ≡ suc middle
-    front_more = omega (arith, length-append front (m ∷ []), front_length)
+      rest : List ℕ
+      rest = drop (suc m) xs
 
-    after_left : {two : List ℕ} → two ≡ take (suc first) (set old middle m) ++ H ++ drop middle (set old middle m) → two ≡ (front ++ (m ∷ [])) ++ drop (suc middle) old
-    unfolding front
-    after_left x =
-        x
-        ∙ ap₂ (λ (t d : List ℕ). t ++ H ++ d) (take-set-le (suc first) old middle m f)
-        (ap (drop middle) (set_split old middle m (omega arith)) ∙ drop_at (take middle old) (m ∷ drop (suc middle) old) middle (length-take-le middle old (omega arith)))
-        ∙ sym (append_snoc (take (suc first) old ++ H) m (drop (suc middle) old))
+      front_length : length front ≡ m + 1
+      front_length = omega (arith, length-append H (v ∷ []), left)
 
-    pub row_split : {two three : List ℕ} → two ≡ take (suc first) (set old middle m) ++ H ++ drop middle (set old middle m)
-        → three ≡ take (suc middle) two ++ K ++ drop last two → three ≡ take (suc first) old ++ (H ++ m ∷ K) ++ drop last old
-    unfolding front
-    row_split {two} {three} x y =
-        y
-        ∙ ap₂ (λ (t d : List ℕ). t ++ K ++ d)
-        (ap (take (suc middle)) (after_left x) ∙ take_at (front ++ (m ∷ [])) (drop (suc middle) old) (suc middle) front_more)
-        (ap (drop last) (after_left x) ∙ behind)
-        ∙ ap (λ (t : List ℕ). t ++ drop last old) (append_snoc front m K ∙ append_assoc (take (suc first) old) H (m ∷ K))
-      where
-        behind : drop last ((front ++ (m ∷ [])) ++ drop (suc middle) old) ≡ drop last old
-        behind =
-            ap (λ (n : ℕ). drop n ((front ++ (m ∷ [])) ++ drop (suc middle) old)) (let z : last ≡ length (front ++ (m ∷ [])) + (last - suc middle) = omega (arith, front_more) in z)
-            ∙ drop-append-add (front ++ (m ∷ [])) (drop (suc middle) old) (last - suc middle)
-            ∙ drop-drop (last - suc middle) (suc middle) old
-            ∙ ap (λ (n : ℕ). drop n old) (let z : suc middle + (last - suc middle) ≡ last = omega arith in z)
+-- What stands when the first half is written is as long as before.
+pub written_length : (xs : List ℕ) (m v : ℕ) (H : List ℕ) → length H ≡ length (take m (set xs m v)) → length (H ++ drop m (set xs m v)) ≡ length xs
+written_length xs m v H e =
+    omega (arith, e, length-append H (drop m (set xs m v)), length-take m (set xs m v), length-drop m (set xs m v), length-set xs m v)
 
--- A row of a power of two of processors above 1, from first to last, and its middle.
-module _ (first last : ℕ) (power : 2 ^ levels (last - first) ≡ last - first) (more : 1 < last - first) where
-  abbrev middle : ℕ
-  middle = first + (last - first) / 2
+-- There is one between, by the code's test.
+pub some_between : (xs : List ℕ) {b : Bool} → b ≡ eqb (length xs) 0 → b ≡ false → 1 ≤ length xs
+some_between xs e f = omega (arith, eqb-false (length xs) 0 (sym e ∙ f))
 
-  halves : Halved (last - first)
-  halves = halved_power (last - first) power more
+-- Where a row has a power of two of processors above 1, each half has a power of two again.
+module _ (xs : List ℕ) (power : 2 ^ levels (suc (length xs)) ≡ suc (length xs)) (some : 1 ≤ length xs) where
+  halves : Halved (suc (length xs))
+  halves = halved_power (suc (length xs)) power (omega arith)
 
-  left_number : middle - first ≡ (last - first) / 2
-  left_number = omega arith
+  pub half_power : {l : ℕ} → suc l ≡ suc (length xs) / 2 → 2 ^ levels (suc l) ≡ suc l
+  half_power {l} e =
+      subst (λ (n : ℕ). 2 ^ levels n ≡ n) (sym e) (ap (λ (k : ℕ). 2 ^ k) halves.half ∙ halves.power)
 
-  right_number : last - middle ≡ (last - first) / 2
-  right_number = omega (arith, halves.twice)
+  -- The first half, and the second, which begins behind the middle, where what the first leaves is as long.
+  pub left_number : (v : ℕ) → suc (length (take (length xs / 2) (set xs (length xs / 2) v))) ≡ suc (length xs) / 2
+  left_number v = omega (arith, length-take (length xs / 2) (set xs (length xs / 2) v), length-set xs (length xs / 2) v, halves.twice)
 
-  half_power : 2 ^ levels ((last - first) / 2) ≡ (last - first) / 2
-  half_power = ap (λ (k : ℕ). 2 ^ k) halves.half ∙ halves.power
+  pub right_number : (zs : List ℕ) → length zs ≡ length xs
+      → suc (length (take (length zs - (length xs / 2 + 1)) (drop (length xs / 2 + 1) zs))) ≡ suc (length xs) / 2
+  right_number zs e =
+      omega (
+        arith,
+        length-take (length zs - (length xs / 2 + 1)) (drop (length xs / 2 + 1) zs),
+        length-drop (length xs / 2 + 1) zs,
+        halves.twice,
+      )
 
-  -- Each half is a power of two again, and smaller.
-  pub left_power : 2 ^ levels (middle - first) ≡ middle - first
-  left_power = subst (λ (n : ℕ). 2 ^ levels n ≡ n) (sym left_number) half_power
-
-  pub right_power : 2 ^ levels (last - middle) ≡ last - middle
-  right_power = subst (λ (n : ℕ). 2 ^ levels n ≡ n) (sym right_number) half_power
-
-  pub left_less : (first < middle) × (middle - first < last - first)
-  left_less = (omega arith, omega arith)
-
-  pub right_less : (middle < last) × (last - middle < last - first)
-  right_less = (omega (arith, halves.twice), omega arith)
-
-  -- What the two calls leave is what the whole is to leave.
-  pub row_halves : (xs old : List ℕ) (a b : ℕ) {i m : ℕ} {two three : List ℕ} → last < length old → i ≡ split_in xs a b → m ≡ i
-      → two ≡ take (suc first) (set old middle m) ++ splits_by (split_in xs) (levels (middle - first)) a i ++ drop middle (set old middle m)
-      → three ≡ take (suc middle) two ++ splits_by (split_in xs) (levels (last - middle)) i b ++ drop last two
-      → three ≡ take (suc first) old ++ splits_by (split_in xs) (levels (last - first)) a b ++ drop last old
+  -- What the two halves leave is what the whole is to leave.
+  pub row_halves : (cut : ℕ → ℕ → ℕ) (a b : ℕ) {i l r : ℕ} {H K : List ℕ} → i ≡ cut a b → suc l ≡ suc (length xs) / 2 → suc r ≡ suc (length xs) / 2
+      → H ≡ splits_by cut (levels (suc l)) a i → K ≡ splits_by cut (levels (suc r)) i b
+      → H ++ i ∷ K ≡ splits_by cut (levels (suc (length xs))) a b
   unfolding splits_by
-  row_halves xs old a b {i} {m} {two} {three} l e f x y =
-      row_split old first middle last m (splits_by (split_in xs) k a i) (splits_by (split_in xs) k i b) left_less.0 right_less.0 l
-      (omega (arith, length_splits (split_in xs) k a i, halves.power))
-      (x ∙ ap (λ (n : ℕ). take (suc first) (set old middle m) ++ splits_by (split_in xs) n a i ++ drop middle (set old middle m)) (ap levels left_number ∙ halves.half))
-      (y ∙ ap (λ (n : ℕ). take (suc middle) two ++ splits_by (split_in xs) n i b ++ drop last two) (ap levels right_number ∙ halves.half))
-      ∙ ap (λ (n : ℕ). take (suc first) old ++ (splits_by (split_in xs) k a i ++ n ∷ splits_by (split_in xs) k i b) ++ drop last old) f
-      ∙ ap (λ (j : ℕ). take (suc first) old ++ (splits_by (split_in xs) k a j ++ j ∷ splits_by (split_in xs) k j b) ++ drop last old) e
-      ∙ ap (λ (n : ℕ). take (suc first) old ++ splits_by (split_in xs) n a b ++ drop last old) (sym halves.whole)
+  row_halves cut a b {i} {l} {r} e x y f g =
+      ap₂ (λ (hs ks : List ℕ). hs ++ i ∷ ks) (f ∙ ap (λ (n : ℕ). splits_by cut n a i) (ap levels x ∙ halves.half))
+      (g ∙ ap (λ (n : ℕ). splits_by cut n i b) (ap levels y ∙ halves.half))
+      ∙ ap (λ (j : ℕ). splits_by cut k a j ++ j ∷ splits_by cut k j b) e
+      ∙ ap (λ (n : ℕ). splits_by cut n a b) (sym halves.whole)
     where
       k : ℕ
       k = halves.doublings
 
 -- A row of one processor: nothing is written.
-pub row_alone : (xs old : List ℕ) (first last a b : ℕ) → last ≡ suc first → old ≡ take (suc first) old ++ splits_by (split_in xs) (levels (last - first)) a b ++ drop last old
+pub row_alone : (cut : ℕ → ℕ → ℕ) (xs : List ℕ) (a b : ℕ) {t : Bool} → t ≡ eqb (length xs) 0 → t ≡ true → xs ≡ splits_by cut (levels (suc (length xs))) a b
 unfolding levels digits digits_within splits_by
-row_alone xs old first last a b e =
-    sym (take-append-drop (suc first) old)
-    ∙ ap₂ (λ (t d : List ℕ). t ++ d)
-    (sym (append-nil (take (suc first) old)) ∙ ap (λ (n : ℕ). take (suc first) old ++ splits_by (split_in xs) (levels n) a b) (let z : 1 ≡ last - first = omega arith in z))
-    (ap (λ (n : ℕ). drop n old) (sym e))
-
--- The whole row, its two ends written before.
-pub row_done : {job : Job} {xs : List ℕ} (s : List ℕ) {n : ℕ} {now : List ℕ} → Ready job xs → processors job < length s → n ≡ tasks job
-    → now ≡ take 1 (set (set s 0 0) (processors job) n) ++ splits_by (split_in xs) (levels (processors job - 0)) 0 (tasks job) ++ drop (processors job) (set (set s 0 0) (processors job) n)
-    → now ≡ halving job ++ drop (suc (processors job)) s
-unfolding halving
-row_done {job} {xs} s {n} ready h e f =
-    f ∙ ap₂ (λ (t d : List ℕ). t ++ splits_by (split_in xs) (levels (processors job - 0)) 0 (tasks job) ++ d) ends_first ends_last
-    ∙ ap (λ (ys : List ℕ). 0 ∷ (ys ++ tasks job ∷ drop (suc p) s)) are ∙ ap (λ (ys : List ℕ). 0 ∷ ys) (sym (append_snoc (splits_by (split job) (levels p) 0 (tasks job)) (tasks job) (drop (suc p) s)))
+row_alone cut xs a b e f = none xs (eqb-true (length xs) 0 (sym e ∙ f))
   where
-    p : ℕ
-    p = processors job
+    none : (ys : List ℕ) → length ys ≡ 0 → ys ≡ splits_by cut (levels (suc (length ys))) a b
+    none [] g = refl
+    none (y ∷ ys) g = absurd (let z : ⊥ = omega arith in z)
 
-    some : 1 ≤ p
-    some = ready.valid.some_processor
+-- The whole row, its two ends written before: with its separators between them.
+module _ {job : Job} {xs : List ℕ} (s : List ℕ) {n : ℕ} (ready : Ready job xs) (h : processors job < length s) (e : n ≡ tasks job) where
+  abbrev ends : List ℕ
+  ends = set (set s 0 0) (processors job) n
 
-    ends_first : take 1 (set (set s 0 0) (processors job) n) ≡ 0 ∷ []
-    ends_first = take-set-le 1 (set s 0 0) (processors job) n some ∙ take-suc-set s 0 0 (omega arith)
+  pub row_number : suc (length (take (processors job - 1) (drop 1 ends))) ≡ processors job
+  row_number =
+      omega (
+        arith,
+        ready.valid.some_processor,
+        length-take (processors job - 1) (drop 1 ends),
+        length-drop 1 ends,
+        length-set (set s 0 0) (processors job) n,
+        length-set s 0 0,
+      )
 
-    ends_last : drop (processors job) (set (set s 0 0) (processors job) n) ≡ tasks job ∷ drop (suc (processors job)) s
-    ends_last =
-        ap (drop (processors job)) (set_split (set s 0 0) (processors job) n (omega (arith, length-set s 0 0)))
-        ∙ drop_at (take (processors job) (set s 0 0)) (n ∷ drop (suc (processors job)) (set s 0 0)) (processors job)
-        (length-take-le (processors job) (set s 0 0) (omega (arith, length-set s 0 0)))
-        ∙ ap₂ (λ (x : ℕ) (d : List ℕ). x ∷ d) e (drop-set-lt (suc (processors job)) s 0 0 (omega arith))
+  pub row_done : {K : List ℕ} → K ≡ splits_by (split_in xs) (levels (suc (length (take (processors job - 1) (drop 1 ends))))) 0 (tasks job)
+      → put_mid 1 (processors job - 1) ends K ≡ halving job ++ drop (suc (processors job)) s
+  unfolding halving
+  row_done {K} f =
+      ap₂ (λ (t d : List ℕ). t ++ (K ++ d)) ends_first ends_last
+      ∙ ap (λ (ks : List ℕ). 0 ∷ (ks ++ tasks job ∷ drop (suc p) s)) (f ∙ ap (λ (k : ℕ). splits_by (split_in xs) (levels k) 0 (tasks job)) row_number ∙ are)
+      ∙ ap (λ (ys : List ℕ). 0 ∷ ys) (sym (append_snoc (splits_by (split job) (levels p) 0 (tasks job)) (tasks job) (drop (suc p) s)))
+    where
+      p : ℕ
+      p = processors job
 
-    are : splits_by (split_in xs) (levels (processors job - 0)) 0 (tasks job) ≡ splits_by (split job) (levels (processors job)) 0 (tasks job)
-    are =
-        ap (λ (k : ℕ). splits_by (split_in xs) (levels k) 0 (tasks job)) (let z : processors job - 0 ≡ processors job = omega arith in z)
-        ∙ splits_are ready (levels (processors job)) 0 (tasks job) (omega arith) (omega arith)
+      some : 1 ≤ p
+      some = ready.valid.some_processor
+
+      ends_first : take 1 ends ≡ 0 ∷ []
+      ends_first = take-set-le 1 (set s 0 0) (processors job) n some ∙ take-suc-set s 0 0 (omega arith)
+
+      ends_last : drop (processors job - 1) (drop 1 ends) ≡ tasks job ∷ drop (suc (processors job)) s
+      ends_last =
+          drop-drop (processors job - 1) 1 ends
+          ∙ ap (λ (k : ℕ). drop k ends) (let z : 1 + (processors job - 1) ≡ processors job = omega (arith, some) in z)
+          ∙ ap (drop (processors job)) (set_split (set s 0 0) (processors job) n (omega (arith, length-set s 0 0)))
+          ∙ drop_at (take (processors job) (set s 0 0)) (n ∷ drop (suc (processors job)) (set s 0 0)) (processors job)
+          (length-take-le (processors job) (set s 0 0) (omega (arith, length-set s 0 0)))
+          ∙ ap₂ (λ (x : ℕ) (d : List ℕ). x ∷ d) e (drop-set-lt (suc (processors job)) s 0 0 (omega arith))
+
+      are : splits_by (split_in xs) (levels (processors job)) 0 (tasks job) ≡ splits_by (split job) (levels (processors job)) 0 (tasks job)
+      are = splits_are ready (levels (processors job)) 0 (tasks job) (omega arith) (omega arith)

@@ -2,70 +2,56 @@
 // All functions here are inner: their callers have tested the job and its row.
 #![tactic(auto)]
 
-ghost use Rattle.std.specs.Prelude.{suc, ◌+◌, ◌-◌, ◌^◌, ◌≤◌, ◌<◌, ◌≡◌, ◌++◌, length, get_or, take, drop};
+ghost use Rattle.std.specs.Prelude.{suc, ◌^◌, ◌≤◌, ◌<◌, ◌≡◌, ◌++◌, length, drop};
 ghost use Rattle.chain.specs.Lists.{levels};
-ghost use Rattle.chain.specs.Job.{Job, job_of, processors};
+ghost use Rattle.chain.specs.Job.{processors};
 ghost use Rattle.chain.specs.Halving.{Halvable, splits_by, halving};
-ghost use Rattle.parts.specs.Prefix.{Ready};
+ghost use Rattle.parts.specs.Lent.{the};
 ghost use Rattle.parts.specs.Rising.{Rising};
 ghost use Rattle.halving.specs.Row.{split_in};
 
 use heuristic::nearest_in;
-use parts::{last_at_most, narrow, narrow_load, wide};
+use parts::{Line, last_at_most};
 
-// Inner. The prefix sums at a and at b together: twice what the middle of the part from a to b is to have.
-fn ends_sum(sums: &[u32], a: usize, b: usize) -> u64
-    requires { (a < length sums.now) × (b < length sums.now) }
-    ensures { result ≡ get_or sums.now a 0 + get_or sums.now b 0 }
-{
-    wide(sums[a]) + wide(sums[b])
-}
-
-// Inner. The smallest index from a to b at which the weight on the left is nearest to half the part's.
+// Inner. The smallest index from a to b at which the weight on the left is nearest to half the part's: its prefix sum,
+// doubled, to those at a and at b together.
 fn split_in(sums: &[u32], a: usize, b: usize) -> usize
     requires rising { Rising sums.now b }
     requires a_le_b { a ≤ b }
     ensures { result ≡ split_in sums.now a b }
 {
-    let target = ends_sum(sums, a, b);
-    let past = last_at_most(sums, a, b, narrow_load(target / 2)) + 1;
+    let target = u64::from(sums[a]) + u64::from(sums[b]);
+    let past = last_at_most(sums, a, b, (target / 2) as u32) + 1;
     nearest_in(sums, a, b, past, 2, target)
 }
 
-// Inner. Splits the part from a to b among the processors from first to last, and each half likewise: it writes the separators
-// between those two.
-fn split_row(sums: &[u32], separators: &mut [u32], first: usize, last: usize, a: usize, b: usize)
+// Inner. Splits the part from a to b among the processors of a row, and each half likewise: it writes the separators
+// between them.
+fn split_row(sums: &[u32], between: &mut [u32], a: usize, b: usize)
     requires rising { Rising sums.now b }
-    requires a_le_b { (a ≤ b) × (b < 2 ^ 32) }
-    requires first_lt_last { (first < last) × (last < length separators.old) }
-    requires first_value { 2 ^ levels (last - first) ≡ last - first }
-    ensures { let old = separators.old in
-        separators.new ≡ take (suc first) old ++ splits_by (split_in sums.now) (levels (last - first)) a b ++ drop last old }
+    requires part { (a ≤ b) × (b < 2 ^ 32) }
+    requires power { let count = suc (length between.old) in 2 ^ levels count ≡ count }
+    ensures { between.new ≡ splits_by (split_in sums.now) (levels (suc (length between.old))) a b }
 {
-    if 1 < last - first {
-        let middle = first + (last - first) / 2;
+    if !between.is_empty() {
+        let middle = between.len() / 2;
         let i = split_in(sums, a, b);
-        separators[middle] = narrow(i);
-        split_row(sums, separators, first, middle, a, i);
-        split_row(sums, separators, middle, last, i, b);
+        between[middle] = i as u32;
+        split_row(sums, &mut between[..middle], a, i);
+        split_row(sums, &mut between[middle + 1..], i, b);
     }
 }
 
 // Inner. Writes the separators of the halved row to the front of the list.
-pub fn halving_in(
-    startup: u32,
-    speeds: &[u32],
-    holds: &[u16],
-    weights: &[u32],
-    sums: &[u32],
-    separators: &mut [u32],
-)
-    requires ready { let job : Job = job_of startup speeds.now holds.now weights.now in Ready job sums.now }
-    requires halvable { Halvable speeds.now }
-    requires job_in_bounds { let job : Job = job_of startup speeds.now holds.now weights.now in processors job < length separators.old }
-    ensures { let job : Job = job_of startup speeds.now holds.now weights.now in separators.new ≡ halving job ++ drop (suc (processors job)) separators.old }
+pub fn halving_in(line: Line, separators: &mut [u32])
+    requires halvable { Halvable line.job.speeds.now }
+    requires room { processors (the line.job) < length separators.old }
+    ensures { let job = the line.entry.job in
+        separators.new ≡ halving job ++ drop (suc (processors job)) separators.old }
 {
+    let count = line.job.speeds.len();
+    let n = line.job.weights.len();
     separators[0] = 0;
-    separators[speeds.len()] = narrow(weights.len());
-    split_row(sums, separators, 0, speeds.len(), 0, weights.len());
+    separators[count] = n as u32;
+    split_row(line.sums, &mut separators[1..count], 0, n);
 }

@@ -2,31 +2,28 @@
 -- Assumes nothing.
 use Prim.Native.Nat.{ℕ, suc, ◌+◌, ◌-◌, ◌*◌, ◌/◌, ◌≤◌, ◌<◌, ◌^◌}
 use mathlib.Core.Path.{◌≡◌, refl, sym, ap, ap₂, subst, ◌∙◌}
-use mathlib.Core.Bool.{Bool, true, false}
 use mathlib.Core.List.{List, ◌++◌}
 use mathlib.Core.Logic.{◌⊎◌, inl, inr}
 use native.Mathlib.Omega.{arith}
 use native.Mathlib.Decide.{dec_le}
 use native.Mathlib.Numerals.{add-one}
-use native.Mathlib.Nat.{lt_of_le_of_lt, div-le_of_le-mul, mul-le-mul_right}
-use mir.Val.{bool_byte}
-use lib.Dec.{ltb, lit<}
+use native.Mathlib.Nat.{lt_of_le_of_lt, div-le_of_le-mul}
+use lib.Dec.{lit<}
 use lib.ListN.{length, get_or, set, drop, length-set}
 use lib.Seq.{get_or-set_same, drop-set-lt}
-use borrow.Author.Tests.{le-leb, lt-leb, ltb-true, ltb-false}
-use Rattle.chain.specs.Lists.{tabulate, sum_to, distance}
+use borrow.Author.Tests.{le-leb, lt-leb}
+use Rattle.chain.specs.Lists.{tabulate, sum_to}
 use Rattle.chain.specs.Job.{Job, Valid, tasks, processors, last, speed_of, total_weight, total_speed, at}
 use Rattle.chain.specs.Heuristic.{nearest, heuristic}
 use Rattle.chain.proofs.Parts.{Proper, valid_proper, weight_all}
 use Rattle.chain.proofs.Indices.{table_of}
-use Rattle.chain.proofs.Ideal.{total_speed_is}
 use Rattle.chain.proofs.Heuristic.{nearest-le, nearest_first, nearest_grows, heuristic-at, heuristic_end, heuristic_count}
 use Rattle.chain.proofs.Ranges.{speeds_to_limit, index_fits, total_speed_positive, total_speed_fits, heuristic_products}
 use Rattle.parts.specs.Prefix.{Prefix, Ready}
 use Rattle.parts.specs.Rising.{Rising, LastAtMost}
 use Rattle.parts.proofs.Front.{Front, front_store, front_end}
 use Rattle.parts.proofs.Laws.{speed_read, prefix_fits}
-use Rattle.heuristic.specs.Target.{first_at_least, FirstAbove, off_in, nearest_in, PastAt, PastFrom, Nearer, nearest_to, Target, NonePast, FirstPast}
+use Rattle.heuristic.specs.Target.{first_at_least, FirstAbove, nearest_in, PastFrom, nearest_to, Target, NonePast, FirstPast}
 use Rattle.heuristic.proofs.Nearest.{smallest_unique, sum_of_behind, first_past_is, nearest_hinted, past_from, target_of, nearest_to_target, target_grows, target_most, none_first, none_more}
 
 -- The sum of the speeds of the first p processors.
@@ -49,10 +46,6 @@ unfolding sum_to
 speed_turn {job} {p} {total} {e} w h x =
     subst (λ (k : ℕ). SpeedTo job k (total + e)) (sym (add-one p))
     (record { to = h; total_is = ap₂ ◌+◌ w.total_is (x ∙ speed_read job p h) })
-
-pub speed_end : {job : Job} {p total : ℕ} → SpeedTo job p total → processors job ≤ p → total ≡ total_speed job
-speed_end {job} {p} w h =
-    w.total_is ∙ ap (sum_to (speed_of job)) (let e : p ≡ processors job = omega (arith, w.to) in e) ∙ sym (total_speed_is job)
 
 -- Every entry from a to i is less than the limit.
 record Passed (xs : List ℕ) (a b limit i : ℕ) : Type 0 where
@@ -141,45 +134,6 @@ module _ {job : Job} {xs : List ℕ} {total target : ℕ} (ready : Ready job xs)
             above = λ h. subst (λ (n : ℕ). target / total < at xs n) (sym next) (w.above (omega (arith, next)));
           }
 
--- The index after the last at most the cap is the first above it.
-pub above_after : {xs : List ℕ} {i n cap c r : ℕ} → 1 ≤ i → c ≡ cap → LastAtMost xs (i - 1) n c r → FirstAbove xs i n cap (r + 1)
-above_after {xs} {i} {n} {cap} {c} {r} h e w =
-    record {
-      from = omega (arith, w.from);
-      to = omega (arith, w.to);
-      below = subst (λ (k : ℕ). at xs k ≤ cap) (let z : r ≡ r + 1 - 1 = omega arith in z) (omega (arith, w.below));
-      above = λ l. subst (λ (k : ℕ). cap < at xs k) (sym (add-one r)) (omega (arith, w.above (omega arith)));
-    }
-
--- The choice between the first index g past a target and the one before it, whose entries are high and low.
-module _ {xs : List ℕ} {factor target n g : ℕ} (p : PastAt xs factor target n g) {low high : ℕ} (x : low ≡ at xs (g - 1)) (y : high ≡ at xs g) where
-  pub choice_products : Rising xs n → at xs n * factor < 2 ^ 64 → g ≤ n → (low * factor ≤ target) × (target ≤ high * factor) × (high * factor < 2 ^ 64)
-  choice_products rising fits h = (
-    subst (λ (i : ℕ). i * factor ≤ target) (sym x) p.below,
-    subst (λ (i : ℕ). target ≤ i * factor) (sym y) (omega (arith, p.above h)),
-    subst (λ (i : ℕ). i * factor < 2 ^ 64) (sym y) (lt_of_le_of_lt (mul-le-mul_right factor (rising.up g n h (omega arith))) fits),
-  )
-
-  -- By the test, added as 1 or 0.
-  pub choice_nearer : (b : Bool) → b ≡ ltb (distance (high * factor) target) (distance (low * factor) target) → g ≤ n
-      → Nearer xs factor target n g (g - 1 + bool_byte b)
-  choice_nearer true e h =
-      inl (
-        omega (arith, p.some),
-        h,
-        subst (λ (i : ℕ). distance (i * factor) target < off_in xs factor target (g - 1)) y
-            (subst (λ (i : ℕ). distance (high * factor) target < distance (i * factor) target) x
-            (ltb-true (distance (high * factor) target) (distance (low * factor) target) (sym e))),
-      )
-  choice_nearer false e h =
-      inr (
-        omega arith,
-        λ k.
-            subst (λ (i : ℕ). off_in xs factor target (g - 1) ≤ distance (i * factor) target) y
-            (subst (λ (i : ℕ). distance (i * factor) target ≤ distance (high * factor) target) x
-            (ltb-false (distance (high * factor) target) (distance (low * factor) target) (sym e))),
-      )
-
 -- The heuristic's separators up to p: the speed so far, the first index not known to be past the target and the nearest index.
 pub record Placed (job : Job) (before now : List ℕ) (total weight p speed past s : ℕ) : Type 0 where
   pub room : processors job < length before
@@ -259,9 +213,9 @@ module _ {job : Job} {xs ys : List ℕ} {total weight p speed past s e : ℕ} (v
       pub placed_narrow : q < 2 ^ 32
       placed_narrow = index_fits v (omega (arith, nearest_next, nearest-le job (suc p)))
 
-      pub placed_turn : {i : ℕ} → i ≡ q → Placed job xs (set ys (p + 1) i) total weight (p + 1) (speed + e) r q
-      placed_turn {i} z =
-          subst (λ (k : ℕ). SpeedTo job k (speed + e) → Placed job xs (set ys k i) total weight k (speed + e) r q) (sym (add-one p))
+      pub placed_turn : Placed job xs (set ys (p + 1) q) total weight (p + 1) (speed + e) r q
+      placed_turn =
+          subst (λ (k : ℕ). SpeedTo job k (speed + e) → Placed job xs (set ys k q) total weight k (speed + e) r q) (sym (add-one p))
           (λ n.
           record {
             room = w.room;
@@ -272,27 +226,27 @@ module _ {job : Job} {xs ys : List ℕ} {total weight p speed past s e : ℕ} (v
             behind = subst (λ (t : ℕ). NonePast job t r) placed_aim f.behind;
             near = nearest_next;
             narrow = placed_narrow;
-            front = front_store i w.front (omega (arith, w.room)) (z ∙ nearest_next ∙ sym (heuristic-at job (suc p) h));
+            front = front_store q w.front (omega (arith, w.room)) (nearest_next ∙ sym (heuristic-at job (suc p) h));
           }) next
 
 -- The end: N behind the last of them.
-pub placed_end : {job : Job} (xs : List ℕ) {ys : List ℕ} {total weight p speed past s i : ℕ} → Valid job → processors job < length xs
-    → Placed job (set xs 0 0) ys total weight p speed past s → last job ≤ p → i ≡ tasks job
-    → set ys (last job + 1) i ≡ heuristic job ++ drop (suc (processors job)) xs
-placed_end {job} xs {ys} {total} {weight} {p} {speed} {past} {s} {i} v room w h x =
+pub placed_end : {job : Job} (xs : List ℕ) {ys : List ℕ} {total weight p speed past s : ℕ} → Valid job → processors job < length xs
+    → Placed job (set xs 0 0) ys total weight p speed past s → last job ≤ p
+    → set ys (last job + 1) (tasks job) ≡ heuristic job ++ drop (suc (processors job)) xs
+placed_end {job} xs {ys} {total} {weight} {p} {speed} {past} {s} v room w h =
     front_end whole (omega (arith, length-set xs 0 0))
     ∙ ap₂ ◌++◌ table (drop-set-lt (suc (processors job)) xs 0 0 (omega arith))
   where
     ok : Proper job
     ok = valid_proper v
 
-    whole : Front (at (heuristic job)) (suc (processors job)) (set xs 0 0) (set ys (last job + 1) i)
+    whole : Front (at (heuristic job)) (suc (processors job)) (set xs 0 0) (set ys (last job + 1) (tasks job))
     whole =
-        subst (λ (k : ℕ). Front (at (heuristic job)) (suc (processors job)) (set xs 0 0) (set ys k i))
+        subst (λ (k : ℕ). Front (at (heuristic job)) (suc (processors job)) (set xs 0 0) (set ys k (tasks job)))
         (let e : processors job ≡ last job + 1 = omega (arith, ok.some) in e)
-        (front_store i
+        (front_store (tasks job)
         (subst (λ (k : ℕ). Front (at (heuristic job)) k (set xs 0 0) ys)
-        (let e : suc p ≡ processors job = omega (arith, w.to, ok.some) in e) w.front) w.room (x ∙ sym (heuristic_end ok)))
+        (let e : suc p ≡ processors job = omega (arith, w.to, ok.some) in e) w.front) w.room (sym (heuristic_end ok)))
 
     length_is : length (heuristic job) ≡ suc (processors job)
     length_is = heuristic_count ok

@@ -9,8 +9,8 @@ use mathlib.Core.Logic.{inl, inr}
 use native.Mathlib.Omega.{arith}
 use native.Mathlib.Decide.{dec_le}
 use native.Mathlib.Nat.{lt_of_mul-lt-mul_right, mul-le-mul_left, mul-le-mul_right, mul-lt-mul_of_pos_right, le-div_iff_mul-le, div-lt_iff_lt-mul}
-use lib.Dec.{leb, ltb}
-use borrow.Author.Tests.{lt-leb, leb-true, leb-false, lt-ltb, le-ltb}
+use lib.Dec.{leb}
+use borrow.Author.Tests.{lt-leb, leb-true, leb-false}
 use Rattle.chain.specs.Lists.{sum_to, smallest_from, smallest_least, distance}
 use Rattle.chain.specs.Job.{Job, tasks, processors, speed_of, part_weight, total_weight, total_speed, at}
 use Rattle.chain.specs.Heuristic.{miss, nearest}
@@ -57,11 +57,6 @@ below_strictly a b t h k = omega arith
 
 above : (a b t : ℕ) → t ≤ a → a ≤ b → distance a t ≤ distance b t
 above a b t h k = omega arith
-
--- A test that says what `ltb` says.
-pub test_is : (b : Bool) (m n : ℕ) → (b ≡ true → m < n) → (b ≡ false → n ≤ m) → b ≡ ltb m n
-test_is true m n h k = sym (lt-ltb m n (h refl))
-test_is false m n h k = sym (le-ltb m n (k refl))
 
 -- A function that grows up to n, a target t and the first index g past it: the smallest nearest index from s to n, counted from s.
 module _ (x : ℕ → ℕ) (s n t g : ℕ) (up : (i j : ℕ) → i ≤ j → j ≤ n → x i ≤ x j) (from : 1 ≤ g) (to : g ≤ suc n) (behind : x (g - 1) ≤ t)
@@ -195,10 +190,6 @@ module _ (job : Job) where
   nearest_to_is : (target : ℕ) → SmallestLeast (off job target) (tasks job) (nearest_to job target)
   unfolding nearest_to
   nearest_to_is target = smallest_least_is (off job target) (tasks job)
-
-  nearest_to_unique : (target : ℕ) {r : ℕ} → SmallestLeast (off job target) (tasks job) r → r ≡ nearest_to job target
-  unfolding nearest_to
-  nearest_to_unique target x = smallest_least_unique x
 
   -- The target of the first p processors.
   abbrev pub target_of : ℕ → ℕ

@@ -1,6 +1,6 @@
 -- The tests of a file's records from the front, and what the records hold as long as they pass.
 -- Assumes nothing.
-use Prim.Native.Nat.{ℕ, zero, suc, ◌+◌, ◌%◌, ◌≤◌, ◌<◌}
+use Prim.Native.Nat.{ℕ, zero, suc, ◌+◌, ◌*◌, ◌%◌, ◌≤◌, ◌<◌}
 use mathlib.Core.Path.{◌≡◌, refl, sym, ap, ap₂, ◌∙◌}
 use mathlib.Core.Bool.{Bool, true, false, cond}
 use mathlib.Core.List.{List, [], ◌∷◌, ◌++◌, append-nil}
@@ -9,17 +9,23 @@ use native.Mathlib.Omega.{arith}
 use native.Mathlib.Decide.{dec_le, ℕ_discrete}
 use native.Mathlib.Numerals.{add-one}
 use lib.Dec.{eqb}
-use lib.ListN.{length, length-append}
-use borrow.Author.Tests.{eq-eqb, ne_eqb}
+use lib.ListN.{length, get_or, length-append}
+use borrow.Author.Tests.{eq-eqb, ne_eqb, eqb-true}
+use Rattle.std.specs.Prelude.{Result, Ok, Err}
+use Rattle.chain.specs.declared.Refusal.{Refusal}
+use Rattle.chain.specs.declared.Refusal.TheVariants.{PartialRecord}
 use Rattle.chain.specs.Job.{startup_of, edition_of}
+use Rattle.chain.specs.Numbers.{code_of, refused, answered}
 use Rattle.chain.specs.Refusal.{first_refusal}
-use Rattle.jobs.specs.JobFile.{processor_kind, task_kind, startup_kind}
-use Rattle.jobs.specs.Parse.{record_count, byte_at, kind_at, value_at, is_kind, multiple_test, form_test, order_test, place_test, speed_test, weight_test, work_test, record_tests, records_tests, standing, values_of, second_in, startup_in, speeds_of, weights_of}
-use Rattle.jobs.specs.Answers.{answer_of}
-use Rattle.jobs.specs.Inner.{records_refusal}
-use Rattle.jobs.specs.declared.JobRead.{JobRead}
+use Rattle.chain.proofs.Numbers.{err_nonzero, answered_ok, answered_err}
 use Rattle.chain.proofs.Refusals.{Numbered, numbered_nil, numbered_cons, numbered_append, first_refusal-append, first_refusal_before}
 use Rattle.refusals.proofs.Steps.{fails, passes}
+use Rattle.jobs.specs.declared.JobRead.{JobRead}
+use Rattle.jobs.specs.declared.Kind.{Kind}
+use Rattle.jobs.specs.JobFile.{processor_kind, task_kind, startup_kind}
+use Rattle.jobs.specs.Parse.{record_count, byte_at, kind_at, value_at, is_kind, multiple_test, form_test, order_test, place_test, speed_test, weight_test, work_test, record_tests, records_tests, standing, values_of, second_in, startup_in, speeds_of, weights_of}
+use Rattle.jobs.specs.Answers.{read_in}
+use Rattle.jobs.specs.Inner.{records_refusal}
 use Rattle.jobs.proofs.OneRecord.{other_kind}
 
 module _ (file : List ℕ) where
@@ -119,9 +125,9 @@ module _ {file : List ℕ} where
   tested_none e =
       record { multiple = e; below = omega arith; counted = omega arith; processors_are = refl; tasks_are = refl; passed = refl }
 
-  module _ {processors tasks i : ℕ} (t : Tested file processors tasks i) (h : i < record_count file) {found : ℕ} (f : found ≡ first_refusal (record_tests file i)) where
-    next_passed : found ≡ 0 → first_refusal (records_tests file (i + 1)) ≡ 0
-    next_passed z = ap (λ (n : ℕ). first_refusal (records_tests file n)) (add-one i) ∙ records_next file i t.passed ∙ sym f ∙ z
+  module _ {processors tasks i : ℕ} (t : Tested file processors tasks i) (h : i < record_count file) (z : first_refusal (record_tests file i) ≡ 0) where
+    next_passed : first_refusal (records_tests file (i + 1)) ≡ 0
+    next_passed = ap (λ (n : ℕ). first_refusal (records_tests file n)) (add-one i) ∙ records_next file i t.passed ∙ z
 
     grows : (kind : ℕ) → kind_at file i ≡ kind → length (values_of kind file (i + 1)) ≡ length (values_of kind file i) + 1
     grows kind e =
@@ -131,37 +137,37 @@ module _ {file : List ℕ} where
     stays : (kind : ℕ) → kind_at file i ≢ kind → length (values_of kind file (i + 1)) ≡ length (values_of kind file i)
     stays kind e = ap (λ (n : ℕ). length (values_of kind file n)) (add-one i) ∙ ap length (values_same file kind i e)
 
-    pub tested_processor : found ≡ 0 → {k : ℕ} → k ≡ kind_at file i → k ≡ 1 → {p n : ℕ} → p ≡ processors + 1 → n ≡ tasks → Tested file p n (i + 1)
-    tested_processor z kind e c d =
+    pub tested_processor : kind_at file i ≡ processor_kind → {p n : ℕ} → p ≡ processors + 1 → n ≡ tasks → Tested file p n (i + 1)
+    tested_processor kind c d =
         record {
           multiple = t.multiple;
           below = omega arith;
           counted = omega (arith, t.counted);
-          processors_are = omega (arith, t.processors_are, grows 1 (omega arith));
+          processors_are = omega (arith, t.processors_are, grows 1 kind);
           tasks_are = omega (arith, t.tasks_are, stays 2 (omega arith));
-          passed = next_passed z;
+          passed = next_passed;
         }
 
-    pub tested_task : found ≡ 0 → {k : ℕ} → k ≡ kind_at file i → k ≡ 2 → {p n : ℕ} → p ≡ processors → n ≡ tasks + 1 → Tested file p n (i + 1)
-    tested_task z kind e c d =
+    pub tested_task : kind_at file i ≡ task_kind → {p n : ℕ} → p ≡ processors → n ≡ tasks + 1 → Tested file p n (i + 1)
+    tested_task kind c d =
         record {
           multiple = t.multiple;
           below = omega arith;
           counted = omega (arith, t.counted);
           processors_are = omega (arith, t.processors_are, stays 1 (omega arith));
-          tasks_are = omega (arith, t.tasks_are, grows 2 (omega arith));
-          passed = next_passed z;
+          tasks_are = omega (arith, t.tasks_are, grows 2 kind);
+          passed = next_passed;
         }
 
-    pub tested_neither : found ≡ 0 → {k : ℕ} → k ≡ kind_at file i → k ≢ 1 → k ≢ 2 → {p n : ℕ} → p ≡ processors → n ≡ tasks → Tested file p n (i + 1)
-    tested_neither z kind e f c d =
+    pub tested_startup : kind_at file i ≡ startup_kind → {p n : ℕ} → p ≡ processors → n ≡ tasks → Tested file p n (i + 1)
+    tested_startup kind c d =
         record {
           multiple = t.multiple;
           below = omega arith;
           counted = omega (arith, t.counted);
           processors_are = omega (arith, t.processors_are, stays 1 (omega arith));
           tasks_are = omega (arith, t.tasks_are, stays 2 (omega arith));
-          passed = next_passed z;
+          passed = next_passed;
         }
 
 -- What testing the records answers.
@@ -174,61 +180,64 @@ module _ (file : List ℕ) where
   unfolding records_refusal multiple_test
   multiple_passes e = passes 2 (records_tests file (record_count file)) (eq-eqb (length file % 8) 0 e)
 
-  -- The answer to an accepted file.
-  abbrev said : JobRead
-  said = JobRead.Read (second_in file) (startup_in file) (length (speeds_of file)) (length (weights_of file))
+  -- What is read, or the refusal by the length and the records.
+  abbrev pub Told : Result JobRead Refusal → Type 0
+  Told r = r ≡ answered (records_refusal file) (read_in file)
 
-  pub answer_refused : {n m : ℕ} → m ≡ n → n ≢ 0 → JobRead.Refused n ≡ answer_of m file
-  unfolding answer_of
-  answer_refused {n} {m} e h =
-      sym (ap (λ (k : ℕ). cond (eqb k 0) said (JobRead.Refused k)) e
-      ∙ ap (λ (b : Bool). cond b said (JobRead.Refused n)) (ne_eqb n 0 h))
+  pub partial_told : length file % 8 ≢ 0 → Told (Err PartialRecord)
+  unfolding refused code_of
+  partial_told h =
+      let r : Result JobRead Refusal = Err PartialRecord in answered_err {r = r} (read_in file) refl (sym (multiple_fails h))
 
-  pub answer_read : {m c p t : ℕ} {s : Bool} → m ≡ 0 → s ≡ second_in file → c ≡ startup_in file → p ≡ length (speeds_of file) → t ≡ length (weights_of file)
-      → JobRead.Read s c p t ≡ answer_of m file
-  unfolding answer_of
-  answer_read {p = p} {t = t} e a b d f =
-      ap₂ (λ (s : Bool) (c : ℕ). JobRead.Read s c p t) a b ∙ ap₂ (JobRead.Read (second_in file) (startup_in file)) d f
-      ∙ sym (ap (λ (k : ℕ). cond (eqb k 0) said (JobRead.Refused k)) e)
-
-  pub tested_refused : {processors tasks i : ℕ} → Tested file processors tasks i → i < record_count file → {found : ℕ}
-      → found ≡ first_refusal (record_tests file i) → found ≢ 0 → JobRead.Refused found ≡ answer_of (records_refusal file) file
-  tested_refused {i = i} t h {found} f r = answer_refused (multiple_passes t.multiple ∙ records_stop file (record_count file) (suc i) h (λ z. r (sym here ∙ z)) ∙ here) r
+  pub record_told : {processors tasks i : ℕ} → Tested file processors tasks i → i < record_count file → {r : Result Kind Refusal} {q : Result JobRead Refusal} {e : Refusal}
+      → refused r ≡ first_refusal (record_tests file i) → r ≡ Err e → q ≡ Err e → Told q
+  record_told {i = i} t h f g k = k ∙ answered_err (read_in file) g (f ∙ sym stop)
     where
-      here : first_refusal (records_tests file (suc i)) ≡ found
-      here = records_next file i t.passed ∙ sym f
+      here : first_refusal (records_tests file (suc i)) ≡ first_refusal (record_tests file i)
+      here = records_next file i t.passed
 
-  pub tested_all : {processors tasks i : ℕ} → Tested file processors tasks i → record_count file ≤ i → {r : JobRead}
-      → r ≡ JobRead.Read (second_in file) (startup_in file) processors tasks → r ≡ answer_of (records_refusal file) file
+      stop : records_refusal file ≡ first_refusal (record_tests file i)
+      stop =
+          multiple_passes t.multiple ∙ records_stop file (record_count file) (suc i) h (λ z. err_nonzero g f (sym here ∙ z)) ∙ here
+
+  -- What is read with these counts.
+  abbrev pub read_with : ℕ → ℕ → JobRead
+  read_with processors tasks = record { second = second_in file; startup = startup_in file; processors = processors; tasks = tasks }
+
+  pub all_told : {processors tasks i : ℕ} → Tested file processors tasks i → record_count file ≤ i → {r : JobRead} → r ≡ read_with processors tasks → Told (Ok r)
   unfolding speeds_of weights_of
-  tested_all {processors} {tasks} {i} t h e =
-      e ∙ answer_read (multiple_passes t.multiple ∙ ap (λ (n : ℕ). first_refusal (records_tests file n)) end ∙ t.passed) refl refl
+  all_told {processors} {tasks} {i} t h e =
+      ap Ok (e ∙ ap₂ read_with
       (t.processors_are ∙ ap (λ (n : ℕ). length (values_of processor_kind file n)) (sym end))
-      (t.tasks_are ∙ ap (λ (n : ℕ). length (values_of task_kind file n)) (sym end))
+      (t.tasks_are ∙ ap (λ (n : ℕ). length (values_of task_kind file n)) (sym end)))
+      ∙ answered_ok (read_in file) (multiple_passes t.multiple ∙ ap (λ (n : ℕ). first_refusal (records_tests file n)) end ∙ t.passed)
     where
       end : record_count file ≡ i
       end = omega (arith, t.below)
 
--- The edition and the start-up work that a file is read with: no byte, a first record of another kind, one of kind 3.
-module _ (file : List ℕ) (p t : ℕ) where
-  as_first : second_in file ≡ false → JobRead.Read false 0 p t ≡ JobRead.Read (second_in file) (startup_in file) p t
-  unfolding edition_of startup_of
-  as_first e = sym (ap (λ (b : Bool). JobRead.Read b (startup_of (edition_of b (value_at file 0))) p t) e)
+-- Whether a file is of the second edition: no byte, a first record of another kind, one of kind 3.
+module _ (file : List ℕ) where
+  pub second_none : length file ≤ 0 → false ≡ second_in file
+  unfolding second_in is_kind kind_at byte_at
+  second_none h = go file h
+    where
+      go : (l : List ℕ) → length l ≤ 0 → false ≡ eqb (get_or l (8 * 0 + 0) 0) 3
+      go [] h = refl
+      go (x ∷ l) h = absurd (let z : ⊥ = omega arith in z)
 
-  pub as_other : {k : ℕ} → k ≡ kind_at file 0 → k ≢ 3 → JobRead.Read false 0 p t ≡ JobRead.Read (second_in file) (startup_in file) p t
+  pub second_by : {k m : ℕ} → k ≡ byte_at file 0 0 → m ≡ startup_kind → eqb k m ≡ second_in file
+  unfolding second_in is_kind kind_at
+  second_by e f = ap₂ eqb e f
+
+  -- It is, and the first record holds the start-up work.
+  pub second_kind : {b : Bool} → b ≡ second_in file → b ≡ true → kind_at file 0 ≡ startup_kind
   unfolding second_in is_kind
-  as_other e h = as_first (ne_eqb (kind_at file 0) 3 (λ z. h (e ∙ z)))
+  second_kind e f = eqb-true (kind_at file 0) startup_kind (sym e ∙ f)
 
-  pub as_second : {k v : ℕ} → k ≡ kind_at file 0 → k ≡ 3 → v ≡ value_at file 0 → JobRead.Read true v p t ≡ JobRead.Read (second_in file) (startup_in file) p t
-  unfolding second_in is_kind edition_of startup_of
-  as_second e h f =
-      ap (λ (c : ℕ). JobRead.Read true c p t) f
-      ∙ sym (ap (λ (b : Bool). JobRead.Read b (startup_of (edition_of b (value_at file 0))) p t) (eq-eqb (kind_at file 0) 3 (sym e ∙ h)))
+  pub startup_read : {b : Bool} {v : ℕ} → b ≡ second_in file → b ≡ true → v ≡ value_at file 0 → v ≡ startup_in file
+  unfolding edition_of startup_of
+  startup_read e f g = g ∙ sym (ap (λ (b : Bool). startup_of (edition_of b (value_at file 0))) (sym e ∙ f))
 
-pub as_none : (file : List ℕ) (p t : ℕ) → length file ≤ 0 → JobRead.Read false 0 p t ≡ JobRead.Read (second_in file) (startup_in file) p t
-unfolding kind_at byte_at
-as_none [] p t h = as_other [] p t refl (omega arith)
-as_none (x ∷ file) p t h = absurd (let z : ⊥ = omega arith in z)
-
--- For `search`: at each return the law that its tests meet.
-pub ruleset as_laws = (as_none, as_other, as_second)
+  pub startup_none : {b : Bool} → b ≡ second_in file → b ≡ false → 0 ≡ startup_in file
+  unfolding edition_of startup_of
+  startup_none e f = sym (ap (λ (b : Bool). startup_of (edition_of b (value_at file 0))) (sym e ∙ f))

@@ -2,7 +2,7 @@
 -- Assumes nothing.
 use Prim.Native.Nat.{ℕ, zero, suc, ◌+◌, ◌*◌, ◌≤◌, ◌<◌, ◌^◌}
 use mathlib.Core.Path.{◌≡◌, refl, sym, ap, subst, ◌∙◌}
-use mathlib.Core.Bool.{true, false}
+use mathlib.Core.Bool.{true}
 use mathlib.Core.List.{List, [], ◌∷◌, ◌++◌, append_assoc, append-nil}
 use mathlib.Core.Logic.{◌≢◌}
 use native.Mathlib.Omega.{arith}
@@ -17,19 +17,20 @@ use Rattle.refusals.specs.Inputs.{head_records}
 use Rattle.jobs.specs.JobFile.{processor_kind, startup_kind, record_bytes, records_bytes, no_hold, edition_bytes}
 use Rattle.jobs.specs.Parse.{byte_at, kind_at, value_at, hold_at, blank}
 use Rattle.jobs.proofs.Records.{length_record, length_records}
-use Rattle.jobs.proofs.OneRecord.{first_set, processor_blank, second_set, third_decides}
+use Rattle.jobs.proofs.OneRecord.{is_processor, not_processor, first_decides, processor_blank, second_decides, third_decides}
 
 -- The bytes that have to be zero.
 module _ (file : List ℕ) (i : ℕ) where
-  untrue : blank file i ≡ true → false ≡ blank file i → ⊥
-  untrue e f = let w : ◌≡◌ {A = ℕ} 0 1 = cc in omega arith
-
   pub blank_first : blank file i ≡ true → byte_at file i 1 ≡ 0
-  blank_first e = elim (ℕ_discrete (byte_at file i 1) 0) [ yes z ↦ z | no z ↦ absurd (untrue e (first_set file i refl z)) ]
+  blank_first e =
+      elim (ℕ_discrete (byte_at file i 1) 0) [ yes z ↦ z | no z ↦ eqb-true (byte_at file i 1) 0 (first_decides file i refl z ∙ e) ]
 
   blank_second : blank file i ≡ true → kind_at file i ≢ processor_kind → byte_at file i 2 ≡ 0
   blank_second e k =
-      elim (ℕ_discrete (byte_at file i 2) 0) [ yes z ↦ z | no z ↦ absurd (untrue e (second_set file i refl refl (blank_first e) k refl z)) ]
+      elim (ℕ_discrete (byte_at file i 2) 0) [
+        | yes z ↦ z
+        | no z ↦ eqb-true (byte_at file i 2) 0 (second_decides file i (not_processor file i k) refl (blank_first e) refl refl z ∙ e)
+      ]
 
   -- The hold in a record is made of its bytes 2 and 3.
   pub hold_zero : byte_at file i 2 ≡ 0 → byte_at file i 3 ≡ 0 → hold_at file i ≡ 0
@@ -41,7 +42,7 @@ module _ (file : List ℕ) (i : ℕ) where
   pub blank_hold : blank file i ≡ true → kind_at file i ≢ processor_kind → hold_at file i ≡ 0
   blank_hold e k =
       let y : byte_at file i 2 ≡ 0 = blank_second e k in
-      hold_zero y (eqb-true (byte_at file i 3) 0 (third_decides file i refl refl (blank_first e) k refl y refl ∙ e))
+      hold_zero y (eqb-true (byte_at file i 3) 0 (third_decides file i (not_processor file i k) refl (blank_first e) refl refl y refl ∙ e))
 
   -- The bytes of record i are those of a record of its kind, its hold and its value.
   pub place_bytes : Bytes file → byte_at file i 1 ≡ 0 → (j : ℕ) → j < 8 → byte_at file i j ≡ get_or (record_bytes (kind_at file i) (hold_at file i) (value_at file i)) j 0
@@ -88,12 +89,12 @@ module _ {file : List ℕ} {i kind hold v : ℕ} (h : Has file i kind hold v) wh
   has_first = h.bytes 1 (omega arith)
 
   pub processor_has_blank : kind ≡ processor_kind → blank file i ≡ true
-  processor_has_blank e = sym (processor_blank file i refl refl has_first (has_kind ∙ e))
+  processor_has_blank e = sym (processor_blank file i (is_processor file i (has_kind ∙ e)) refl has_first refl)
 
   pub other_has_blank : kind ≢ processor_kind → hold ≡ 0 → blank file i ≡ true
   unfolding record_bytes half_bytes
   other_has_blank n e =
-      sym (third_decides file i refl refl has_first (λ z. n (sym has_kind ∙ z)) refl (h.bytes 2 (omega arith) ∙ omega arith) refl)
+      sym (third_decides file i (not_processor file i (λ z. n (sym has_kind ∙ z))) refl has_first refl refl (h.bytes 2 (omega arith) ∙ omega arith) refl)
       ∙ eq-eqb (byte_at file i 3) 0 (h.bytes 3 (omega arith) ∙ omega arith)
 
   pub has_hold : hold < 2 ^ 16 → hold_at file i ≡ hold

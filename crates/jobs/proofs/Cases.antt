@@ -5,14 +5,15 @@ use mathlib.Core.Path.{◌≡◌, refl}
 use mathlib.Core.Bool.{Bool, true, false, ◌&&◌}
 use mathlib.Core.List.{List, [], ◌∷◌, ◌++◌}
 use lib.Dec.{eqb}
+use Rattle.std.specs.Prelude.{Ok}
 use Rattle.chain.specs.Limits.{max_tasks, max_weight, max_startup, max_processors, max_speed}
 use Rattle.chain.specs.Job.{First, Second, startup_of, edition_of, job_of, free_job, hold_of}
+use Rattle.chain.specs.Numbers.{answered}
 use Rattle.chain.specs.Refusal.{processors_test, tasks_test, length_test, first_refusal}
 use Rattle.fields.specs.Field.{field_bytes, field_at, half_bytes, half_at}
 use Rattle.jobs.specs.JobFile.{record_bytes, records_bytes, edition_bytes, job_bytes}
 use Rattle.jobs.specs.Parse.{byte_at, kind_at, value_at, hold_at, is_kind, task_before, multiple_test, blank, form_test, order_test, place_test, speed_test, weight_test, work_test, record_tests, records_tests, standing, second_in, edition_in, speeds_of, holds_of, weights_of, job_in, file_tests, file_refusal}
-use Rattle.jobs.specs.Answers.{answer_of, read_tests, read_refusal, read_answer}
-use Rattle.jobs.specs.declared.JobRead.{JobRead}
+use Rattle.jobs.specs.Answers.{read_tests, read_refusal, read_answer}
 
 -- A file with its number.
 pub record Case : Type 0 where
@@ -113,9 +114,9 @@ lent_gives = (refl, refl, refl, refl, refl, refl)
 
 -- The file by hand is read and written with its edition.
 pub second_reads :
-    (edition_in second_file ≡ Second 5) × (job_in second_file ≡ free_job 5 (2 ∷ []) (7 ∷ [])) × (read_answer second_file 1 1 1 ≡ JobRead.Read true 5 1 1)
+    (edition_in second_file ≡ Second 5) × (job_in second_file ≡ free_job 5 (2 ∷ []) (7 ∷ [])) × (read_answer second_file 1 1 1 ≡ Ok (record { second = true; startup = 5; processors = 1; tasks = 1 }))
     × (job_bytes (Second 5) (free_job 5 (2 ∷ []) (7 ∷ [])) ≡ second_file)
-unfolding second_file job_bytes hold_of edition_bytes records_bytes record_bytes field_bytes half_bytes edition_of startup_of second_in answer_of read_answer read_refusal read_tests length_test file_tests first_refusal multiple_test records_tests record_tests form_test order_test place_test speed_test weight_test work_test standing speeds_of holds_of weights_of processors_test tasks_test byte_at kind_at value_at hold_at field_at half_at is_kind task_before blank max_tasks max_weight max_startup max_processors max_speed
+unfolding second_file job_bytes hold_of edition_bytes records_bytes record_bytes field_bytes half_bytes edition_of startup_of second_in answered read_answer read_refusal read_tests length_test file_tests first_refusal multiple_test records_tests record_tests form_test order_test place_test speed_test weight_test work_test standing speeds_of holds_of weights_of processors_test tasks_test byte_at kind_at value_at hold_at field_at half_at is_kind task_before blank max_tasks max_weight max_startup max_processors max_speed
 second_reads = (refl, refl, refl, refl)
 
 -- Without its first record it is of the first edition.
@@ -127,7 +128,7 @@ first_reads = (refl, refl, refl)
 
 -- The file by hand with holds is read and written as it is.
 pub held_reads :
-    (holds_of held_file ≡ 2049 ∷ 0 ∷ []) × (job_in held_file ≡ job_of 0 (2 ∷ 3 ∷ []) (2049 ∷ 0 ∷ []) (7 ∷ [])) × (read_answer held_file 2 2 1 ≡ JobRead.Read false 0 2 1)
+    (holds_of held_file ≡ 2049 ∷ 0 ∷ []) × (job_in held_file ≡ job_of 0 (2 ∷ 3 ∷ []) (2049 ∷ 0 ∷ []) (7 ∷ [])) × (read_answer held_file 2 2 1 ≡ Ok (record { second = false; startup = 0; processors = 2; tasks = 1 }))
     × (job_bytes First (job_of 0 (2 ∷ 3 ∷ []) (2049 ∷ 0 ∷ []) (7 ∷ [])) ≡ held_file)
-unfolding held_file job_bytes edition_bytes records_bytes record_bytes field_bytes half_bytes hold_of edition_of startup_of second_in answer_of read_answer read_refusal read_tests length_test file_tests first_refusal multiple_test records_tests record_tests form_test order_test place_test speed_test weight_test work_test standing speeds_of holds_of weights_of processors_test tasks_test byte_at kind_at value_at hold_at field_at half_at is_kind task_before blank max_tasks max_weight max_startup max_processors max_speed
+unfolding held_file job_bytes edition_bytes records_bytes record_bytes field_bytes half_bytes hold_of edition_of startup_of second_in answered read_answer read_refusal read_tests length_test file_tests first_refusal multiple_test records_tests record_tests form_test order_test place_test speed_test weight_test work_test standing speeds_of holds_of weights_of processors_test tasks_test byte_at kind_at value_at hold_at field_at half_at is_kind task_before blank max_tasks max_weight max_startup max_processors max_speed
 held_reads = (refl, refl, refl, refl)

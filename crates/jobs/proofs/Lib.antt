@@ -1,10 +1,12 @@
+pub mod KindNumbers
+pub mod Answered
 pub mod Records
 pub mod Writing
 pub mod OneRecord
 pub mod Bytes
 pub mod AllRecords
 pub mod AllTasks
-pub mod Copying
+pub mod Filling
 pub mod Passed
 pub mod Reading
 pub mod RoundTrip

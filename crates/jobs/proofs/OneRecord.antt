@@ -9,11 +9,20 @@ use mathlib.Core.Logic.{◌≢◌}
 use native.Mathlib.Omega.{arith}
 use lib.Dec.{eqb, ltb}
 use lib.ListN.{length, length-append}
-use borrow.Author.Tests.{eq-eqb, ne_eqb, lt-ltb, le-ltb, not-true, not-false}
+use borrow.Author.Tests.{eq-eqb, ne_eqb, lt-ltb, le-ltb}
+use denote.Enum.Bare.{sameb}
+use Rattle.std.specs.Prelude.{Result, Err}
 use Rattle.chain.specs.Limits.{max_weight, max_startup, max_speed}
+use Rattle.chain.specs.declared.Refusal.{Refusal}
+use Rattle.chain.specs.Numbers.{code_of, refused}
 use Rattle.chain.specs.Refusal.{Test, between, first_refusal}
+use Rattle.jobs.specs.contracts.Kind.{the_type}
+use Rattle.jobs.specs.declared.Kind.{Kind}
+use Rattle.jobs.specs.declared.Kind.TheVariants.{Processor, Task, Startup}
+use Rattle.jobs.specs.Kinds.{kind_number, kind_of}
 use Rattle.jobs.specs.JobFile.{processor_kind, task_kind, startup_kind}
 use Rattle.jobs.specs.Parse.{byte_at, kind_at, value_at, is_kind, task_before, blank, form_test, order_test, place_test, speed_test, weight_test, work_test, record_tests, standing, values_of}
+use Rattle.jobs.proofs.KindNumbers.{kind_refused}
 use Rattle.refusals.proofs.Each.{between_low, between_high, between_in}
 use Rattle.refusals.proofs.Steps.{fails, passes, passed-all}
 
@@ -26,31 +35,35 @@ module _ (file : List ℕ) (i : ℕ) where
   unfolding blank rest
   blank_by e f g = cc
 
-  pub first_set : {x : ℕ} → x ≡ byte_at file i 1 → x ≢ 0 → false ≡ blank file i
-  first_set e h = sym (blank_by (ne_eqb (byte_at file i 1) 0 (λ z. h (e ∙ z))) refl refl)
+  pub is_processor : kind_at file i ≡ processor_kind → true ≡ is_kind processor_kind file i
+  unfolding is_kind
+  is_processor e = sym (eq-eqb (kind_at file i) processor_kind e)
 
-  module _ {k x : ℕ} (kind : k ≡ kind_at file i) (first : x ≡ byte_at file i 1) (zero : x ≡ 0) where
-    is_zero : eqb (byte_at file i 1) 0 ≡ true
-    is_zero = eq-eqb (byte_at file i 1) 0 (sym first ∙ zero)
+  pub not_processor : kind_at file i ≢ processor_kind → false ≡ is_kind processor_kind file i
+  unfolding is_kind
+  not_processor h = sym (ne_eqb (kind_at file i) processor_kind h)
 
-    pub processor_blank : k ≡ processor_kind → true ≡ blank file i
-    unfolding is_kind
-    processor_blank e = sym (blank_by is_zero (eq-eqb (kind_at file i) processor_kind (sym kind ∙ e)) refl)
+  pub first_decides : {x : ℕ} → x ≡ byte_at file i 1 → x ≢ 0 → eqb x 0 ≡ blank file i
+  first_decides {x} e h = ne_eqb x 0 h ∙ sym (blank_by (ne_eqb (byte_at file i 1) 0 (λ z. h (e ∙ z))) refl refl)
 
-    other_blank : k ≢ processor_kind → {c : Bool} → rest ≡ c → blank file i ≡ c
-    unfolding is_kind
-    other_blank h g = blank_by is_zero (ne_eqb (kind_at file i) processor_kind (λ z. h (kind ∙ z))) g
+  module _ {b : Bool} {x : ℕ} (kind : b ≡ is_kind processor_kind file i) (first : x ≡ byte_at file i 1) (zero : x ≡ 0) where
+    by_kind : {a c : Bool} → b ≡ a → rest ≡ c → blank file i ≡ (a || c)
+    by_kind e g = blank_by (eq-eqb (byte_at file i 1) 0 (sym first ∙ zero)) (sym kind ∙ e) g
 
-    pub second_set : k ≢ processor_kind → {y : ℕ} → y ≡ byte_at file i 2 → y ≢ 0 → false ≡ blank file i
+    pub processor_blank : b ≡ true → b ≡ blank file i
+    processor_blank e = e ∙ sym (by_kind e refl)
+
+    pub second_decides : b ≡ false → {y : ℕ} → y ≡ byte_at file i 2 → y ≢ 0 → eqb y 0 ≡ blank file i
     unfolding rest
-    second_set n e h =
-        sym (other_blank n (ap (λ (c : Bool). c && eqb (byte_at file i 3) 0) (ne_eqb (byte_at file i 2) 0 (λ z. h (e ∙ z)))))
+    second_decides n {y} e h =
+        ne_eqb y 0 h
+        ∙ sym (by_kind n (ap (λ (c : Bool). c && eqb (byte_at file i 3) 0) (ne_eqb (byte_at file i 2) 0 (λ z. h (e ∙ z)))))
 
-    pub third_decides : k ≢ processor_kind → {y z : ℕ} → y ≡ byte_at file i 2 → y ≡ 0 → z ≡ byte_at file i 3 → eqb z 0 ≡ blank file i
+    pub third_decides : b ≡ false → {y z : ℕ} → y ≡ byte_at file i 2 → y ≡ 0 → z ≡ byte_at file i 3 → eqb z 0 ≡ blank file i
     unfolding rest
     third_decides n e h f =
         ap (λ (n : ℕ). eqb n 0) f
-        ∙ sym (other_blank n (ap (λ (c : Bool). c && eqb (byte_at file i 3) 0) (eq-eqb (byte_at file i 2) 0 (sym e ∙ h))))
+        ∙ sym (by_kind n (ap (λ (c : Bool). c && eqb (byte_at file i 3) 0) (eq-eqb (byte_at file i 2) 0 (sym e ∙ h))))
 
 -- A task stands before record i exactly when some value of the first i is one's.
 pub before_counted : (file : List ℕ) (i : ℕ) → task_before file i ≡ ltb 0 (length (values_of task_kind file i))
@@ -129,10 +142,10 @@ module _ (file : List ℕ) (i : ℕ) {k : ℕ} (kind : k ≡ kind_at file i) whe
       ∙ ap (λ (c : Bool). c && blank file i) (is_not startup_kind h)))
 
 module _ (file : List ℕ) (i : ℕ) {b : Bool} (zeros : b ≡ blank file i) where
-  pub not-blank : not b ≡ true → 3 ≡ first_refusal (record_tests file i)
+  pub not-blank : b ≡ false → 3 ≡ first_refusal (record_tests file i)
   unfolding record_tests form_test
   not-blank h =
-      sym (fails 3 (from_order file i) (ap (λ (c : Bool). kinds && c) (sym zeros ∙ not-true b h) ∙ and_false kinds))
+      sym (fails 3 (from_order file i) (ap (λ (c : Bool). kinds && c) (sym zeros ∙ h) ∙ and_false kinds))
     where
       kinds : Bool
       kinds = is_kind processor_kind file i || is_kind task_kind file i || is_kind startup_kind file i
@@ -142,17 +155,17 @@ module _ (file : List ℕ) (i : ℕ) {b : Bool} (zeros : b ≡ blank file i) whe
       and_false false = refl
 
   -- Where they are zero, a record of one of the kinds passes the first test.
-  formed : not b ≡ false → {x y z : Bool} → is_kind processor_kind file i ≡ x → is_kind task_kind file i ≡ y → is_kind startup_kind file i ≡ z → (x || y || z) ≡ true
+  formed : b ≡ true → {x y z : Bool} → is_kind processor_kind file i ≡ x → is_kind task_kind file i ≡ y → is_kind startup_kind file i ≡ z → (x || y || z) ≡ true
       → first_refusal (record_tests file i) ≡ first_refusal (from_order file i)
   unfolding record_tests form_test
   formed h {x} {y} {z} p q r one =
       passes 3 (from_order file i)
       (ap₂ (λ (a c : Bool). (a || c || is_kind startup_kind file i) && blank file i) p q
-      ∙ ap₂ (λ (a c : Bool). (x || y || a) && c) r (sym zeros ∙ not-false b h) ∙ ap (λ (a : Bool). a && true) one)
+      ∙ ap₂ (λ (a c : Bool). (x || y || a) && c) r (sym zeros ∙ h) ∙ ap (λ (a : Bool). a && true) one)
 
 -- A processor's record.
 module _ (file : List ℕ) (i : ℕ) {k v t : ℕ} {b : Bool} (kind : k ≡ kind_at file i) (value : v ≡ value_at file i) (zeros : b ≡ blank file i)
-    (count : t ≡ length (values_of task_kind file i)) (zero : not b ≡ false) (one : k ≡ 1) where
+    (count : t ≡ length (values_of task_kind file i)) (zero : b ≡ true) (one : k ≡ 1) where
   to_order : first_refusal (record_tests file i) ≡ first_refusal (from_order file i)
   to_order =
       formed file i zeros zero (is file i kind 1 one) (is_not file i kind 2 (omega arith)) (is_not file i kind 3 (omega arith)) refl
@@ -193,7 +206,7 @@ module _ (file : List ℕ) (i : ℕ) {k v t : ℕ} {b : Bool} (kind : k ≡ kind
 
 -- A task's record.
 module _ (file : List ℕ) (i : ℕ) {k v : ℕ} {b : Bool} (kind : k ≡ kind_at file i) (value : v ≡ value_at file i) (zeros : b ≡ blank file i)
-    (zero : not b ≡ false) (two : k ≡ 2) where
+    (zero : b ≡ true) (two : k ≡ 2) where
   to_weight : first_refusal (record_tests file i) ≡ first_refusal (from_weight file i)
   to_weight =
       formed file i zeros zero (is_not file i kind 1 (omega arith)) (is file i kind 2 two) (is_not file i kind 3 (omega arith)) refl
@@ -216,7 +229,7 @@ module _ (file : List ℕ) (i : ℕ) {k v : ℕ} {b : Bool} (kind : k ≡ kind_a
 
 -- A record with the start-up work.
 module _ (file : List ℕ) (i : ℕ) {k v : ℕ} {b : Bool} (kind : k ≡ kind_at file i) (value : v ≡ value_at file i) (zeros : b ≡ blank file i)
-    (zero : not b ≡ false) (three : k ≡ 3) where
+    (zero : b ≡ true) (three : k ≡ 3) where
   to_place : first_refusal (record_tests file i) ≡ first_refusal (from_place file i)
   to_place =
       formed file i zeros zero (is_not file i kind 1 (omega arith)) (is_not file i kind 2 (omega arith)) (is file i kind 3 three) refl
@@ -246,7 +259,20 @@ module _ (file : List ℕ) (i : ℕ) {k v : ℕ} {b : Bool} (kind : k ≡ kind_a
       ∙ passes 16 [] (ap₂ (λ (a c : Bool). not a || c) (is file i kind 3 three) (between_in 0 max_startup (value_at file i) (omega arith) (omega arith)))
       ∙ passed-all)
 
--- For `search`: at each return the law that its tests meet.
-pub ruleset blank_laws = (first_set, processor_blank, second_set, third_decides)
+-- The kind is a processor's exactly where the record's is.
+pub processor_same : (kind : Kind) (file : List ℕ) (i : ℕ) → kind_number kind ≡ kind_at file i → sameb the_type kind Processor ≡ is_kind processor_kind file i
+unfolding is_kind kind_number
+processor_same kind file i e = same kind ∙ ap (λ (n : ℕ). eqb n 1) e
+  where
+    same : (kind : Kind) → sameb the_type kind Processor ≡ eqb (kind_number kind) 1
+    same Processor = refl
+    same Task = refl
+    same Startup = refl
 
-pub ruleset record_laws = (other_kind, not-blank, processor_late, processor_low, processor_high, processor_passes, task_high, task_passes, startup_late, startup_high, startup_passes, refl)
+-- A record of no kind.
+pub kind_fails : (file : List ℕ) (i : ℕ) {n : ℕ} {r q : Result Kind Refusal} {e : Refusal} → n ≡ byte_at file i 0 → r ≡ kind_of n → r ≡ Err e → q ≡ Err e
+    → refused q ≡ first_refusal (record_tests file i)
+unfolding kind_at refused code_of
+kind_fails file i {n} f g h k =
+    let t = kind_refused g h in
+    ap refused k ∙ ap code_of (sym t.0) ∙ other_kind file i f t.1 t.2 t.3

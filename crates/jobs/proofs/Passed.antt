@@ -2,7 +2,7 @@
 -- Assumes nothing.
 use Prim.Native.Nat.{ℕ, zero, suc, ◌+◌, ◌≤◌, ◌<◌}
 use mathlib.Core.Path.{◌≡◌, refl, sym, ap, ap₂, subst, ◌∙◌}
-use mathlib.Core.Bool.{Bool, true, false, not}
+use mathlib.Core.Bool.{Bool, true, false}
 use mathlib.Core.List.{List, [], ◌∷◌, ◌++◌}
 use mathlib.Core.Logic.{◌≢◌, ◌⊎◌, inl, inr}
 use native.Mathlib.Omega.{arith}
@@ -20,7 +20,7 @@ use Rattle.jobs.specs.Parse.{byte_at, kind_at, value_at, hold_at, is_kind, blank
 use Rattle.jobs.proofs.OneRecord.{not-blank, processor_late, processor_low, processor_high, task_high, startup_late, startup_high}
 use Rattle.jobs.proofs.AllRecords.{records_next, records_fewer, standing_more, standing_same, standing-length, values_more, values_same, kind_cases}
 use Rattle.jobs.proofs.Bytes.{blank_hold}
-use Rattle.jobs.proofs.Copying.{tabulate_snoc}
+use Rattle.jobs.proofs.Filling.{tabulate_snoc}
 
 -- A processor's record, with no task before it; a task's; the one with the start-up work, which is the first.
 pub record OfProcessor (file : List ℕ) (i : ℕ) : Type 0 where
@@ -52,17 +52,14 @@ module _ (file : List ℕ) (i : ℕ) (e : first_refusal (record_tests file i) �
   passed_record =
       elim (kind_cases file i e) [ inl k ↦ inl (processor k) | inr k ↦ inr (elim k [ inl t ↦ inl (task t) | inr s ↦ inr (startup s) ]) ]
     where
-      zeros : not (blank file i) ≡ false
-      zeros = ap not passed-blank
-
       processor : kind_at file i ≡ processor_kind → OfProcessor file i
       processor k =
-          let none : length (values_of task_kind file i) ≡ 0 = elim (dec_le 1 (length (values_of task_kind file i))) [ yes h ↦ absurd (let z : ⊥ = omega (arith, processor_late file i refl refl refl refl zeros k h, e) in z) | no h ↦ omega arith ] in
+          let none : length (values_of task_kind file i) ≡ 0 = elim (dec_le 1 (length (values_of task_kind file i))) [ yes h ↦ absurd (let z : ⊥ = omega (arith, processor_late file i refl refl refl refl passed-blank k h, e) in z) | no h ↦ omega arith ] in
           record {
             kind = k;
             first = none;
-            positive = elim (ℕ_discrete (value_at file i) 0) [ yes h ↦ absurd (let z : ⊥ = omega (arith, processor_low file i refl refl refl refl zeros k (omega arith) h, e) in z) | no h ↦ omega arith ];
-            limit = elim (dec_le (value_at file i) max_speed) [ yes h ↦ h | no h ↦ absurd (let z : ⊥ = omega (arith, processor_high file i refl refl refl refl zeros k (omega arith) refl (let l : max_speed < value_at file i = omega arith in l), e) in z) ];
+            positive = elim (ℕ_discrete (value_at file i) 0) [ yes h ↦ absurd (let z : ⊥ = omega (arith, processor_low file i refl refl refl refl passed-blank k (omega arith) h, e) in z) | no h ↦ omega arith ];
+            limit = elim (dec_le (value_at file i) max_speed) [ yes h ↦ h | no h ↦ absurd (let z : ⊥ = omega (arith, processor_high file i refl refl refl refl passed-blank k (omega arith) refl (let l : max_speed < value_at file i = omega arith in l), e) in z) ];
           }
 
       task : kind_at file i ≡ task_kind → OfTask file i
@@ -70,17 +67,17 @@ module _ (file : List ℕ) (i : ℕ) (e : first_refusal (record_tests file i) �
           record {
             kind = k;
             no_hold_lem = blank_hold file i passed-blank (omega (arith, k));
-            limit = elim (dec_le (value_at file i) max_weight) [ yes h ↦ h | no h ↦ absurd (let z : ⊥ = omega (arith, task_high file i refl refl refl zeros k refl (let l : max_weight < value_at file i = omega arith in l), e) in z) ];
+            limit = elim (dec_le (value_at file i) max_weight) [ yes h ↦ h | no h ↦ absurd (let z : ⊥ = omega (arith, task_high file i refl refl refl passed-blank k refl (let l : max_weight < value_at file i = omega arith in l), e) in z) ];
           }
 
       startup : kind_at file i ≡ startup_kind → OfStartup file i
       startup k =
-          let none : i ≡ 0 = elim (dec_le 1 i) [ yes h ↦ absurd (let z : ⊥ = omega (arith, startup_late file i refl refl refl zeros k h, e) in z) | no h ↦ omega arith ] in
+          let none : i ≡ 0 = elim (dec_le 1 i) [ yes h ↦ absurd (let z : ⊥ = omega (arith, startup_late file i refl refl refl passed-blank k h, e) in z) | no h ↦ omega arith ] in
           record {
             kind = k;
             first = none;
             no_hold_lem = blank_hold file i passed-blank (omega (arith, k));
-            limit = elim (dec_le (value_at file i) max_startup) [ yes h ↦ h | no h ↦ absurd (let z : ⊥ = omega (arith, startup_high file i refl refl refl zeros k (omega arith) refl (let l : max_startup < value_at file i = omega arith in l), e) in z) ];
+            limit = elim (dec_le (value_at file i) max_startup) [ yes h ↦ h | no h ↦ absurd (let z : ⊥ = omega (arith, startup_high file i refl refl refl passed-blank k (omega arith) refl (let l : max_startup < value_at file i = omega arith in l), e) in z) ];
           }
 
 -- The record in front: one in the second edition, whose first record is of its kind, and none in the first edition.

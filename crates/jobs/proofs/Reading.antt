@@ -1,37 +1,63 @@
 -- What reading a job file answers and leaves, by its tests.
 -- Assumes nothing.
-use Prim.Native.Nat.{ℕ, ◌+◌, ◌%◌, ◌≤◌, ◌<◌}
+use Prim.Native.Nat.{ℕ, ◌+◌, ◌%◌, ◌≤◌}
 use mathlib.Core.Path.{◌≡◌, refl, sym, ap, ap₂, ◌∙◌}
 use mathlib.Core.Bool.{Bool}
 use mathlib.Core.List.{List, [], ◌∷◌, ◌++◌, append_assoc}
 use mathlib.Core.Logic.{◌≢◌, ◌⊎◌, inl, inr}
 use native.Mathlib.Omega.{arith}
 use native.Mathlib.Decide.{ℕ_discrete}
-use lib.Dec.{leb}
+use lib.Dec.{T, leb, leb→le}
 use lib.ListN.{length, drop}
-use borrow.Author.Tests.{le-leb, lt-leb}
+use Rattle.std.specs.Prelude.{Result, Ok, Err}
+use Rattle.chain.specs.declared.Refusal.{Refusal}
 use Rattle.chain.specs.Limits.{max_processors, max_tasks}
 use Rattle.chain.specs.Lists.{tabulate}
+use Rattle.chain.specs.Numbers.{refused, answered}
 use Rattle.chain.specs.Refusal.{Test, test, between, processors_test, tasks_test, length_test, first_refusal}
 use Rattle.chain.specs.Job.{edition_of}
+use Rattle.chain.proofs.Numbers.{refused_ok, err_nonzero, answered_ok, answered_err}
+use Rattle.chain.proofs.Refusals.{Numbered, numbered_nil, numbered_cons, numbered_append, append_accepted, pass_head, pass_skip, first_refusal-append, first_refusal_before}
 use Rattle.refusals.specs.Inputs.{head_records}
 use Rattle.refusals.specs.Answers.{lent_after}
-use Rattle.jobs.specs.JobFile.{processor_kind}
-use Rattle.jobs.specs.Parse.{record_count, value_at, hold_at, multiple_test, records_tests, second_in, edition_in, startup_in, speeds_of, holds_of, weights_of, file_tests, file_refusal}
-use Rattle.jobs.specs.Answers.{answer_of, read_tests, read_refusal, read_answer, read_speeds, read_holds, read_weights}
-use Rattle.jobs.specs.Inner.{records_refusal, Counted, Reads}
-use Rattle.jobs.specs.declared.JobRead.{JobRead}
-use Rattle.chain.proofs.Refusals.{Numbered, numbered_nil, numbered_cons, first_refusal-append, first_refusal_before}
-use Rattle.refusals.proofs.Steps.{fails, passes, passed-all}
-use Rattle.jobs.proofs.AllRecords.{records_numbered, standing-length, multiple_fails, multiple_passes, answer_refused, answer_read}
-use Rattle.jobs.proofs.Passed.{NoFront, Front, front, kind_some, Placed, placed}
 use Rattle.refusals.proofs.Lent.{lent_refused, lent_accepted}
-use Rattle.refusals.proofs.Editions.{edition_effective}
+use Rattle.refusals.proofs.Values.{answered_value}
+use Rattle.jobs.specs.declared.JobRead.{JobRead}
+use Rattle.jobs.specs.JobFile.{processor_kind}
+use Rattle.jobs.specs.Parse.{record_count, value_at, hold_at, multiple_test, records_tests, edition_in, speeds_of, holds_of, weights_of, file_tests, file_refusal}
+use Rattle.jobs.specs.Answers.{read_in, read_tests, read_refusal, read_answer, read_speeds, read_holds, read_weights}
+use Rattle.jobs.specs.Inner.{records_refusal}
+use Rattle.jobs.proofs.Answered as answer
+use Rattle.jobs.proofs.AllRecords.{records_numbered, standing-length, multiple_fails, multiple_passes, Told}
+use Rattle.jobs.proofs.Passed.{NoFront, Front, front, kind_some, Placed, placed}
 
 -- A file has as many holds as speeds.
 pub holds-length : (file : List ℕ) → length (holds_of file) ≡ length (speeds_of file)
 unfolding holds_of speeds_of
 holds-length file = standing-length file (hold_at file) (value_at file) processor_kind (record_count file)
+
+-- Tests in two parts: k is what the first part gives.
+module _ (ts us : List Test) {k : ℕ} (e : k ≡ first_refusal ts) where
+  stops : k ≢ 0 → first_refusal (ts ++ us) ≡ k
+  stops h = first_refusal_before ts us (λ z. h (e ∙ z)) ∙ sym e
+
+  goes_on : Numbered ts → k ≡ 0 → first_refusal (ts ++ us) ≡ first_refusal us
+  goes_on n z = first_refusal-append ts us n (sym e ∙ z)
+
+-- The test of one length.
+abbrev fit : ℕ → ℕ → List Test
+fit needed given = length_test needed given ∷ []
+
+fit_numbered : (needed given : ℕ) → Numbered (fit needed given)
+unfolding length_test
+fit_numbered needed given = numbered_cons (omega arith) numbered_nil
+
+fits : (needed given : ℕ) (ts : List Test) → first_refusal (length_test needed given ∷ ts) ≡ 0 → (needed ≤ given) × (first_refusal ts ≡ 0)
+unfolding length_test
+fits needed given ts e =
+    let t = length_test needed given in
+    let p : T t.passes = pass_head t ts (omega arith) e in
+    (leb→le needed given p, sym (pass_skip t ts p) ∙ e)
 
 module _ (file : List ℕ) where
   -- The tests of the length and of the records.
@@ -58,29 +84,6 @@ module _ (file : List ℕ) where
   pub accepted_records : records_refusal file ≡ 0 → first_refusal (records_tests file (record_count file)) ≡ 0
   accepted_records e = sym (multiple_passes file (accepted_multiple e)) ∙ e
 
-  -- Tests that follow those, and then 7 and 8.
-  later : List Test → List Test
-  later L = early ++ (counts ++ L)
-
-  by_early : (L : List Test) → records_refusal file ≢ 0 → first_refusal (later L) ≡ records_refusal file
-  unfolding later early records_refusal
-  by_early L h = first_refusal_before early (counts ++ L) h
-
-  to_counts : (L : List Test) → records_refusal file ≡ 0 → first_refusal (later L) ≡ first_refusal (counts ++ L)
-  unfolding later early records_refusal
-  to_counts L e = first_refusal-append early (counts ++ L) early_numbered e
-
-  module _ {second : Bool} {startup p t n : ℕ} (a : Counted file second startup p t) (f : n ≡ first_refusal (test 7 (between 1 max_processors p) ∷ test 8 (leb t max_tasks) ∷ [])) where
-    counted : n ≡ first_refusal counts
-    unfolding counts processors_test tasks_test
-    counted = f ∙ ap₂ (λ (p t : ℕ). first_refusal (test 7 (between 1 max_processors p) ∷ test 8 (leb t max_tasks) ∷ [])) a.speeds a.weights
-
-    by_counts : (L : List Test) → n ≢ 0 → first_refusal (later L) ≡ n
-    by_counts L h = to_counts L a.records ∙ first_refusal_before counts L (λ z. h (counted ∙ z)) ∙ sym counted
-
-    to_lent : (L : List Test) → n ≡ 0 → first_refusal (later L) ≡ first_refusal L
-    to_lent L z = to_counts L a.records ∙ first_refusal-append counts L counts_numbered (sym counted ∙ z)
-
   -- Every record in front is one of the file's.
   pub head_below : length file % 8 ≡ 0 → head_records (edition_in file) ≤ record_count file
   head_below m = go (front file)
@@ -92,178 +95,189 @@ module _ (file : List ℕ) where
   pub accepted_placed : records_refusal file ≡ 0 → Placed file (record_count file)
   accepted_placed e = placed file (record_count file) (head_below (accepted_multiple e)) (accepted_records e)
 
-  pub accepted_counts : records_refusal file ≡ 0 → Counted file (second_in file) (startup_in file) (length (speeds_of file)) (length (weights_of file))
+  -- The records are those in front, those of the processors and those of the tasks.
+  pub accepted_together : records_refusal file ≡ 0 → head_records (edition_in file) + (length (speeds_of file) + length (weights_of file)) ≡ record_count file
   unfolding speeds_of weights_of
-  accepted_counts e =
-      record { records = e; second_in_lem = refl; startup_in_lem = refl; speeds = refl; weights = refl; together = (accepted_placed e).together }
-
-  -- What an answer says of the tests of the length and of the records.
-  pub read_accepted : {second : Bool} {startup p t : ℕ} {r : JobRead} → r ≡ answer_of (records_refusal file) file → r ≡ JobRead.Read second startup p t
-      → Counted file second startup p t
-  read_accepted {second} {startup} {p} {t} {r} d e = elim (ℕ_discrete (records_refusal file) 0) [ yes z ↦ same z (d ∙ sym (answer_read file z refl refl refl refl)) | no z ↦ absurd (other (d ∙ sym (answer_refused file refl z))) ]
-    where
-      same : records_refusal file ≡ 0 → r ≡ JobRead.Read (second_in file) (startup_in file) (length (speeds_of file)) (length (weights_of file))
-          → Counted file second startup p t
-      same z f =
-          let a : second ≡ second_in file = cc in
-          let b : startup ≡ startup_in file = cc in
-          let x : p ≡ length (speeds_of file) = cc in
-          let y : t ≡ length (weights_of file) = cc in
-          record { records = z; second_in_lem = a; startup_in_lem = b; speeds = x; weights = y; together = omega (arith, x, y, (accepted_counts z).together) }
-
-      other : r ≡ JobRead.Refused (records_refusal file) → ⊥
-      other f = let w : ◌≡◌ {A = ℕ} 0 1 = cc in omega arith
-
-  by_answer : {n : ℕ} {r : JobRead} → r ≡ answer_of (records_refusal file) file → r ≡ JobRead.Refused n → (records_refusal file ≡ n) × (n ≢ 0)
-  by_answer {n} {r} d e = elim (ℕ_discrete (records_refusal file) 0) [ yes z ↦ absurd (other (d ∙ sym (answer_read file z refl refl refl refl))) | no z ↦ same z (d ∙ sym (answer_refused file refl z)) ]
-    where
-      same : records_refusal file ≢ 0 → r ≡ JobRead.Refused (records_refusal file) → (records_refusal file ≡ n) × (n ≢ 0)
-      same z f = let x : records_refusal file ≡ n = cc in (x, λ w. z (x ∙ w))
-
-      other : r ≡ JobRead.Read (second_in file) (startup_in file) (length (speeds_of file)) (length (weights_of file)) → ⊥
-      other f = let w : ◌≡◌ {A = ℕ} 0 1 = cc in omega arith
-
-  -- An accepted file holds the speeds behind the record in front, and the weights behind them: h records stand in front.
-  module _ {second : Bool} {startup p t : ℕ} (a : Counted file second startup p t) where
-    held : Placed file (record_count file)
-    held = accepted_placed a.records
-
-    -- The edition that was read is the file's.
-    pub counted_edition : edition_of second startup ≡ edition_in file
-    counted_edition = ap₂ edition_of a.second_in_lem a.startup_in_lem ∙ edition_effective (second_in file) (value_at file 0)
-
-    module _ {h : ℕ} (e : h ≡ head_records (edition_of second startup)) where
-      pub counted_head : h ≡ head_records (edition_in file)
-      counted_head = e ∙ ap head_records counted_edition
-
-      speeds_from : (es : List ℕ) → tabulate (λ j. value_at file (h + j)) p ++ drop p es ≡ speeds_of file ++ drop (length (speeds_of file)) es
-      unfolding speeds_of
-      speeds_from es =
-          ap₂ (λ (h p : ℕ). tabulate (λ j. value_at file (h + j)) p ++ drop p es) counted_head a.speeds
-          ∙ ap (λ (l : List ℕ). l ++ drop (length (speeds_of file)) es) held.speeds
-
-      holds_from : (hs : List ℕ) → tabulate (λ j. hold_at file (h + j)) p ++ drop p hs ≡ holds_of file ++ drop (length (holds_of file)) hs
-      unfolding holds_of
-      holds_from hs =
-          ap₂ (λ (h p : ℕ). tabulate (λ j. hold_at file (h + j)) p ++ drop p hs) counted_head (a.speeds ∙ sym (holds-length file))
-          ∙ ap (λ (l : List ℕ). l ++ drop (length (holds_of file)) hs) held.holds
-
-      weights_from : (ws : List ℕ) → tabulate (λ j. value_at file (h + p + j)) t ++ drop t ws ≡ weights_of file ++ drop (length (weights_of file)) ws
-      unfolding speeds_of weights_of
-      weights_from ws =
-          ap₂ (λ (h p : ℕ). tabulate (λ j. value_at file (h + p + j)) t ++ drop t ws) counted_head a.speeds
-          ∙ ap (λ (t : ℕ). tabulate (λ j. value_at file (head_records (edition_in file) + length (speeds_of file) + j)) t ++ drop t ws) a.weights
-          ∙ ap (λ (l : List ℕ). l ++ drop (length (weights_of file)) ws) held.weights
+  accepted_together e = (accepted_placed e).together
 
   -- The file's own tests: those of the length and the records decide where they fail, 7 and 8 otherwise.
-  file_is : file_refusal file ≡ first_refusal (later [])
-  unfolding file_refusal file_tests later early counts
-  file_is = refl
-
   pub file_early : file_refusal file ≡ 0 → records_refusal file ≡ 0
+  unfolding file_refusal file_tests records_refusal early counts
   file_early e =
-      elim (ℕ_discrete (records_refusal file) 0) [ yes z ↦ z | no z ↦ sym (by_early [] z) ∙ sym file_is ∙ e ]
+      elim (ℕ_discrete (first_refusal early) 0) [ yes z ↦ z | no z ↦ sym (stops early counts refl z) ∙ e ]
 
   pub file_counts : records_refusal file ≡ 0 → file_refusal file ≡ first_refusal (processors_test (speeds_of file) ∷ tasks_test (weights_of file) ∷ [])
-  unfolding counts
-  file_counts e = file_is ∙ to_counts [] e
+  unfolding file_refusal file_tests records_refusal early counts
+  file_counts e = goes_on early counts refl early_numbered e
 
-  -- Reading's own tests.
+  -- Reading into lists of these lengths.
   module _ (lent_speeds lent_holds lent_weights : ℕ) where
-    lent : List Test
-    lent =
-        length_test (length (weights_of file)) lent_weights ∷ length_test (length (speeds_of file)) lent_speeds ∷ length_test (length (holds_of file)) lent_holds ∷ []
-
-    read_is : read_refusal file lent_speeds lent_holds lent_weights ≡ first_refusal (later lent)
-    unfolding read_refusal read_tests file_tests later early counts lent
-    read_is =
-        ap (λ (l : List Test). first_refusal (multiple_test file ∷ l)) (append_assoc (records_tests file (record_count file)) counts lent)
-
-  -- The results of a call, by its refusal.
-  module _ (es hs ws : List ℕ) where
     abbrev number : ℕ
-    number = read_refusal file (length es) (length hs) (length ws)
+    number = read_refusal file lent_speeds lent_holds lent_weights
 
-    abbrev lists : List Test
-    lists = lent (length es) (length hs) (length ws)
+    abbrev speeds_fit : List Test
+    speeds_fit = fit (length (speeds_of file)) lent_speeds
 
-    refused : {n : ℕ} → number ≡ n → n ≢ 0 → Reads file es hs ws (JobRead.Refused n) es hs ws
+    abbrev holds_fit : List Test
+    holds_fit = fit (length (holds_of file)) lent_holds
+
+    abbrev weights_fit : List Test
+    weights_fit = fit (length (weights_of file)) lent_weights
+
+    read_is : number ≡ first_refusal (early ++ (counts ++ (weights_fit ++ (speeds_fit ++ holds_fit))))
+    unfolding read_refusal read_tests file_tests early counts
+    read_is =
+        ap (λ (l : List Test). first_refusal (multiple_test file ∷ l))
+        (append_assoc (records_tests file (record_count file)) counts (weights_fit ++ (speeds_fit ++ holds_fit)))
+
+    -- The answer where one of the calls of `test_file` is refused, and where none is: what each answers is told in order.
+    abbrev pub Answers : Result JobRead Refusal → Type 0
+    Answers r = r ≡ read_answer file lent_speeds lent_holds lent_weights
+
+    by_number : {A : Type 0} {r : Result A Refusal} {q : Result JobRead Refusal} {e : Refusal} → number ≡ refused r → r ≡ Err e → q ≡ Err e → Answers q
+    unfolding read_answer
+    by_number f g k = k ∙ answered_err (read_in file) g (sym f)
+
+    pub records_answer : {r q : Result JobRead Refusal} {e : Refusal} → Told file r → r ≡ Err e → q ≡ Err e → Answers q
+    unfolding read_answer records_refusal early
+    records_answer d g k =
+        k ∙ sym g ∙ d
+        ∙ ap (λ (n : ℕ). answered n (read_in file))
+        (sym (read_is ∙ stops early (counts ++ (weights_fit ++ (speeds_fit ++ holds_fit))) refl (answer.err_nonzero (records_refusal file) (read_in file) (sym d ∙ g))))
+
+    module _ {r : Result JobRead Refusal} {read : JobRead} (d : Told file r) (g : r ≡ Ok read) where
+      told : (records_refusal file ≡ 0) × (read ≡ read_in file)
+      told = answered_value (records_refusal file) (read_in file) (sym d ∙ g)
+
+      past_records : number ≡ first_refusal (counts ++ (weights_fit ++ (speeds_fit ++ holds_fit)))
+      unfolding records_refusal early
+      past_records = read_is ∙ goes_on early (counts ++ (weights_fit ++ (speeds_fit ++ holds_fit))) refl early_numbered told.0
+
+      module _ {A : Type 0} (c : Result A Refusal)
+          (f : refused c ≡ first_refusal (test 7 (between 1 max_processors read.processors) ∷ test 8 (leb read.tasks max_tasks) ∷ [])) where
+        counted : refused c ≡ first_refusal counts
+        unfolding counts processors_test tasks_test
+        counted =
+            f
+            ∙ ap (λ (r : JobRead). first_refusal (test 7 (between 1 max_processors r.processors) ∷ test 8 (leb r.tasks max_tasks) ∷ [])) told.1
+
+        pub counts_answer : {q : Result JobRead Refusal} {e : Refusal} → c ≡ Err e → q ≡ Err e → Answers q
+        counts_answer h k =
+            by_number (past_records ∙ stops counts (weights_fit ++ (speeds_fit ++ holds_fit)) counted (err_nonzero h refl)) h k
+
+        module _ {x : A} (h : c ≡ Ok x) (w : Result A Refusal) (fw : refused w ≡ first_refusal (length_test read.tasks lent_weights ∷ [])) where
+          past_counts : number ≡ first_refusal (weights_fit ++ (speeds_fit ++ holds_fit))
+          past_counts = past_records ∙ goes_on counts (weights_fit ++ (speeds_fit ++ holds_fit)) counted counts_numbered (refused_ok h refl)
+
+          of_weights : refused w ≡ first_refusal weights_fit
+          of_weights = fw ∙ ap (λ (r : JobRead). first_refusal (fit r.tasks lent_weights)) told.1
+
+          pub weights_answer : {q : Result JobRead Refusal} {e : Refusal} → w ≡ Err e → q ≡ Err e → Answers q
+          weights_answer i k =
+              by_number (past_counts ∙ stops weights_fit (speeds_fit ++ holds_fit) of_weights (err_nonzero i refl)) i k
+
+          module _ {y : A} (i : w ≡ Ok y) (s : Result A Refusal) (fs : refused s ≡ first_refusal (length_test read.processors lent_speeds ∷ [])) where
+            past_weights : number ≡ first_refusal (speeds_fit ++ holds_fit)
+            past_weights =
+                past_counts ∙ goes_on weights_fit (speeds_fit ++ holds_fit) of_weights (fit_numbered (length (weights_of file)) lent_weights) (refused_ok i refl)
+
+            of_speeds : refused s ≡ first_refusal speeds_fit
+            of_speeds = fs ∙ ap (λ (r : JobRead). first_refusal (fit r.processors lent_speeds)) told.1
+
+            pub speeds_answer : {q : Result JobRead Refusal} {e : Refusal} → s ≡ Err e → q ≡ Err e → Answers q
+            speeds_answer j k =
+                by_number (past_weights ∙ stops speeds_fit holds_fit of_speeds (err_nonzero j refl)) j k
+
+            module _ {z : A} (j : s ≡ Ok z) (l : Result A Refusal) (fl : refused l ≡ first_refusal (length_test read.processors lent_holds ∷ [])) where
+              past_speeds : number ≡ refused l
+              past_speeds =
+                  past_weights ∙ goes_on speeds_fit holds_fit of_speeds (fit_numbered (length (speeds_of file)) lent_speeds) (refused_ok j refl)
+                  ∙ ap (λ (n : ℕ). first_refusal (fit n lent_holds)) (holds-length file)
+                  ∙ sym (fl ∙ ap (λ (r : JobRead). first_refusal (fit r.processors lent_holds)) told.1)
+
+              pub holds_answer : {q : Result JobRead Refusal} {e : Refusal} → l ≡ Err e → q ≡ Err e → Answers q
+              holds_answer m k = by_number past_speeds m k
+
+              pub all_answer : {u : A} → l ≡ Ok u → Answers (Ok read)
+              unfolding read_answer
+              all_answer m = ap Ok told.1 ∙ answered_ok (read_in file) (past_speeds ∙ refused_ok m refl)
+
+  -- What reading leaves in these lists.
+  module _ (es hs ws : List ℕ) where
+    abbrev lent_number : ℕ
+    lent_number = read_refusal file (length es) (length hs) (length ws)
+
+    -- Refused, they stay.
+    pub read_kept : {r : Result JobRead Refusal} {e : Refusal} → r ≡ read_answer file (length es) (length hs) (length ws) → r ≡ Err e
+        → (es ≡ read_speeds file es hs ws) × (hs ≡ read_holds file es hs ws) × (ws ≡ read_weights file es hs ws)
     unfolding read_answer read_speeds read_holds read_weights
-    refused {n} e h =
-        record {
-          answers = answer_refused file e h;
-          into_speeds = sym (ap (λ (k : ℕ). lent_after k (speeds_of file) es) e ∙ lent_refused h (speeds_of file) es);
-          into_holds = sym (ap (λ (k : ℕ). lent_after k (holds_of file) hs) e ∙ lent_refused h (holds_of file) hs);
-          into_weights = sym (ap (λ (k : ℕ). lent_after k (weights_of file) ws) e ∙ lent_refused h (weights_of file) ws);
-        }
+    read_kept d g =
+        let h : lent_number ≢ 0 = answer.err_nonzero lent_number (read_in file) (sym d ∙ g) in
+        (sym (lent_refused h (speeds_of file) es), sym (lent_refused h (holds_of file) hs), sym (lent_refused h (weights_of file) ws))
 
-    -- The length and the records.
-    pub read_refused : {n : ℕ} {r : JobRead} → r ≡ answer_of (records_refusal file) file → r ≡ JobRead.Refused n
-        → Reads file es hs ws (JobRead.Refused n) es hs ws
-    read_refused {n} d e =
-        let b = by_answer d e in
-        refused (read_is (length es) (length hs) (length ws) ∙ by_early lists (λ z. b.1 (sym b.0 ∙ z)) ∙ b.0) b.1
+    module _ {r : Result JobRead Refusal} {read : JobRead} (d : r ≡ read_answer file (length es) (length hs) (length ws)) (g : r ≡ Ok read) where
+      pub read_accepted : (lent_number ≡ 0) × (read ≡ read_in file)
+      unfolding read_answer
+      read_accepted = answered_value lent_number (read_in file) (sym d ∙ g)
 
-    module _ {second : Bool} {startup p t n : ℕ} (a : Counted file second startup p t) (f : n ≡ first_refusal (test 7 (between 1 max_processors p) ∷ test 8 (leb t max_tasks) ∷ [])) where
-      -- 7 and 8.
-      pub read_counts : n ≢ 0 → Reads file es hs ws (JobRead.Refused n) es hs ws
-      read_counts h = refused (read_is (length es) (length hs) (length ws) ∙ by_counts a f lists h) h
+      -- The file passes its own tests, and the lists are long enough.
+      accepted_parts : (first_refusal (early ++ counts) ≡ 0)
+          × (first_refusal (length_test (length (weights_of file)) (length ws) ∷ length_test (length (speeds_of file)) (length es) ∷ length_test (length (holds_of file)) (length hs) ∷ []) ≡ 0)
+      unfolding read_refusal read_tests file_tests early counts
+      accepted_parts =
+          append_accepted (early ++ counts)
+          (length_test (length (weights_of file)) (length ws) ∷ length_test (length (speeds_of file)) (length es) ∷ length_test (length (holds_of file)) (length hs) ∷ [])
+          (numbered_append early_numbered counts_numbered) read_accepted.0
 
-      past : n ≡ 0 → number ≡ first_refusal lists
-      past z = read_is (length es) (length hs) (length ws) ∙ to_lent a f lists z
+      pub file_accepted : file_refusal file ≡ 0
+      unfolding file_refusal file_tests early counts
+      file_accepted = accepted_parts.0
 
-      -- 9.
-      pub read_short_weights : n ≡ 0 → length ws < t → Reads file es hs ws (JobRead.Refused 9) es hs ws
-      unfolding lent length_test
-      read_short_weights z h =
-          refused
-          (past z
-          ∙ fails 9 (length_test (length (speeds_of file)) (length es) ∷ length_test (length (holds_of file)) (length hs) ∷ []) (lt-leb (length (weights_of file)) (length ws) (omega (arith, a.weights))))
-          (omega arith)
+      pub read_fits : (read.tasks ≤ length ws) × (read.processors ≤ length es) × (read.processors ≤ length hs)
+      read_fits =
+          let w = fits (length (weights_of file)) (length ws) (length_test (length (speeds_of file)) (length es) ∷ length_test (length (holds_of file)) (length hs) ∷ []) accepted_parts.1 in
+          let s = fits (length (speeds_of file)) (length es) (length_test (length (holds_of file)) (length hs) ∷ []) w.1 in
+          let h = fits (length (holds_of file)) (length hs) [] s.1 in
+          let p : read.processors ≡ length (speeds_of file) = ap (λ (r : JobRead). r.processors) read_accepted.1 in
+          let t : read.tasks ≡ length (weights_of file) = ap (λ (r : JobRead). r.tasks) read_accepted.1 in
+          (omega (arith, w.0), omega (arith, s.0), omega (arith, h.0, holds-length file))
 
-      module _ (z : n ≡ 0) (h : t ≤ length ws) where
-        fits_weights : number ≡ first_refusal (length_test (length (speeds_of file)) (length es) ∷ length_test (length (holds_of file)) (length hs) ∷ [])
-        unfolding lent length_test
-        fits_weights =
-            past z
-            ∙ passes 9 (length_test (length (speeds_of file)) (length es) ∷ length_test (length (holds_of file)) (length hs) ∷ []) (le-leb (length (weights_of file)) (length ws) (omega (arith, a.weights)))
+      held : Placed file (record_count file)
+      held = accepted_placed (file_early file_accepted)
 
-        pub read_short_speeds : length es < p → Reads file es hs ws (JobRead.Refused 9) es hs ws
-        unfolding length_test
-        read_short_speeds k =
-            refused
-            (fits_weights
-            ∙ fails 9 (length_test (length (holds_of file)) (length hs) ∷ []) (lt-leb (length (speeds_of file)) (length es) (omega (arith, a.speeds))))
-            (omega arith)
+      -- So many records stand in front; then come the processors' and the tasks'.
+      module _ {h : ℕ} (e : (c : ℕ) → h ≡ head_records (edition_of read.second c)) where
+        pub head_is : h ≡ head_records (edition_in file)
+        head_is =
+            e (value_at file 0)
+            ∙ ap (λ (b : Bool). head_records (edition_of b (value_at file 0))) (ap (λ (r : JobRead). r.second) read_accepted.1)
 
-        module _ (k : p ≤ length es) where
-          fits_speeds : number ≡ first_refusal (length_test (length (holds_of file)) (length hs) ∷ [])
-          unfolding length_test
-          fits_speeds =
-              fits_weights
-              ∙ passes 9 (length_test (length (holds_of file)) (length hs) ∷ []) (le-leb (length (speeds_of file)) (length es) (omega (arith, a.speeds)))
+        pub read_together : h + (read.processors + read.tasks) ≡ record_count file
+        read_together =
+            let p : read.processors ≡ length (speeds_of file) = ap (λ (r : JobRead). r.processors) read_accepted.1 in
+            let t : read.tasks ≡ length (weights_of file) = ap (λ (r : JobRead). r.tasks) read_accepted.1 in
+            omega (arith, head_is, accepted_together (file_early file_accepted))
 
-          pub read_short_holds : length hs < p → Reads file es hs ws (JobRead.Refused 9) es hs ws
-          unfolding length_test
-          read_short_holds l =
-              refused (fits_speeds ∙ fails 9 [] (lt-leb (length (holds_of file)) (length hs) (omega (arith, a.speeds, holds-length file)))) (omega arith)
+        -- The lists hold the values in front, and the rest stays.
+        pub speeds_left : tabulate (λ j. value_at file (h + j)) read.processors ++ drop read.processors es ≡ read_speeds file es hs ws
+        unfolding read_speeds speeds_of
+        speeds_left =
+            ap₂ (λ (h p : ℕ). tabulate (λ j. value_at file (h + j)) p ++ drop p es) head_is (ap (λ (r : JobRead). r.processors) read_accepted.1)
+            ∙ ap (λ (l : List ℕ). l ++ drop (length (speeds_of file)) es) held.speeds
+            ∙ sym (ap (λ (n : ℕ). lent_after n (speeds_of file) es) read_accepted.0 ∙ lent_accepted (speeds_of file) es)
 
-          -- Counted: the values behind the record in front with their holds, and those behind the speeds.
-          pub read_all : p ≤ length hs → {head : ℕ} → head ≡ head_records (edition_of second startup) → {es' hs' ws' : List ℕ}
-              → es' ≡ tabulate (λ j. value_at file (head + j)) p ++ drop p es → hs' ≡ tabulate (λ j. hold_at file (head + j)) p ++ drop p hs
-              → ws' ≡ tabulate (λ j. value_at file (head + p + j)) t ++ drop t ws → Reads file es hs ws (JobRead.Read second startup p t) es' hs' ws'
-          unfolding read_answer read_speeds read_holds read_weights length_test
-          read_all l e {es'} {hs'} {ws'} x y w =
-              record {
-                answers = answer_read file none a.second_in_lem a.startup_in_lem a.speeds a.weights;
-                into_speeds = x ∙ speeds_from a e es ∙ sym (ap (λ (k : ℕ). lent_after k (speeds_of file) es) none ∙ lent_accepted (speeds_of file) es);
-                into_holds = y ∙ holds_from a e hs ∙ sym (ap (λ (k : ℕ). lent_after k (holds_of file) hs) none ∙ lent_accepted (holds_of file) hs);
-                into_weights = w ∙ weights_from a e ws ∙ sym (ap (λ (k : ℕ). lent_after k (weights_of file) ws) none ∙ lent_accepted (weights_of file) ws);
-              }
-            where
-              none : number ≡ 0
-              none =
-                  fits_speeds ∙ passes 9 [] (le-leb (length (holds_of file)) (length hs) (omega (arith, a.speeds, holds-length file))) ∙ passed-all
+        pub holds_left : tabulate (λ j. hold_at file (h + j)) read.processors ++ drop read.processors hs ≡ read_holds file es hs ws
+        unfolding read_holds holds_of
+        holds_left =
+            ap₂ (λ (h p : ℕ). tabulate (λ j. hold_at file (h + j)) p ++ drop p hs) head_is
+            (ap (λ (r : JobRead). r.processors) read_accepted.1 ∙ sym (holds-length file))
+            ∙ ap (λ (l : List ℕ). l ++ drop (length (holds_of file)) hs) held.holds
+            ∙ sym (ap (λ (n : ℕ). lent_after n (holds_of file) hs) read_accepted.0 ∙ lent_accepted (holds_of file) hs)
 
--- For `search`: at each return the law that its tests meet.
-pub ruleset read_laws = (read_counts, read_short_weights, read_short_speeds, read_short_holds, read_all)
+        pub weights_left : tabulate (λ j. value_at file (h + read.processors + j)) read.tasks ++ drop read.tasks ws ≡ read_weights file es hs ws
+        unfolding read_weights speeds_of weights_of
+        weights_left =
+            ap₂ (λ (h p : ℕ). tabulate (λ j. value_at file (h + p + j)) read.tasks ++ drop read.tasks ws) head_is (ap (λ (r : JobRead). r.processors) read_accepted.1)
+            ∙ ap (λ (t : ℕ). tabulate (λ j. value_at file (head_records (edition_in file) + length (speeds_of file) + j)) t ++ drop t ws) (ap (λ (r : JobRead). r.tasks) read_accepted.1)
+            ∙ ap (λ (l : List ℕ). l ++ drop (length (weights_of file)) ws) held.weights
+            ∙ sym (ap (λ (n : ℕ). lent_after n (weights_of file) ws) read_accepted.0 ∙ lent_accepted (weights_of file) ws)

@@ -489,8 +489,8 @@ accepted_exactly file b = (
 )
 
 -- A job file holds one job, of one edition:
-pub one_job : (file : List ℕ) (f : JobFile file) → (f.edition ≡ edition_in file) × (f.job ≡ job_in file)
-one_job file f = (
+pub one_job : (bytes : List ℕ) (f : JobFile bytes) → (f.edition ≡ edition_in bytes) × (f.job ≡ job_in bytes)
+one_job bytes f = (
   sym (ap edition_in f.bytes ∙ edition_back f.edition f.job f.of f.valid),
   sym (ap job_in f.bytes ∙ job_back f.edition f.job f.of f.valid f.exact),
 )

@@ -1,152 +1,151 @@
 // Job files: reading and writing.
 #![tactic(auto)]
 
-ghost use Rattle.std.specs.Prelude.{◌+◌, ◌*◌, ◌%◌, ◌<◌, ◌≤◌, ◌≡◌, ◌++◌, length, get_or, take, drop};
-ghost use Rattle.chain.specs.Job.{startup_of, edition_of, job_of};
+ghost use Rattle.std.specs.Prelude.{ℕ, ◌+◌, ◌*◌, ◌%◌, ◌<◌, ◌≤◌, ◌≡◌, ◌++◌, length, get_or, take, drop};
+ghost use Rattle.std.specs.Prelude.{slice_get, IfOk};
+ghost use Rattle.chain.specs.Job.{edition_of, job_of, Valid};
+ghost use Rattle.chain.specs.Numbers.{refused, answered};
 ghost use Rattle.chain.specs.Refusal.{first_refusal};
-ghost use Rattle.chain.specs.Lists.{tabulate};
+ghost use Rattle.parts.specs.Lent.{the, edition, lent, lent_edition};
 ghost use Rattle.refusals.specs.Inputs.{record_size, head_records};
-ghost use Rattle.jobs.specs.JobFile.{processor_kind, task_kind, record_bytes, records_bytes, no_hold, edition_bytes};
-ghost use Rattle.jobs.specs.Parse.{record_count, byte_at, kind_at, value_at, hold_at, blank, record_tests, values_of, second_in, startup_in};
-ghost use Rattle.jobs.specs.Answers.{answer_of, read_answer, read_speeds, read_holds, read_weights, write_answer, write_bytes};
-ghost use Rattle.jobs.specs.Inner.{records_refusal, front_at, plain_tasks, Counted, Reads};
-ghost use Rattle.jobs.specs.declared.JobRead as read;
+ghost use Rattle.jobs.specs.JobFile.{task_kind, record_bytes, records_bytes, edition_bytes};
+ghost use Rattle.jobs.specs.Kinds.{kind_number, kind_of};
+ghost use Rattle.jobs.specs.Parse.{record_count, byte_at, kind_at, value_at, hold_at, blank, record_tests, values_of};
+ghost use Rattle.jobs.specs.Parse.{second_in, startup_in};
+ghost use Rattle.jobs.specs.Answers.{read_in, read_answer, read_speeds, read_holds, read_weights};
+ghost use Rattle.jobs.specs.Answers.{write_answer, write_bytes};
+ghost use Rattle.jobs.specs.Inner.{records_refusal, front_at, plain_tasks};
 
+use chain::Refusal;
 use fields::{get_field, get_half, put_field, put_half};
+use parts::{JobLists, ValidJob};
 use refusals::{
-    MAX_SPEED, MAX_STARTUP, MAX_WEIGHT, RECORD, Written, and_between, effective, head_records,
-    test_counts, test_write_job,
+    MAX_SPEED, MAX_STARTUP, MAX_WEIGHT, RECORD, and_between, head_records, test_counts,
+    test_length, test_write_job,
 };
 
-// A record of a job file: the bytes at which its hold and its value begin, and its kinds.
+// The bytes of a record at which its hold and its value begin.
 const HOLD_PLACE: usize = 2;
 
 const VALUE_PLACE: usize = 4;
 
-const PROCESSOR_KIND: u8 = 1;
-
-const TASK_KIND: u8 = 2;
-
 // The first four bytes of a task's record, as one number.
-const TASK_FRONT: u32 = 2;
+const TASK_FRONT: u32 = Kind::Task as u32;
 
-const STARTUP_KIND: u8 = 3;
+// The kinds of records.
+#[derive(Clone, Copy, PartialEq, Eq)]
+enum Kind {
+    Processor = 1,
+    Task = 2,
+    Startup = 3,
+}
 
-// What reading a job file answers: whether it is of the second edition, the start-up work that counts, and the counts of processors
-// and tasks; or the refusal's number.
+// Inner. The number of a kind.
+impl From<Kind> for u8 {
+    ghost from_gives = { λ kind number. number ≡ kind_number kind };
+
+    fn from(kind: Kind) -> u8 {
+        kind as u8
+    }
+}
+
+// Inner. The kind with this number. No other number is a kind's.
+impl TryFrom<u8> for Kind {
+    type Error = Refusal;
+
+    ghost try_from_gives = { λ number kind. kind ≡ kind_of number };
+
+    fn try_from(number: u8) -> Result<Kind, Refusal> {
+        match number {
+            1 => Ok(Kind::Processor),
+            2 => Ok(Kind::Task),
+            3 => Ok(Kind::Startup),
+            _ => Err(Refusal::UnknownRecord),
+        }
+    }
+}
+
+// What is read of a job file: whether it is of the second edition, the start-up work that counts, and how many
+// processors and tasks there are.
 #[derive(Clone, Copy)]
-pub enum JobRead {
-    Read {
-        second: bool,
-        startup: u32,
-        processors: usize,
-        tasks: usize,
-    },
-    Refused(u32),
+pub struct JobRead {
+    pub second: bool,
+    pub startup: u32,
+    pub processors: usize,
+    pub tasks: usize,
+}
+
+impl JobRead {
+    // Inner. The job that was read into these lists.
+    pub fn job<'a>(self, speeds: &'a [u32], holds: &'a [u16], weights: &'a [u32]) -> ValidJob<'a>
+        requires speeds { self.processors ≤ length speeds.now }
+        requires holds { self.processors ≤ length holds.now }
+        requires weights { self.tasks ≤ length weights.now }
+        requires valid { let p = self.processors in
+            Valid (job_of self.startup (take p speeds.now) (take p holds.now) (take self.tasks weights.now)) }
+        ensures job { let p = self.processors in
+            the result ≡ job_of self.startup (take p speeds.now) (take p holds.now) (take self.tasks weights.now) }
+        ensures second { result.second ≡ self.second }
+    {
+        ValidJob {
+            second: self.second,
+            startup: self.startup,
+            speeds: &speeds[..self.processors],
+            holds: &holds[..self.processors],
+            weights: &weights[..self.tasks],
+        }
+    }
 }
 
 // Inner. One record of a job file at its place.
-fn put_record(kind: u8, hold: u16, value: u32, i: usize, file: &mut [u8])
+fn put_record(kind: Kind, hold: u16, value: u32, i: usize, file: &mut [u8])
     requires { record_size * i + record_size ≤ length file.old }
-    ensures { file.new
-        ≡ take (record_size * i) file.old ++ record_bytes kind hold value ++ drop (record_size * i + record_size) file.old }
+    ensures { let bytes = record_bytes (kind_number kind) hold value in
+        file.new ≡ take (record_size * i) file.old ++ bytes ++ drop (record_size * i + record_size) file.old }
 {
     let at = RECORD * i;
-    file[at] = kind;
+    file[at] = u8::from(kind);
     file[at + 1] = 0;
     put_half(hold, at + HOLD_PLACE, file);
     put_field(value, at + VALUE_PLACE, file);
 }
 
-// Inner. A processor's record for each speed, with its hold, from record `from` on.
-fn put_processors(speeds: &[u32], holds: &[u16], from: usize, file: &mut [u8])
-    requires speeds_in_bounds { record_size * (from + length speeds.now) ≤ length file.old }
-    requires speeds_in_bounds_2 { length speeds.now ≤ length holds.now }
-    ensures { file.new
-        ≡ take (record_size * from) file.old ++ records_bytes processor_kind (λ p. get_or holds.now p 0) speeds.now
-        ++ drop (record_size * (from + length speeds.now)) file.old }
+// Inner. A record for each value, from record `from` on, with its hold: 0 where there is none.
+fn put_records(kind: Kind, values: &[u32], holds: &[u16], from: usize, file: &mut [u8])
+    requires { record_size * (from + length values.now) ≤ length file.old }
+    ensures { let bytes = records_bytes (kind_number kind) (λ p. get_or holds.now p 0) values.now in
+        let end = record_size * (from + length values.now) in
+        file.new ≡ take (record_size * from) file.old ++ bytes ++ drop end file.old }
 {
-    let mut p = 0;
-    while p < speeds.len() {
-        put_record(PROCESSOR_KIND, holds[p], speeds[p], from + p, file);
-        p += 1;
-    }
-}
-
-// Inner. A task's record for each weight, from record `from` on.
-fn put_tasks(weights: &[u32], from: usize, file: &mut [u8])
-    requires { record_size * (from + length weights.now) ≤ length file.old }
-    ensures { file.new
-        ≡ take (record_size * from) file.old ++ records_bytes task_kind no_hold weights.now
-        ++ drop (record_size * (from + length weights.now)) file.old }
-{
-    let mut j = 0;
-    while j < weights.len() {
-        put_record(TASK_KIND, 0, weights[j], from + j, file);
-        j += 1;
+    for (i, value) in values.iter().enumerate() {
+        let hold = holds.get(i).copied().unwrap_or(0);
+        put_record(kind, hold, *value, from + i, file);
     }
 }
 
 // Inner. The record in front of the processors, in the second edition.
-fn put_head(second: bool, startup: u32, file: &mut [u8])
-    requires { record_size * head_records (edition_of second startup) ≤ length file.old }
-    ensures { let edition = edition_of second startup in
+fn put_head(job: ValidJob, file: &mut [u8])
+    requires { record_size * head_records (edition job) ≤ length file.old }
+    ensures { let edition = edition job.entry in
         file.new ≡ edition_bytes edition ++ drop (record_size * head_records edition) file.old }
 {
-    if second {
-        put_record(STARTUP_KIND, 0, startup, 0, file);
+    if job.second {
+        put_record(Kind::Startup, 0, job.startup, 0, file);
     }
 }
 
-// Inner. Writes a job file, with the start-up work that counts.
-fn write_counted(
-    second: bool,
-    startup: u32,
-    speeds: &[u32],
-    holds: &[u16],
-    weights: &[u32],
-    file: &mut [u8],
-) -> Written
-    ensures answer { let job = job_of startup speeds.now holds.now weights.now in
-        result ≡ write_answer (edition_of second startup) job (length file.old) }
-    ensures bytes { let job = job_of startup speeds.now holds.now weights.now in
-        file.new ≡ write_bytes (edition_of second startup) job file.old }
+// Writes a job file of its edition: the count of its bytes, or the refusal: 16, 5, 6, 7, 8 or 9, in this order. Later
+// bytes stay.
+pub fn write_job(lists: JobLists, file: &mut [u8]) -> Result<usize, Refusal>
+    ensures answer { result ≡ write_answer (lent_edition lists.entry) (lent lists.entry) (length file.old) }
+    ensures bytes { file.new ≡ write_bytes (lent_edition lists.entry) (lent lists.entry) file.old }
 {
-    let number = test_write_job(second, startup, speeds, holds, weights, file.len());
-    if number != 0 {
-        return Written::Refused(number);
-    }
-    let head = head_records(second, startup);
-    put_head(second, startup, file);
-    put_processors(speeds, holds, head, file);
-    put_tasks(weights, head + speeds.len(), file);
-    Written::Bytes(RECORD * (head + (weights.len() + speeds.len())))
-}
-
-// Writes a job file of its edition: the count of its bytes, or the refusal: 16, 5, 6, 7, 8 or 9, in this order. Later bytes stay.
-pub fn write_job(
-    second: bool,
-    startup: u32,
-    speeds: &[u32],
-    holds: &[u16],
-    weights: &[u32],
-    file: &mut [u8],
-) -> Written
-    ensures answer { let edition = edition_of second startup in
-        let job = job_of (startup_of edition) speeds.now holds.now weights.now in
-        result ≡ write_answer edition job (length file.old) }
-    ensures bytes { let edition = edition_of second startup in
-        let job = job_of (startup_of edition) speeds.now holds.now weights.now in
-        file.new ≡ write_bytes edition job file.old }
-{
-    write_counted(
-        second,
-        effective(second, startup),
-        speeds,
-        holds,
-        weights,
-        file,
-    )
+    let job = test_write_job(lists, file.len())?;
+    let head = head_records(job.second);
+    put_head(job, file);
+    put_records(Kind::Processor, job.speeds, job.holds, head, file);
+    put_records(Kind::Task, job.weights, &[], head + job.speeds.len(), file);
+    Ok(RECORD * (head + job.weights.len() + job.speeds.len()))
 }
 
 // Inner. Byte k of record i.
@@ -155,14 +154,6 @@ fn byte_at(file: &[u8], i: usize, k: usize) -> u8
     ensures { result ≡ byte_at file.now i k }
 {
     file[RECORD * i + k]
-}
-
-// Inner. The kind of record i.
-fn kind_at(file: &[u8], i: usize) -> u8
-    requires { i < record_count file.now }
-    ensures { result ≡ kind_at file.now i }
-{
-    byte_at(file, i, 0)
 }
 
 // Inner. The value of record i.
@@ -181,77 +172,53 @@ fn hold_at(file: &[u8], i: usize) -> u16
     get_half(file, RECORD * i + HOLD_PLACE)
 }
 
-// Inner. Whether the bytes of record i that have to be zero are: byte 1, and bytes 2 and 3 where its kind is not a processor's.
-fn blank_at(file: &[u8], i: usize, kind: u8) -> bool
-    requires { (i < record_count file.now) × (kind ≡ kind_at file.now i) }
+// Inner. Whether the bytes of record i that have to be zero are: byte 1, and 2 and 3 where it is not a processor's.
+fn blank_at(file: &[u8], i: usize, kind: Kind) -> bool
+    requires { (i < record_count file.now) × (kind_number kind ≡ kind_at file.now i) }
     ensures { result ≡ blank file.now i }
 {
-    if byte_at(file, i, 1) != 0 {
-        return false;
-    }
-    if kind == PROCESSOR_KIND {
-        return true;
-    }
-    if byte_at(file, i, 2) != 0 {
-        return false;
-    }
-    byte_at(file, i, 3) == 0
+    byte_at(file, i, 1) == 0
+        && (kind == Kind::Processor || (byte_at(file, i, 2) == 0 && byte_at(file, i, 3) == 0))
 }
 
-// Inner. The tests of record i: 0, 3, 4, 15, 5, 6 or 16. `tasks` counts the tasks before it.
-fn test_record(file: &[u8], i: usize, tasks: usize) -> u32
+// Inner. The kind of record i, or the refusal: 3, 4, 15, 5, 6 or 16. `tasks` counts the tasks before it.
+fn test_record(file: &[u8], i: usize, tasks: usize) -> Result<Kind, Refusal>
     requires { (i < record_count file.now) × (tasks ≡ length (values_of task_kind file.now i)) }
-    ensures { result ≡ first_refusal (record_tests file.now i) }
+    ensures number { refused result ≡ first_refusal (record_tests file.now i) }
+    ensures kind { IfOk result (λ kind. kind_number kind ≡ kind_at file.now i) }
 {
-    let kind = kind_at(file, i);
+    let kind = Kind::try_from(byte_at(file, i, 0))?;
     let value = value_at(file, i);
     if !blank_at(file, i, kind) {
-        return 3;
+        return Err(Refusal::UnknownRecord);
     }
-    if kind == PROCESSOR_KIND {
-        if 0 < tasks {
-            return 4;
-        }
-        if value == 0 {
-            return 5;
-        }
-        if MAX_SPEED < value {
-            return 5;
-        }
-        return 0;
+    match kind {
+        Kind::Processor if 0 < tasks => Err(Refusal::ProcessorAfterTask),
+        Kind::Processor if value == 0 || MAX_SPEED < value => Err(Refusal::SpeedRange),
+        Kind::Task if MAX_WEIGHT < value => Err(Refusal::WeightRange),
+        Kind::Startup if 0 < i => Err(Refusal::LateStartup),
+        Kind::Startup if MAX_STARTUP < value => Err(Refusal::StartupRange),
+        _ => Ok(kind),
     }
-    if kind == TASK_KIND {
-        if MAX_WEIGHT < value {
-            return 6;
-        }
-        return 0;
-    }
-    if kind == STARTUP_KIND {
-        if 0 < i {
-            return 15;
-        }
-        if MAX_STARTUP < value {
-            return 16;
-        }
-        return 0;
-    }
-    3
 }
 
-// Inner. The answer with these counts, of a file of whole records: its edition, and the start-up work that counts.
+// Inner. Whether a file of whole records is of the second edition: its first record is the start-up work's.
+fn is_second(file: &[u8]) -> bool
+    requires { length file.now % record_size ≡ 0 }
+    ensures { result ≡ second_in file.now }
+{
+    0 < file.len() && byte_at(file, 0, 0) == u8::from(Kind::Startup)
+}
+
+// Inner. What is read of a file of whole records with these counts: its edition, and the start-up work that counts.
 fn read_as(file: &[u8], processors: usize, tasks: usize) -> JobRead
     requires { length file.now % record_size ≡ 0 }
-    ensures { result ≡ read.JobRead.Read (second_in file.now) (startup_in file.now) processors tasks }
+    ensures { let second = second_in file.now in let startup = startup_in file.now in
+        result ≡ record { second = second; startup = startup; processors = processors; tasks = tasks } }
 {
-    let mut second = false;
-    let mut startup = 0;
-    if 0 < file.len() {
-        if kind_at(file, 0) == STARTUP_KIND {
-            second = true;
-            startup = value_at(file, 0);
-        }
-    }
-    JobRead::Read {
+    let second = is_second(file);
+    let startup = if second { value_at(file, 0) } else { 0 };
+    JobRead {
         second,
         startup,
         processors,
@@ -267,141 +234,87 @@ fn front_at(file: &[u8], i: usize) -> u32
     get_field(file, RECORD * i)
 }
 
-// Inner. Whether `count` records from record `from` on are tasks' that pass their tests. It reads them all, so that several are tested at once.
+// Inner. Whether `count` records from record `from` on are tasks' that pass their tests. It reads them all, so that
+// several are tested at once.
 fn all_tasks(file: &[u8], from: usize, count: usize) -> bool
     requires { from + count ≤ record_count file.now }
     ensures { result ≡ plain_tasks file.now from count }
 {
     let mut all = true;
-    let mut j = 0;
-    while j < count {
+    for j in 0..count {
         all = and_between(all, TASK_FRONT, TASK_FRONT, front_at(file, from + j));
         all = and_between(all, 0, MAX_WEIGHT, value_at(file, from + j));
-        j += 1;
     }
     all
 }
 
-// Inner. The tests of the file's length and of its records: the answer with their counts, or the refusal: 2; 3, 4, 15, 5, 6 and 16.
-fn test_records(file: &[u8]) -> JobRead
-    ensures { result ≡ answer_of (records_refusal file.now) file.now }
+// Inner. What is read of a file, or the refusal of its length or a record: 2; 3, 4, 15, 5, 6 and 16, record by record.
+fn test_records(file: &[u8]) -> Result<JobRead, Refusal>
+    ensures { result ≡ answered (records_refusal file.now) (read_in file.now) }
 {
     if file.len() % RECORD != 0 {
-        return JobRead::Refused(2);
+        return Err(Refusal::PartialRecord);
     }
     let records = file.len() / RECORD;
     let mut processors = 0;
     let mut tasks = 0;
-    let mut i = 0;
-    while i < records {
-        let kind = kind_at(file, i);
-        if kind == TASK_KIND {
-            if tasks == 0 {
+    for i in 0..records {
+        let kind = test_record(file, i, tasks)?;
+        match kind {
+            Kind::Processor => processors += 1,
+            Kind::Task => {
                 let left = records - i;
-                if all_tasks(file, i, left) {
-                    return read_as(file, processors, left);
+                if tasks == 0 && all_tasks(file, i, left) {
+                    return Ok(read_as(file, processors, left));
                 }
+                tasks += 1;
             }
+            Kind::Startup => {}
         }
-        let found = test_record(file, i, tasks);
-        if found != 0 {
-            return JobRead::Refused(found);
-        }
-        if kind == PROCESSOR_KIND {
-            processors += 1;
-        } else if kind == TASK_KIND {
-            tasks += 1;
-        }
-        i += 1;
     }
-    read_as(file, processors, tasks)
+    Ok(read_as(file, processors, tasks))
 }
 
-// Inner. The values of `count` records from record `from` on, into the first entries of a list.
-fn copy_values(file: &[u8], from: usize, count: usize, out: &mut [u32])
-    requires { (from + count ≤ record_count file.now) × (count ≤ length out.old) }
-    ensures { out.new ≡ tabulate (λ j. value_at file.now (from + j)) count ++ drop count out.old }
+// Inner. What is read of a file into lists of these lengths, or the refusal: those of the records; 7, 8 or 9.
+fn test_file(file: &[u8], speeds: usize, holds: usize, weights: usize) -> Result<JobRead, Refusal>
+    ensures { result ≡ read_answer file.now speeds holds weights }
 {
-    let mut j = 0;
-    while j < count {
-        out[j] = value_at(file, from + j);
-        j += 1;
-    }
+    let read = test_records(file)?;
+    test_counts(read.processors, read.tasks)?;
+    test_length(read.tasks, weights)?;
+    test_length(read.processors, speeds)?;
+    test_length(read.processors, holds)?;
+    Ok(read)
 }
 
-// Inner. The holds of `count` records from record `from` on, into the first entries of a list.
-fn copy_holds(file: &[u8], from: usize, count: usize, out: &mut [u16])
-    requires { (from + count ≤ record_count file.now) × (count ≤ length out.old) }
-    ensures { out.new ≡ tabulate (λ j. hold_at file.now (from + j)) count ++ drop count out.old }
+// Inner. Fills a list with what `entry` gives at each index.
+fn fill<T: Copy, F: Fn(usize) -> T>(list: &mut [T], entry: F)
+    requires { (i : ℕ) → i < length list.old → F.pre entry i }
+    ensures { (i : ℕ) → i < length list.old → (x : T) × (slice_get list.new i ≡ Some x) × F.post entry i x }
 {
-    let mut j = 0;
-    while j < count {
-        out[j] = hold_at(file, from + j);
-        j += 1;
+    for (i, slot) in list.iter_mut().enumerate() {
+        *slot = entry(i);
     }
 }
 
-// Inner. The rest of reading, where the file's length and records are accepted: 7, 8 or 9. Edition and counts are the file's.
-fn read_tested(
+// Reads a job file: its edition, the start-up work that counts and how many processors and tasks there are, or the
+// refusal: 2; 3, 4, 15, 5, 6 and 16, record by record; 7, 8 or 9. Later entries stay.
+pub fn read_job(
     file: &[u8],
-    second: bool,
-    startup: u32,
-    processors: usize,
-    tasks: usize,
     speeds: &mut [u32],
     holds: &mut [u16],
     weights: &mut [u32],
-) -> JobRead
-    requires { Counted file.now second startup processors tasks }
-    ensures { let bytes = file.now in
-        let es = speeds.old in
-        Reads bytes es holds.old weights.old result speeds.new holds.new weights.new }
-{
-    let found = test_counts(processors, tasks);
-    if found != 0 {
-        return JobRead::Refused(found);
-    }
-    if weights.len() < tasks {
-        return JobRead::Refused(9);
-    }
-    if speeds.len() < processors {
-        return JobRead::Refused(9);
-    }
-    if holds.len() < processors {
-        return JobRead::Refused(9);
-    }
-    let head = head_records(second, startup);
-    copy_values(file, head, processors, speeds);
-    copy_holds(file, head, processors, holds);
-    copy_values(file, head + processors, tasks, weights);
-    JobRead::Read {
-        second,
-        startup,
-        processors,
-        tasks,
-    }
-}
-
-// Reads a job file: its edition, the start-up work that counts and the counts of processors and tasks, or the refusal: 2; 3, 4, 15, 5, 6
-// and 16, record by record; 7, 8 or 9. Later entries stay.
-pub fn read_job(file: &[u8], speeds: &mut [u32], holds: &mut [u16], weights: &mut [u32]) -> JobRead
+) -> Result<JobRead, Refusal>
     ensures answer { result ≡ read_answer file.now (length speeds.old) (length holds.old) (length weights.old) }
     ensures speeds { speeds.new ≡ read_speeds file.now speeds.old holds.old weights.old }
     ensures holds { holds.new ≡ read_holds file.now speeds.old holds.old weights.old }
     ensures weights { weights.new ≡ read_weights file.now speeds.old holds.old weights.old }
 {
-    let records = test_records(file);
-    match records {
-        JobRead::Refused(number) => JobRead::Refused(number),
-        JobRead::Read {
-            second,
-            startup,
-            processors,
-            tasks,
-        } => {
-            read_tested(
-                file, second, startup, processors, tasks, speeds, holds, weights,
-            )
-        }
-    }
+    let read = test_file(file, speeds.len(), holds.len(), weights.len())?;
+    let head = head_records(read.second);
+    let tail = head + read.processors;
+    fill(&mut speeds[..read.processors], |p| value_at(file, head + p));
+    fill(&mut holds[..read.processors], |p| hold_at(file, head + p));
+    fill(&mut weights[..read.tasks], |j| value_at(file, tail + j));
+    Ok(read)
 }

@@ -17,25 +17,27 @@ use Rattle.chain.specs.Plan.{takes}
 use Rattle.chain.specs.Refusal.{length_test, holds_test, enough_test, free_test, FirstFailing, separators_needed, refusal}
 use Rattle.chain.proofs.Refusals.{pass_head, pass_skip, job_accepted, valid_holds, append_accepted, gives, given_number}
 use Rattle.refusals.specs.Inputs.{scratch_lists, scratch_needed, plan_lists, method_inputs}
-use Rattle.refusals.specs.Methods.{number_of}
-use Rattle.refusals.specs.declared.Chosen.{Chosen}
-use Rattle.refusals.specs.declared.Written.{Written}
+use Rattle.std.specs.Prelude.{Result, Ok}
+use Rattle.chain.specs.declared.Refusal.{Refusal}
+use Rattle.chain.specs.Numbers.{number_of}
+use Rattle.chain.proofs.Numbers.{number_chosen, answered_ok}
 use Rattle.refusals.specs.Answers.{said_by, written_said, lent_after}
-use Rattle.refusals.proofs.Answering.{number_of_lem, written_said_lem, written_all}
+use Rattle.refusals.proofs.Answering.{Known, number_of_lem, answer_said_lem}
+use Rattle.refusals.proofs.Known.{tests_nil, tests_cons, known_first}
 use Rattle.refusals.proofs.Lent.{lent_refused, lent-front}
-use Rattle.refusals.proofs.Methods.{known_passes, number_chosen}
+use Rattle.refusals.proofs.Methods.{known_passes}
 use Rattle.refusals.proofs.Steps.{passed-all}
 use Rattle.refusals.proofs.Tests.{length-enough, all-holds, separators_list, plan_holds, method_free, method_other, plan_known}
 use Rattle.parts.proofs.Front.{taken}
 use Rattle.jobs.specs.Parse.{edition_in, job_in, file_tests, file_refusal}
 use Rattle.jobs.proofs.Calls.{file_numbered}
 use Rattle.jobs.proofs.RoundTrip.{accepted_valid}
-use Rattle.planner.specs.declared.Planned.TheVariants.{Accepted}
-use Rattle.planner.specs.Answers.{plan_refusal, plan_figures, planned_of, chosen_answer, plan_answer, plan_writes}
+use Rattle.planner.specs.Answers.{plan_refusal, plan_figures, chosen_answer, plan_answer, plan_writes}
 use Rattle.planner.proofs.Promises.{accepted_separators}
 use Rattle.texts.specs.Text.{text, labelled, refusal_line}
 use Rattle.texts.proofs.Laws.{refusal_one}
-use Rattle.listing.specs.Listing.{counts_line, plan_line, method_line, job_listing, listing_of, listed_tests, listed_refusal, intake, listing}
+use Rattle.listing.specs.Listing.{counts_line, plan_line, method_line, job_listing, listing_of}
+use Rattle.listing.specs.Listing.{listed_tests, listed_refusal, intake, listing}
 use Rattle.listing.specs.Answers.{list_tests, list_refusal, list_answer, list_writes}
 use Rattle.listing.proofs.Listings.{refused_by, listed_by}
 
@@ -56,45 +58,59 @@ listed_accepted file e =
     (a.0, pass_head (enough_test (job_in file)) [] (omega arith) a.1)
 
 -- Its job is planned by every method that takes it, with lists that are long enough:
-module _ (file : List ℕ) (listed : listed_refusal file ≡ 0) (method : Method) (taken : T (takes method (job_in file))) (s t : List ℕ)
-    (seps : separators_needed (job_in file) ≤ length s) (work : scratch_needed (job_in file) ≤ length t) where
+module _ (file : List ℕ) (listed : listed_refusal file ≡ 0) (method : Method) (taken : T (takes method (job_in file)))
+    (s t : List ℕ) (seps : separators_needed (job_in file) ≤ length s) (work : scratch_needed (job_in file) ≤ length t) where
+  abbrev job : Job
+  job = job_in file
+
+  abbrev edition : Edition
+  edition = edition_in file
+
+  abbrev number : ℕ
+  number = number_of method
+
   -- planning refuses nothing,
-  pub read_planned : plan_refusal (job_in file) (number_of method) (length s) (length t) ≡ 0
+  pub read_planned : plan_refusal job number (length s) (length t) ≡ 0
   unfolding plan_refusal enough_test
   read_planned =
-      let job = job_in file in
       let ok = listed_accepted file listed in
       let valid = accepted_valid file ok.0 in
-      let all = all-holds job (sym (job_accepted.1 valid)) refl (sym (pass_skip (holds_test job) [] (valid_holds valid) ∙ passed-all)) in
+      let held = sym (pass_skip (holds_test job) [] (valid_holds valid) ∙ passed-all) in
+      let all = all-holds job (sym (job_accepted.1 valid)) refl held in
       let list = separators_list job (length s) all refl (length-enough (processors job + 1) (length s) (omega arith)) in
-      let lists = plan_holds job (length s) (length t) list refl (length-enough (scratch_lists * (tasks job + 1)) (length t) (omega arith)) refl (sym (pass_skip (enough_test job) [] ok.1 ∙ passed-all)) in
-      sym (plan_known job (number_of method) (length s) (length t) (known_passes (number_of method) (number_chosen method)) (method_passes job method (length s) (length t) taken lists))
+      let room = length-enough (scratch_lists * (tasks job + 1)) (length t) (omega arith) in
+      let kept = sym (pass_skip (enough_test job) [] ok.1 ∙ passed-all) in
+      let lists = plan_holds job (length s) (length t) list refl room refl kept in
+      let known = known_passes number (number_chosen method) in
+      sym (plan_known job number (length s) (length t) known (method_passes job method (length s) (length t) taken lists))
 
   -- the call answers with the figures of the method's line,
-  pub read_accepted : plan_answer (edition_in file) (job_in file) (number_of method) s t ≡ Accepted (plan_figures (edition_in file) method (job_in file))
-  unfolding plan_answer chosen_answer planned_of
+  pub read_accepted : plan_answer edition job number s t ≡ Ok (plan_figures edition method job)
+  unfolding plan_answer chosen_answer
   read_accepted =
-      ap (λ (c : Chosen). chosen_answer (edition_in file) (job_in file) c (plan_refusal (job_in file) (number_of method) (length s) (length t))) (number_chosen method)
-      ∙ ap (λ (n : ℕ). planned_of n (plan_figures (edition_in file) method (job_in file))) read_planned
+      let refusal = plan_refusal job number (length s) (length t) in
+      ap (λ (c : Result Method Refusal). chosen_answer edition job c refusal) (number_chosen method)
+      ∙ sym (answered_ok (plan_figures edition method job) read_planned)
 
   -- and leaves its separators.
-  pub read_line : method_line (edition_in file) method (job_in file)
-      ≡ plan_line (number_of method) (plan_figures (edition_in file) method (job_in file)) (take (suc (processors (job_in file))) (plan_writes (job_in file) (number_of method) s t))
+  pub read_line : method_line edition method job
+      ≡ plan_line number (plan_figures edition method job) (take (suc (processors job)) (plan_writes job number s t))
   unfolding method_line
   read_line =
-      ap (plan_line (number_of method) (plan_figures (edition_in file) method (job_in file))) (sym (accepted_separators (edition_in file) (job_in file) (number_of method) s t read_accepted))
+      ap (plan_line number (plan_figures edition method job)) (sym (accepted_separators edition job number s t read_accepted))
 
 -- Scope 9.6: "judges a longer file by those bytes": what comes behind them is without effect.
 pub listing_taken : (file : List ℕ) → listing (take intake file) ≡ listing file
 unfolding listing
 listing_taken file = ap (λ (l : List ℕ). listing_of (listed_refusal l) l) (take-take intake intake file (le_refl intake))
 
--- A listing is the line of a refusal exactly where its file is refused with that number: the listing of a job begins with another byte.
+-- A listing is the line of a refusal exactly where its file is refused with that number: the listing of a job begins
+-- with another byte.
 pub listing_refused : (file : List ℕ) {n : ℕ} → n ≢ 0 → (listing file ≡ refusal_line n) ↔ (listed_refusal (take intake file) ≡ n)
 unfolding listing listing_of
 listing_refused file {n} h = (
   λ e. elim (ℕ_discrete k 0) [
-    | yes z ↦ absurd (begins (listed_by edition job refl z ∙ e))
+    | yes z ↦ absurd (begins (listed_by edition job z ∙ e))
     | no z ↦ refusal_one k n (refused_by edition job refl z ∙ e)
   ],
   λ e. sym (refused_by edition job (sym e) h),
@@ -114,9 +130,13 @@ listing_refused file {n} h = (
 
 -- The call: 0 or 9; that of the first test that fails; a refusal leaves the buffer as it was.
 module _ (file out : List ℕ) where
+  list_known : Known (list_refusal (length out))
+  unfolding list_refusal list_tests length_test
+  list_known = known_first (list_tests (length out)) (tests_cons (omega arith) tests_nil)
+
   pub list_said : written_said (list_answer file (length out)) ≡ said_by (list_refusal (length out)) (length (listing file) ∷ [])
   unfolding list_answer
-  list_said = written_said_lem (list_refusal (length out)) (length (listing file))
+  list_said = answer_said_lem list_known (λ count. count ∷ []) (length (listing file))
 
   pub list_number : (written_said (list_answer file (length out))).number ≡ list_refusal (length out)
   list_number = number_of_lem (length (listing file) ∷ []) list_said
@@ -139,7 +159,7 @@ module _ (file out : List ℕ) where
     pub bytes : take n (list_writes file out) ≡ listing file
     pub within : n ≤ length (list_writes file out)
 
-  pub list_accepted : {n : ℕ} → list_answer file (length out) ≡ Written.Bytes n → Listed n
+  pub list_accepted : {n : ℕ} → list_answer file (length out) ≡ Ok n → Listed n
   unfolding list_answer list_writes
   list_accepted {n} e =
       record {
@@ -149,16 +169,17 @@ module _ (file out : List ℕ) where
       }
     where
       none : list_refusal (length out) ≡ 0
-      none = sym list_number ∙ ap (λ (r : Written). (written_said r).number) e
+      none = sym list_number ∙ ap (λ (r : Result ℕ Refusal). (written_said r).number) e
 
       is_n : n ≡ length (listing file)
-      is_n = cc (written_all (length (listing file)) none ∙ e)
+      is_n = cc (answered_ok (length (listing file)) none ∙ e)
 
       put : lent_after (list_refusal (length out)) (listing file) out ≡ listing file ++ drop n out
       put = lent-front (listing file) out none (sym is_n)
 
   -- The same, of what a call answered and left.
-  module _ {r : Written} {later : List ℕ} {n : ℕ} (a : r ≡ list_answer file (length out)) (e : r ≡ Written.Bytes n) (f : later ≡ list_writes file out) where
+  module _ {r : Result ℕ Refusal} {later : List ℕ} {n : ℕ} (a : r ≡ list_answer file (length out)) (e : r ≡ Ok n)
+      (f : later ≡ list_writes file out) where
     pub list_counts : n ≤ length later
     list_counts = omega (arith, (list_accepted (sym a ∙ e)).within, ap length f)
 

@@ -7,7 +7,7 @@ use Rattle.chain.specs.Job.{Edition, Job, tasks, processors, total_weight, held}
 use Rattle.chain.specs.Plan.{plan_of}
 use Rattle.chain.specs.Refusal.{Test, enough_test, first_refusal}
 use Rattle.refusals.specs.Inputs.{record_size}
-use Rattle.refusals.specs.Methods.{number_of}
+use Rattle.chain.specs.Numbers.{number_of}
 use Rattle.jobs.specs.Parse.{edition_in, job_in, file_tests}
 use Rattle.planner.specs.declared.Figures.{Figures}
 use Rattle.planner.specs.Answers.{plan_figures}
@@ -18,12 +18,14 @@ unfoldable pub fields : List ℕ → List ℕ
 fields [] = []
 fields (n ∷ ns) = field n ++ fields ns
 
--- Scope 9.2: "The first line is `tiles`, N, `machines`, P, `total`, Wtot." Scope 9.4: "each line ends with one line feed".
+-- Scope 9.2: "The first line is `tiles`, N, `machines`, P, `total`, Wtot." Scope 9.4: "each line ends with one line
+-- feed".
 unfoldable pub counts_line : Job → List ℕ
 counts_line job =
     labelled "tiles" (tasks job) ++ labelled " machines" (processors job) ++ labelled " total" (total_weight job) ++ text "\n"
 
--- Scope 9.3: "method, count, allowance, the bottleneck's load and speed, imbalance, separators": those before the separators,
+-- Scope 9.3: "method, count, allowance, the bottleneck's load and speed, imbalance, separators": those before the
+-- separators,
 unfoldable pub figures_text : ℕ → Figures → List ℕ
 figures_text method f =
     decimal method ++ field f.count ++ field f.allowance ++ field f.bottleneck.load ++ field f.bottleneck.speed
@@ -63,7 +65,8 @@ listed_tests file = file_tests file ++ enough_test (job_in file) ∷ []
 unfoldable pub listed_refusal : List ℕ → ℕ
 listed_refusal file = first_refusal (listed_tests file)
 
--- Scope 9.6: "at most one record more than the longest job has", which is of the second edition: with so many machines at most,
+-- Scope 9.6: "at most one record more than the longest job has", which is of the second edition: with so many
+-- machines at most,
 abbrev pub intake_for : ℕ → ℕ
 intake_for limit = record_size * (limit + max_tasks + 2)
 

@@ -15,8 +15,8 @@ plan_room separators = figures_room + field_room * separators
 abbrev pub counts_room : ℕ
 counts_room = 21 + 3 * field_room
 
--- The whole listing: the first line, and one for each of the four methods. The line of a refusal is shorter. With so many machines at
--- most,
+-- The whole listing: the first line, and one for each of the four methods. The line of a refusal is shorter. With so
+-- many machines at most,
 abbrev pub room_for : ℕ → ℕ
 room_for limit = counts_room + 4 * plan_room (limit + 1)
 

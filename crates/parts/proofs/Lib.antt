@@ -4,3 +4,4 @@ pub mod Search
 pub mod Measure
 pub mod Slowest
 pub mod Held
+pub mod Lines

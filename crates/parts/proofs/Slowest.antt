@@ -1,12 +1,13 @@
 -- The least of a list, as the loop over it comes to know it.
 -- Assumes nothing.
-use Prim.Native.Nat.{ℕ, suc, ◌+◌, ◌≤◌, ◌<◌}
-use mathlib.Core.Path.{◌≡◌, subst}
+use Prim.Native.Nat.{ℕ, suc, ◌+◌, ◌-◌, ◌≤◌, ◌<◌, min}
+use mathlib.Core.Path.{◌≡◌, ap, subst, ◌∙◌}
 use mathlib.Core.Bool.{Bool, true, false, cond}
 use mathlib.Core.List.{List, [], ◌∷◌}
 use native.Mathlib.Omega.{arith}
 use lib.Dec.{leb}
-use lib.ListN.{length, get_or}
+use lib.ListN.{length, get_or, take, drop, length-drop}
+use lib.Seq.{length-take-le, get_or-take, get_or-drop}
 use Rattle.chain.specs.Lists.{least_of}
 use Rattle.chain.specs.Job.{slowest_of}
 use Rattle.chain.proofs.Indices.{below_next}
@@ -24,6 +25,15 @@ least_cases Q x (y ∷ ys) q h = go (leb x (least_of y ys)) (least_cases Q y ys 
     go : (t : Bool) → Q (least_of y ys) → Q (cond t x (least_of y ys))
     go true r = q
     go false r = r
+
+-- The entries after the first, as the loop goes over them.
+pub rest_length : (xs : List ℕ) → length (take (length xs - 1) (drop 1 xs)) ≡ length xs - 1
+rest_length xs = omega (arith, length-take-le (length xs - 1) (drop 1 xs) (omega (arith, length-drop 1 xs)))
+
+pub rest_at : (xs : List ℕ) (i : ℕ) → i < length xs - 1 → get_or (take (length xs - 1) (drop 1 xs)) i 0 ≡ get_or xs (i + 1) 0
+rest_at xs i h =
+    get_or-take (length xs - 1) (drop 1 xs) i 0 h ∙ get_or-drop 1 xs i 0
+    ∙ ap (λ (k : ℕ). get_or xs k 0) (let e : 1 + i ≡ i + 1 = omega arith in e)
 
 -- The least so far: at most each entry passed, at least the least of all.
 pub record Fewest (xs : List ℕ) (i m : ℕ) : Type 0 where
@@ -44,18 +54,14 @@ fewest_start xs h =
       below = λ k l. subst (λ (i : ℕ). get_or xs 0 0 ≤ get_or xs i 0) (let e : 0 ≡ k = omega arith in e) (omega arith);
     }
 
-pub fewest_lowered : {xs : List ℕ} {i m : ℕ} → Fewest xs i m → i < length xs → get_or xs i 0 ≤ m → Fewest xs (i + 1) (get_or xs i 0)
-fewest_lowered {xs} {i} {m} w h l =
+pub fewest_next : {xs : List ℕ} {i m n : ℕ} → Fewest xs i m → i < length xs → n ≡ min m (get_or xs i 0) → Fewest xs (i + 1) n
+fewest_next {xs} {i} {m} {n} w h e =
     record {
-      from = omega arith;
+      from = omega (arith, w.from);
       to = omega arith;
-      above = slowest-at xs i h;
-      below = more {Q = λ k. get_or xs i 0 ≤ get_or xs k 0} (λ k x. omega (arith, w.below k x)) (omega arith);
+      above = omega (arith, w.above, slowest-at xs i h);
+      below = more {Q = λ k. n ≤ get_or xs k 0} (λ k x. omega (arith, w.below k x)) (omega arith);
     }
-
-pub fewest_kept : {xs : List ℕ} {i m : ℕ} → Fewest xs i m → i < length xs → m ≤ get_or xs i 0 → Fewest xs (i + 1) m
-fewest_kept {xs} {i} {m} w h l =
-    record { from = omega (arith, w.from); to = omega arith; above = w.above; below = more {Q = λ k. m ≤ get_or xs k 0} w.below l }
 
 pub fewest_end : (xs : List ℕ) {i m : ℕ} → Fewest xs i m → length xs ≤ i → m ≡ slowest_of xs
 unfolding slowest_of

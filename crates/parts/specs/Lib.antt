@@ -1,3 +1,4 @@
 pub mod Prefix
 pub mod Rising
 pub mod Kept
+pub mod Lent

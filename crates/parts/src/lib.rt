@@ -1,16 +1,24 @@
-// Prefix sums of the weights, and what is read off them: loads and bounds of parts, the bottleneck of a partition, and the last
-// index whose sum is at most a cap. All functions here are inner: their callers have tested the job.
+// Prefix sums of the weights, and what is read off them: loads and bounds of parts, the bottleneck of a partition, and
+// the last index whose sum is at most a cap. All functions here are inner: their callers have tested the job.
 #![tactic(auto)]
 
 ghost use Rattle.std.specs.Prelude.{suc, ◌+◌, ◌≤◌, ◌<◌, ◌^◌, ◌≡◌, ◌++◌, length, get_or, take, drop};
 ghost use Rattle.bound.specs.Order.{over};
 ghost use Rattle.chain.specs.Lists.{sum};
 ghost use Rattle.chain.specs.Ranges.{Narrow};
-ghost use Rattle.chain.specs.Job.{Job, job_of, processors, Valid, hold_of, held, keeps, slowest_of, ideal, Partition, bound_at, bottleneck};
-ghost use Rattle.parts.specs.Prefix.{prefixes, weight_between, load_between, Loadable, Ready};
+ghost use Rattle.chain.specs.Job as counts;
+ghost use Rattle.chain.specs.Job.{processors, hold_of, keeps, slowest_of, ideal, Partition, bound_at, bottleneck};
+ghost use Rattle.parts.specs.Prefix.{Prefix, prefixes, weight_between, load_between, Loadable};
 ghost use Rattle.parts.specs.Rising.{Rising, near, Spanned, LastAtMost};
+ghost use Rattle.parts.specs.Lent.{the};
 
 use bound::Bound;
+
+mod job;
+mod line;
+
+pub use job::{JobLists, ValidJob};
+pub use line::Line;
 
 // What a method ends with: the bottleneck found, and the count of its moves or trials.
 #[derive(Clone, Copy)]
@@ -19,54 +27,14 @@ pub struct Found {
     pub count: u32,
 }
 
-// A number of 32 bits as one of 64.
-pub fn wide(x: u32) -> u64
-    ensures { result ≡ x }
-{
-    x as u64
-}
-
-// A separator as an index.
-pub fn index(x: u32) -> usize
-    ensures { result ≡ x }
-{
-    x as usize
-}
-
-// A hold as a count of tasks.
-pub fn hold_count(x: u16) -> usize
-    ensures value { result ≡ x }
-    ensures upper_bound { result < 2 ^ 16 }
-{
-    x as usize
-}
-
-// Inner. An index that fits 32 bits.
-pub fn narrow(i: usize) -> u32
-    requires { i < 2 ^ 32 }
-    ensures { result ≡ i }
-{
-    i as u32
-}
-
-// Inner. A load that fits 32 bits.
-pub fn narrow_load(load: u64) -> u32
-    requires { load < 2 ^ 32 }
-    ensures { result ≡ load }
-{
-    load as u32
-}
-
 // Inner. The sum of a list.
 pub fn total(values: &[u32]) -> u64
     requires { sum values.now < 2 ^ 64 }
     ensures { result ≡ sum values.now }
 {
     let mut sum = 0u64;
-    let mut i = 0;
-    while i < values.len() {
-        sum += wide(values[i]);
-        i += 1;
+    for value in values {
+        sum += u64::from(*value);
     }
     sum
 }
@@ -77,13 +45,8 @@ pub fn slowest_of(speeds: &[u32]) -> u32
     ensures { result ≡ slowest_of speeds.now }
 {
     let mut least = speeds[0];
-    let mut i = 1;
-    while i < speeds.len() {
-        let v = speeds[i];
-        if v < least {
-            least = v;
-        }
-        i += 1;
+    for speed in &speeds[1..] {
+        least = least.min(*speed);
     }
     least
 }
@@ -93,11 +56,7 @@ pub fn copy_front(from: &[u32], n: usize, to: &mut [u32])
     requires { (n ≤ length from.now) × (n ≤ length to.old) }
     ensures { to.new ≡ take n from.now ++ drop n to.old }
 {
-    let mut k = 0;
-    while k < n {
-        to[k] = from[k];
-        k += 1;
-    }
+    to[..n].copy_from_slice(&from[..n]);
 }
 
 // Inner. Writes W(1,0) to W(1,N) to the front of the list.
@@ -108,12 +67,10 @@ pub fn prefix_sums(weights: &[u32], sums: &mut [u32])
         sums.new ≡ prefixes ws ++ drop (suc (length ws)) sums.old }
 {
     let mut sum = 0u32;
-    let mut i = 0;
     sums[0] = 0;
-    while i < weights.len() {
-        sum += weights[i];
-        i += 1;
-        sums[i] = sum;
+    for (i, weight) in weights.iter().enumerate() {
+        sum += *weight;
+        sums[i + 1] = sum;
     }
 }
 
@@ -143,8 +100,8 @@ pub fn part_bound(startup: u32, speed: u32, sums: &[u32], a: usize, b: usize) ->
     ensures { result ≡ over (load_between startup sums.now a b) speed }
 {
     Bound {
-        load: wide(part_load(startup, sums, a, b)),
-        speed: wide(speed),
+        load: u64::from(part_load(startup, sums, a, b)),
+        speed: u64::from(speed),
     }
 }
 
@@ -156,135 +113,121 @@ pub fn started_bound(startup: u32, speed: u32, sums: &[u32], a: usize, b: usize)
     ensures narrow { Narrow result }
 {
     Bound {
-        load: wide(startup + part_weight(sums, a, b)),
-        speed: wide(speed),
+        load: u64::from(startup + part_weight(sums, a, b)),
+        speed: u64::from(speed),
+    }
+}
+
+impl<'a> Line<'a> {
+    // Inner. The line of a job whose prefix sums are these.
+    pub fn new(job: ValidJob<'a>, sums: &'a [u32]) -> Line<'a>
+        requires { Prefix (the job) sums.now }
+        ensures { (result.job ≡ job.entry) × (result.sums.now ≡ sums.now) }
+    {
+        Line {
+            job,
+            sums,
+            held: any_hold(job),
+        }
     }
 }
 
 // Inner. The ideal, all weight over all speed.
-pub fn ideal_of(startup: u32, speeds: &[u32], holds: &[u16], weights: &[u32], sums: &[u32]) -> Bound
-    requires ready { let job : Job = job_of startup speeds.now holds.now weights.now in Ready job sums.now }
-    ensures { let job : Job = job_of startup speeds.now holds.now weights.now in result ≡ ideal job }
+pub fn ideal_of(line: Line) -> Bound
+    ensures { result ≡ ideal (the line.entry.job) }
 {
     Bound {
-        load: wide(sums[weights.len()]),
-        speed: total(speeds),
+        load: u64::from(line.sums[line.job.weights.len()]),
+        speed: total(line.job.speeds),
     }
 }
 
 // Inner. The hold of processor p, 0 for no limit.
-pub fn hold_of(startup: u32, speeds: &[u32], holds: &[u16], weights: &[u32], p: usize) -> usize
-    requires valid { let job : Job = job_of startup speeds.now holds.now weights.now in Valid job }
-    requires p_bound { let job : Job = job_of startup speeds.now holds.now weights.now in p < processors job }
-    ensures value { let job : Job = job_of startup speeds.now holds.now weights.now in result ≡ hold_of job p }
+pub fn hold_of(job: ValidJob, p: usize) -> usize
+    requires { p < processors (the job) }
+    ensures value { result ≡ hold_of (the job.entry) p }
     ensures upper_bound { result < 2 ^ 16 }
 {
-    hold_count(holds[p])
+    usize::from(job.holds[p])
 }
 
 // Inner. Whether the part from a to b keeps the hold of processor p.
-pub fn keeps_hold(
-    startup: u32,
-    speeds: &[u32],
-    holds: &[u16],
-    weights: &[u32],
-    p: usize,
-    a: usize,
-    b: usize,
-) -> bool
-    requires valid { let job : Job = job_of startup speeds.now holds.now weights.now in Valid job }
-    requires p_bound { let job : Job = job_of startup speeds.now holds.now weights.now in (p < processors job) × (a ≤ b) }
-    ensures { let job : Job = job_of startup speeds.now holds.now weights.now in result ≡ keeps job p a b }
+pub fn keeps_hold(job: ValidJob, p: usize, a: usize, b: usize) -> bool
+    requires { (p < processors (the job)) × (a ≤ b) }
+    ensures { result ≡ keeps (the job.entry) p a b }
 {
-    let hold = hold_of(startup, speeds, holds, weights, p);
-    if hold == 0 {
-        return true;
-    }
-    b - a <= hold
+    let hold = hold_of(job, p);
+    hold == 0 || b - a <= hold
 }
 
 // Inner. Whether some hold is set. It reads them all, so that several are looked at at once.
-pub fn any_hold(startup: u32, speeds: &[u32], holds: &[u16], weights: &[u32]) -> bool
-    requires valid { let job : Job = job_of startup speeds.now holds.now weights.now in Valid job }
-    ensures { let job : Job = job_of startup speeds.now holds.now weights.now in result ≡ held job }
+pub fn any_hold(job: ValidJob) -> bool
+    ensures { result ≡ counts.held (the job.entry) }
 {
     let mut any = false;
-    let mut p = 0;
-    while p < speeds.len() {
-        if holds[p] != 0 {
-            any = true;
-        }
-        p += 1;
+    for hold in &job.holds[..job.speeds.len()] {
+        any |= *hold != 0;
     }
     any
 }
 
-// Inner. The bound of processor p's part.
-fn bound_at(
-    startup: u32,
-    speeds: &[u32],
-    holds: &[u16],
-    weights: &[u32],
-    sums: &[u32],
-    separators: &[u32],
-    p: usize,
-) -> Bound
-    requires ready { let job : Job = job_of startup speeds.now holds.now weights.now in Ready job sums.now }
-    requires partition { let job : Job = job_of startup speeds.now holds.now weights.now in Partition job (take (suc (processors job)) separators.now) }
-    requires p_bound { let job : Job = job_of startup speeds.now holds.now weights.now in p < processors job }
-    ensures { let job : Job = job_of startup speeds.now holds.now weights.now in result ≡ bound_at job separators.now p }
+// Inner. The same job where its start-up work is 0: code that is compiled for it knows so.
+pub fn unstarted(job: ValidJob) -> ValidJob
+    requires { job.startup ≡ 0 }
+    ensures { (the result ≡ the job.entry) × (result.second ≡ job.entry.second) }
 {
-    let a = index(separators[p]);
-    let b = index(separators[p + 1]);
-    part_bound(startup, speeds[p], sums, a, b)
+    ValidJob {
+        second: job.second,
+        startup: 0,
+        speeds: job.speeds,
+        holds: job.holds,
+        weights: job.weights,
+    }
+}
+
+// Inner. The bound of processor p's part.
+fn bound_at(line: Line, separators: &[u32], p: usize) -> Bound
+    requires partition { let job = the line.job in Partition job (take (suc (processors job)) separators.now) }
+    requires processor { p < processors (the line.job) }
+    ensures { result ≡ bound_at (the line.entry.job) separators.now p }
+{
+    let a = separators[p] as usize;
+    let b = separators[p + 1] as usize;
+    part_bound(line.job.startup, line.job.speeds[p], line.sums, a, b)
 }
 
 // Inner. The bottleneck of the partition in front of the list.
-pub fn measure_parts(
-    startup: u32,
-    speeds: &[u32],
-    holds: &[u16],
-    weights: &[u32],
-    sums: &[u32],
-    separators: &[u32],
-) -> Bound
-    requires ready { let job : Job = job_of startup speeds.now holds.now weights.now in Ready job sums.now }
-    requires partition { let job : Job = job_of startup speeds.now holds.now weights.now in Partition job (take (suc (processors job)) separators.now) }
-    ensures value { let job : Job = job_of startup speeds.now holds.now weights.now in result ≡ bottleneck job separators.now }
-    ensures value_2 { let job : Job = job_of startup speeds.now holds.now weights.now in result ≡ bottleneck job (take (suc (processors job)) separators.now) }
+pub fn measure_parts(line: Line, separators: &[u32]) -> Bound
+    requires partition { let job = the line.job in Partition job (take (suc (processors job)) separators.now) }
+    ensures value { result ≡ bottleneck (the line.entry.job) separators.now }
+    ensures of_front { let job = the line.entry.job in
+        result ≡ bottleneck job (take (suc (processors job)) separators.now) }
 {
-    let last = speeds.len() - 1;
-    let mut greatest = bound_at(startup, speeds, holds, weights, sums, separators, 0);
-    let mut p = 1;
-    while p <= last {
-        let here = bound_at(startup, speeds, holds, weights, sums, separators, p);
-        greatest = Bound::greater(greatest, here);
-        p += 1;
+    let mut greatest = bound_at(line, separators, 0);
+    for p in 1..line.job.speeds.len() {
+        greatest = greatest.greater(bound_at(line, separators, p));
     }
     greatest
 }
 
 // Inner. The same. Without start-up work the loop is compiled for 0.
-pub fn measure_in(
-    startup: u32,
-    speeds: &[u32],
-    holds: &[u16],
-    weights: &[u32],
-    sums: &[u32],
-    separators: &[u32],
-) -> Bound
-    requires ready { let job : Job = job_of startup speeds.now holds.now weights.now in Ready job sums.now }
-    requires partition { let job : Job = job_of startup speeds.now holds.now weights.now in Partition job (take (suc (processors job)) separators.now) }
-    ensures value { let job : Job = job_of startup speeds.now holds.now weights.now in result ≡ bottleneck job separators.now }
-    ensures value_2 { let job : Job = job_of startup speeds.now holds.now weights.now in result ≡ bottleneck job (take (suc (processors job)) separators.now) }
+pub fn measure_in(line: Line, separators: &[u32]) -> Bound
+    requires partition { let job = the line.job in Partition job (take (suc (processors job)) separators.now) }
+    ensures value { result ≡ bottleneck (the line.entry.job) separators.now }
+    ensures of_front { let job = the line.entry.job in
+        result ≡ bottleneck job (take (suc (processors job)) separators.now) }
 {
-    if startup == 0 {
-        return measure_parts(0, speeds, holds, weights, sums, separators);
+    if line.job.startup == 0 {
+        let job = unstarted(line.job);
+        let sums = line.sums;
+        let held = line.held;
+        return measure_parts(Line { job, sums, held }, separators);
     }
-    measure_parts(startup, speeds, holds, weights, sums, separators)
+    measure_parts(line, separators)
 }
 
-// The search takes steps of this many entries, twice as many, and so on; it ends by counting the last fewer than so many.
+// The search takes steps of this many entries, twice as many, and so on; it ends by counting the last fewer than so
+// many.
 const NEAR: usize = 8;
 
 // An index whose entry is at most a cap, and a step: the entry a step on is above the cap, or past the last.
@@ -294,7 +237,8 @@ pub struct Span {
     pub step: usize,
 }
 
-// Inner. From a on in steps of 8, 16, 32, .. to before the first entry seen above the cap.
+// Inner. From a on in steps of 8, 16, 32, .. to before the first entry seen above the cap. No range has steps that double,
+// so this is a `while`, as is what halves them.
 pub fn gallop(xs: &[u32], a: usize, n: usize, cap: u32) -> Span
     requires { (a ≤ n) × (n < length xs.now) × (get_or xs.now a 0 ≤ cap) }
     ensures { Spanned xs.now a n cap result.low result.step }
@@ -321,31 +265,27 @@ pub fn halve(xs: &[u32], span: Span, n: usize, cap: u32) -> usize
     let mut step = span.step;
     while NEAR < step {
         step -= step / 2;
-        if step <= n - low {
-            if xs[low + step] <= cap {
-                low += step;
-            }
+        if step <= n - low && xs[low + step] <= cap {
+            low += step;
         }
     }
     low
 }
 
-// Inner. The last entry at most the cap among low and so many more. It is counted to, so that the compiled code has no branch on an
-// entry.
+// Inner. The last entry at most the cap among low and so many more. It is counted to, so that the compiled code has no
+// branch on an entry.
 pub fn last_counted(xs: &[u32], low: usize, more: usize, cap: u32) -> usize
     requires rising { Rising xs.now (low + more) }
     requires low_bound { get_or xs.now low 0 ≤ cap }
     ensures { LastAtMost xs.now low (low + more) cap result }
 {
-    let mut r = low;
-    let mut k = 0;
-    while k < more {
-        k += 1;
-        if xs[low + k] <= cap {
-            r += 1;
+    let mut last = low;
+    for x in &xs[low + 1..low + more + 1] {
+        if *x <= cap {
+            last += 1;
         }
     }
-    r
+    last
 }
 
 // Inner. The last entry at most the cap, where it is near.

@@ -17,7 +17,8 @@ use Rattle.fields.proofs.Laws.{field_same}
 use Rattle.refusals.specs.Inputs.{plan_needed, write_plan_inputs}
 use Rattle.refusals.specs.Answers.{said_by, written_said, lent_after}
 use Rattle.refusals.proofs.Accepted.{accepted}
-use Rattle.refusals.proofs.Answering.{number_of_lem, written_said_lem}
+use Rattle.refusals.proofs.Answering.{answer_said_lem, number_of_lem}
+use Rattle.refusals.proofs.Known.{refusal_known}
 use Rattle.refusals.proofs.Lent.{lent-front}
 use Rattle.planfile.specs.PlanFile.{plan_bytes}
 use Rattle.planfile.specs.Answers.{write_plan_answer, write_plan_bytes}
@@ -28,7 +29,7 @@ module _ (job : Job) (s : List ℕ) (lent : ℕ) where
   -- The answer says the count of bytes, or the refusal's number:
   pub write_plan_said : written_said (write_plan_answer job s lent) ≡ said_by (refusal job (write_plan_inputs job s lent)) (plan_needed job ∷ [])
   unfolding write_plan_answer
-  write_plan_said = written_said_lem (refusal job (write_plan_inputs job s lent)) (plan_needed job)
+  write_plan_said = answer_said_lem (refusal_known job (write_plan_inputs job s lent)) (λ (count : ℕ). count ∷ []) (plan_needed job)
 
   pub write_plan_number : (written_said (write_plan_answer job s lent)).number ≡ refusal job (write_plan_inputs job s lent)
   write_plan_number = number_of_lem (plan_needed job ∷ []) write_plan_said

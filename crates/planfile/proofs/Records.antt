@@ -2,39 +2,88 @@
 -- Assumes nothing.
 use Prim.Native.Nat.{ℕ, zero, suc, ◌+◌, ◌*◌, ◌≤◌, ◌<◌}
 use mathlib.Core.Path.{◌≡◌, refl, sym, ap, ap₂, ◌∙◌}
-use mathlib.Core.List.{List, ◌++◌, append_assoc}
+use mathlib.Core.List.{List, [], ◌∷◌, ◌++◌, append_assoc, append-nil}
 use native.Mathlib.Omega.{arith}
 use native.Mathlib.Numerals.{add-one}
-use lib.ListN.{length, take, drop, length-append, length-drop, take-append-drop}
-use lib.Seq.{length-take-le, get_or-take}
+use lib.ListN.{length, get_or, take, drop, length-append, length-drop, take-append-drop}
+use lib.Seq.{length-take-le, get_or-take, take-suc, take-length}
 use Rattle.chain.specs.Job.{Job, processors, speed_of, part_load, at}
 use Rattle.fields.specs.Field.{field_bytes}
 use Rattle.fields.proofs.Laws.{length-field}
 use Rattle.fields.proofs.Stores.{put_next}
 use Rattle.planfile.specs.PlanFile.{plan_record, plan_bytes_to, plan_bytes}
 
--- One field more, from place m to place k.
-next_field : (l now next A : List ℕ) (m k v : ℕ) → length A ≡ m → now ≡ A ++ drop m l → m + 4 ≡ k
-    → next ≡ take m now ++ field_bytes v ++ drop (m + 4) now → (length (A ++ field_bytes v) ≡ k) × (next ≡ A ++ field_bytes v ++ drop k l)
-next_field l now next A m k v a e f g = (
-  length-append A (field_bytes v) ∙ omega (arith, length-field v),
-  g ∙ ap (λ (x : List ℕ). take m x ++ field_bytes v ++ drop (m + 4) x) e ∙ put_next l A (field_bytes v) m 4 a
-      ∙ ap (λ (n : ℕ). A ++ field_bytes v ++ drop n l) f,
-)
+-- The bytes of fields, one after the other.
+unfoldable pub fields_bytes : List ℕ → List ℕ
+fields_bytes [] = []
+fields_bytes (v ∷ vs) = field_bytes v ++ fields_bytes vs
 
--- Four fields put one after the other, each at its place.
-pub four-fields : (l : List ℕ) {l₁ l₂ l₃ l₄ : List ℕ} (n a b c d : ℕ) → n + 16 ≤ length l
-    → l₁ ≡ take n l ++ field_bytes a ++ drop (n + 4) l
-    → l₂ ≡ take (n + 4) l₁ ++ field_bytes b ++ drop (n + 4 + 4) l₁
-    → l₃ ≡ take (n + 8) l₂ ++ field_bytes c ++ drop (n + 8 + 4) l₂
-    → l₄ ≡ take (n + 12) l₃ ++ field_bytes d ++ drop (n + 12 + 4) l₃
-    → l₄ ≡ take n l ++ (field_bytes a ++ field_bytes b ++ field_bytes c ++ field_bytes d) ++ drop (n + 16) l
-four-fields l {l₁} {l₂} {l₃} {l₄} n a b c d h e₁ e₂ e₃ e₄ =
-    let x = next_field l l l₁ (take n l) n (n + 4) a (length-take-le n l (omega arith)) (sym (take-append-drop n l)) refl e₁ in
-    let y = next_field l l₁ l₂ (take n l ++ field_bytes a) (n + 4) (n + 8) b x.0 x.1 (omega arith) e₂ in
-    let z = next_field l l₂ l₃ (take n l ++ field_bytes a ++ field_bytes b) (n + 8) (n + 12) c y.0 y.1 (omega arith) e₃ in
-    (next_field l l₃ l₄ (take n l ++ field_bytes a ++ field_bytes b ++ field_bytes c) (n + 12) (n + 16) d z.0 z.1 (omega arith) e₄).1
-    ∙ (simp append_assoc)
+length_fields : (vs : List ℕ) → length (fields_bytes vs) ≡ 4 * length vs
+unfolding fields_bytes
+length_fields [] = refl
+length_fields (v ∷ vs) = length-append (field_bytes v) (fields_bytes vs) ∙ omega (arith, length-field v, length_fields vs)
+
+fields_snoc : (vs : List ℕ) (v : ℕ) → fields_bytes (vs ++ v ∷ []) ≡ fields_bytes vs ++ field_bytes v
+unfolding fields_bytes
+fields_snoc [] v = append-nil (field_bytes v)
+fields_snoc (w ∷ vs) v =
+    ap (λ (l : List ℕ). field_bytes w ++ l) (fields_snoc vs v) ∙ sym (append_assoc (field_bytes w) (fields_bytes vs) (field_bytes v))
+
+-- The loop that puts them from place n on: i are put.
+pub record PuttingFields (vs : List ℕ) (n : ℕ) (before now : List ℕ) (i : ℕ) : Type 0 where
+  pub done : i ≤ length vs
+  pub room : length now ≡ length before
+  pub held : now ≡ take n before ++ fields_bytes (take i vs) ++ drop (n + 4 * i) before
+
+module _ (vs : List ℕ) (n : ℕ) (before : List ℕ) (fits : n + 4 * length vs ≤ length before) where
+  pub fields_none : PuttingFields vs n before before 0
+  unfolding fields_bytes
+  fields_none =
+      record {
+        done = omega arith;
+        room = refl;
+        held =
+            sym (ap (λ (l : List ℕ). l ++ drop (n + 4 * 0) before) (append-nil (take n before))
+            ∙ ap (λ (k : ℕ). take n before ++ drop k before) (let e : n + 4 * 0 ≡ n = omega arith in e) ∙ take-append-drop n before);
+      }
+
+  pub fields_next : {now next : List ℕ} {i : ℕ} → PuttingFields vs n before now i → i < length vs
+      → next ≡ take (n + 4 * i) now ++ field_bytes (get_or vs i 0) ++ drop (n + 4 * i + 4) now → PuttingFields vs n before next (i + 1)
+  fields_next {now} {next} {i} p h e =
+      record { done = omega arith; room = ap length held ∙ long; held = held }
+    where
+      front : List ℕ
+      front = take n before ++ fields_bytes (take i vs)
+
+      front_long : length front ≡ n + 4 * i
+      front_long =
+          length-append (take n before) (fields_bytes (take i vs))
+          ∙ omega (arith, length-take-le n before (omega arith), length_fields (take i vs), length-take-le i vs (omega arith))
+
+      more : front ++ field_bytes (get_or vs i 0) ≡ take n before ++ fields_bytes (take (i + 1) vs)
+      more =
+          append_assoc (take n before) (fields_bytes (take i vs)) (field_bytes (get_or vs i 0))
+          ∙ ap (λ (l : List ℕ). take n before ++ l)
+          (sym (ap (λ (k : ℕ). fields_bytes (take k vs)) (add-one i) ∙ ap fields_bytes (take-suc vs i 0 h) ∙ fields_snoc (take i vs) (get_or vs i 0)))
+
+      held : next ≡ take n before ++ fields_bytes (take (i + 1) vs) ++ drop (n + 4 * (i + 1)) before
+      held =
+          e ∙ ap (λ (l : List ℕ). take (n + 4 * i) l ++ field_bytes (get_or vs i 0) ++ drop (n + 4 * i + 4) l) p.held
+          ∙ put_next before front (field_bytes (get_or vs i 0)) (n + 4 * i) 4 front_long
+          ∙ ap (λ (l : List ℕ). l ++ drop (n + 4 * i + 4) before) more
+          ∙ ap (λ (k : ℕ). take n before ++ fields_bytes (take (i + 1) vs) ++ drop k before) (let x : n + 4 * i + 4 ≡ n + 4 * (i + 1) = omega arith in x)
+
+      long : length (take n before ++ fields_bytes (take (i + 1) vs) ++ drop (n + 4 * (i + 1)) before) ≡ length before
+      long =
+          length-append (take n before ++ fields_bytes (take (i + 1) vs)) (drop (n + 4 * (i + 1)) before)
+          ∙ omega (arith, length-append (take n before) (fields_bytes (take (i + 1) vs)), length-take-le n before (omega arith), length_fields (take (i + 1) vs), length-take-le (i + 1) vs (omega arith), length-drop (n + 4 * (i + 1)) before)
+
+  pub fields_all : {now : List ℕ} {i : ℕ} → PuttingFields vs n before now i → length vs ≤ i
+      → now ≡ take n before ++ fields_bytes vs ++ drop (n + 4 * length vs) before
+  fields_all {now} {i} p h =
+      p.held
+      ∙ ap (λ (k : ℕ). take n before ++ fields_bytes (take k vs) ++ drop (n + 4 * k) before) (let e : i ≡ length vs = omega (arith, p.done) in e)
+      ∙ ap (λ (l : List ℕ). take n before ++ fields_bytes l ++ drop (n + 4 * length vs) before) (take-length vs)
 
 module _ (job : Job) (s : List ℕ) where
   pub length_record : (p : ℕ) → length (plan_record job s p) ≡ 16
@@ -104,18 +153,11 @@ unfolding plan_bytes
 plan_all {job} {s} {before} {now} {p} w h =
     w.held ∙ ap (λ (n : ℕ). plan_bytes_to job s n ++ drop (16 * n) before) (let e : p ≡ processors job = omega (arith, w.done) in e)
 
--- The record of processor p, field by field.
-pub record_put : (job : Job) (s : List ℕ) (p load speed : ℕ) (l : List ℕ) {l₁ l₂ l₃ l₄ : List ℕ} → 16 * p + 16 ≤ length l
-    → load ≡ part_load job (at s p) (at s (p + 1)) → speed ≡ speed_of job p
-    → l₁ ≡ take (16 * p) l ++ field_bytes (at s p) ++ drop (16 * p + 4) l
-    → l₂ ≡ take (16 * p + 4) l₁ ++ field_bytes (at s (p + 1)) ++ drop (16 * p + 4 + 4) l₁
-    → l₃ ≡ take (16 * p + 8) l₂ ++ field_bytes load ++ drop (16 * p + 8 + 4) l₂
-    → l₄ ≡ take (16 * p + 12) l₃ ++ field_bytes speed ++ drop (16 * p + 12 + 4) l₃
-    → l₄ ≡ take (16 * p) l ++ plan_record job s p ++ drop (16 * p + 16) l
-unfolding plan_record
-record_put job s p load speed l {l₁} {l₂} {l₃} {l₄} h e f e₁ e₂ e₃ e₄ =
-    four-fields l (16 * p) (at s p) (at s (p + 1)) load speed h e₁ e₂ e₃ e₄ ∙ ap₂ (λ (x y : ℕ). fields (at s (p + 1)) x y) e f
-    ∙ ap (λ (q : ℕ). fields (at s q) (part_load job (at s p) (at s q)) (speed_of job p)) (add-one p)
-  where
-    fields : ℕ → ℕ → ℕ → List ℕ
-    fields b c d = take (16 * p) l ++ (field_bytes (at s p) ++ field_bytes b ++ field_bytes c ++ field_bytes d) ++ drop (16 * p + 16) l
+-- Its four fields make the record of processor p.
+pub record_fields : (job : Job) (s : List ℕ) (p : ℕ) {load speed : ℕ} → load ≡ part_load job (at s p) (at s (p + 1)) → speed ≡ speed_of job p
+    → fields_bytes (at s p ∷ at s (p + 1) ∷ load ∷ speed ∷ []) ≡ plan_record job s p
+unfolding plan_record fields_bytes
+record_fields job s p {load} {speed} e f =
+    ap₂ (λ (x y : ℕ). fields_bytes (at s p ∷ at s (p + 1) ∷ x ∷ y ∷ [])) e f
+    ∙ ap (λ (q : ℕ). fields_bytes (at s p ∷ at s q ∷ part_load job (at s p) (at s q) ∷ speed_of job p ∷ [])) (add-one p)
+    ∙ (simp (append_assoc, append-nil))

@@ -1,15 +1,14 @@
 -- Laws for the allowance: the greatest and the least of a list, and the methods one by one.
 -- Assumes nothing.
-use Prim.Native.Nat.{ℕ, suc, ◌+◌, ◌*◌, ◌≤◌, ◌<◌, ◌^◌}
-use mathlib.Core.Path.{◌≡◌, sym, ap, ap₂, ◌∙◌}
-use mathlib.Core.Bool.{Bool, true, false, not, cond, ◌&&◌}
+use Prim.Native.Nat.{ℕ, suc, max, ◌+◌, ◌*◌, ◌≤◌, ◌<◌, ◌^◌}
+use mathlib.Core.Path.{◌≡◌, sym, ap, ◌∙◌}
+use mathlib.Core.Bool.{Bool, true, false, cond, ◌&&◌}
 use mathlib.Core.List.{List}
 use native.Mathlib.Omega.{arith}
 use native.Mathlib.Nat.{mul-le-mul, le_trans as ≤_trans}
 use native.Mathlib.Decide.{dec_le}
 use lib.Dec.{eqb, lit<}
 use lib.ListN.{length, get_or}
-use borrow.Author.Tests.{eq-eqb, ne_eqb, not-true, not-false}
 use Rattle.chain.specs.declared.Method.{Method}
 use Rattle.chain.specs.declared.Method.TheVariants.{Table, Bidding, Bisection, Nicol}
 use Rattle.chain.specs.Lists.{greatest_of, digits}
@@ -32,16 +31,13 @@ pub record Most (xs : List ℕ) (i m : ℕ) : Type 0 where
 pub most_start : (xs : List ℕ) → Most xs 0 0
 most_start xs = record { to = omega arith; below = omega arith; above = λ k h. absurd (let z : ⊥ = omega arith in z) }
 
-pub most_raised : {xs : List ℕ} {i m : ℕ} → Most xs i m → i < length xs → m ≤ get_or xs i 0 → Most xs (i + 1) (get_or xs i 0)
-most_raised {xs} {i} {m} w h l =
+pub most_next : {xs : List ℕ} {i m n : ℕ} → Most xs i m → i < length xs → n ≡ max m (get_or xs i 0) → Most xs (i + 1) n
+most_next {xs} {i} {m} {n} w h e =
     record {
       to = omega arith;
-      below = greatest_of_le xs i;
-      above = more {Q = λ k. get_or xs k 0 ≤ get_or xs i 0} (λ k x. omega (arith, w.above k x)) (omega arith);
+      below = omega (arith, e, w.below, greatest_of_le xs i);
+      above = more {Q = λ k. get_or xs k 0 ≤ n} (λ k x. omega (arith, e, w.above k x)) (omega (arith, e));
     }
-
-pub most_kept : {xs : List ℕ} {i m : ℕ} → Most xs i m → i < length xs → get_or xs i 0 ≤ m → Most xs (i + 1) m
-most_kept {xs} {i} {m} w h l = record { to = omega arith; below = w.below; above = more {Q = λ k. get_or xs k 0 ≤ m} w.above l }
 
 pub most_end : {xs : List ℕ} {i m : ℕ} → Most xs i m → length xs ≤ i → m ≡ greatest_of xs
 most_end {xs} {i} {m} w h = omega (arith, w.below, greatest_cases (λ n. n ≤ m) xs each)
@@ -74,23 +70,15 @@ module _ (edition : Edition) (job : Job) {m : Method} where
   allowance_table e = sym (ap (λ (k : Method). allowance edition k job) e)
 
   -- By the digits of D, and of N, as the code counts them.
-  pub allowance_bisection : {n d : ℕ} → m ≡ Bisection → d ≡ difference job → n ≡ digits d → 1 + n ≡ allowance edition m job
+  pub allowance_bisection : {n d : ℕ} → m ≡ Bisection → d ≡ difference job → n ≡ digits d
+      → 1 + n ≡ allowance edition m job
   unfolding allowance
-  allowance_bisection a e h = ap (λ (n : ℕ). 1 + n) (h ∙ ap digits e) ∙ sym (ap (λ (k : Method). allowance edition k job) a)
+  allowance_bisection a e h = ap (λ (n : ℕ). 1 + n) (h ∙ ap digits e)
+      ∙ sym (ap (λ (k : Method). allowance edition k job) a)
 
   pub allowance_nicol : {n : ℕ} → m ≡ Nicol → n ≡ digits (tasks job) → last job * n ≡ allowance edition m job
   unfolding allowance
   allowance_nicol a h = ap (λ (n : ℕ). last job * n) h ∙ sym (ap (λ (k : Method). allowance edition k job) a)
-
--- As the code tells the editions apart: n + 1 trials in the first, and in the second on more than one processor; 2 on one.
-pub trials_first : (b : Bool) (l n : ℕ) → not b ≡ true → n + 1 ≡ cond (b && eqb l 0) 2 (n + 1)
-trials_first b l n h = sym (ap (λ (t : Bool). cond (t && eqb l 0) 2 (n + 1)) (not-true b h))
-
-pub trials_single : (b : Bool) (l n : ℕ) → not b ≡ false → l ≡ 0 → 2 ≡ cond (b && eqb l 0) 2 (n + 1)
-trials_single b l n h e = sym (ap₂ (λ (t u : Bool). cond (t && u) 2 (n + 1)) (not-false b h) (eq-eqb l 0 e))
-
-pub trials_more : (b : Bool) (l n : ℕ) → not b ≡ false → (l ≡ 0 → ⊥) → n + 1 ≡ cond (b && eqb l 0) 2 (n + 1)
-trials_more b l n h e = sym (ap₂ (λ (t u : Bool). cond (t && u) 2 (n + 1)) (not-false b h) (ne_eqb l 0 e))
 
 -- That of bidding.
 pub allowance-bidding : (second : Bool) (c : ℕ) (job : Job) {m : Method} {n : ℕ} → m ≡ Bidding

@@ -21,8 +21,9 @@ pub record Known (job : Job) (B : Bound) (t e : ℕ) : Type 0 where
   pub is_t : t ≡ total_weight job
   pub is_e : e ≡ total_speed job
 
-pub known : {job : Job} {B : Bound} {t e : ℕ} → Valid job → (t ≡ total_weight job) × Small B × (ideal job ≼ B) → e ≡ total_speed job → Known job B t e
-known v x is = record { valid = v; small = x.1; above = x.2; is_t = x.0; is_e = is }
+pub known : {job : Job} {B : Bound} {t e : ℕ} → Valid job → t ≡ total_weight job → Small B → ideal job ≼ B
+    → e ≡ total_speed job → Known job B t e
+known v x s a y = record { valid = v; small = s; above = a; is_t = x; is_e = y }
 
 module _ {job : Job} {B : Bound} {t e : ℕ} (k : Known job B t e) where
   pub divisor_fits : t * B.speed < 2 ^ 64
@@ -49,10 +50,12 @@ module _ {job : Job} {B : Bound} {t e : ℕ} (k : Known job B t e) where
   divisor_positive h = one-le-mul {a = t} (omega arith) k.small.speed_positive
 
   -- By the two numbers that code rounds.
-  pub imbalance_is : {n d r : ℕ} → (t ≡ 0 → ⊥) → n ≡ 1000 * (B.load * e - t * B.speed) → d ≡ t * B.speed → r ≡ rounded_up (over n d)
+  pub imbalance_is : {n d r : ℕ} → (t ≡ 0 → ⊥) → n ≡ 1000 * (B.load * e - t * B.speed) → d ≡ t * B.speed
+      → r ≡ rounded_up (over n d)
       → r ≡ imbalance job B
   imbalance_is {n} {d} {r} h x y z =
       z
-      ∙ ap₂ (λ (a b : ℕ). rounded_up (over a b)) (x ∙ ap₂ (λ (a b : ℕ). 1000 * (B.load * b - a * B.speed)) k.is_t k.is_e)
+      ∙ ap₂ (λ (a b : ℕ). rounded_up (over a b)) (x ∙ ap₂ (λ (a b : ℕ). 1000 * (B.load * b - a * B.speed)) k.is_t
+      k.is_e)
       (y ∙ ap (λ (a : ℕ). a * B.speed) k.is_t)
       ∙ sym (imbalance_some job B (λ q. h (k.is_t ∙ q)))

@@ -1,4 +1,5 @@
 pub mod Laws
+pub mod Kept
 pub mod Reading
 pub mod Allowances
 pub mod Imbalances

@@ -8,17 +8,15 @@ use Rattle.refusals.specs.Inputs.{plan_needed, free_by}
 use Rattle.refusals.specs.Answers.{lent_after}
 use Rattle.planfile.specs.PlanFile.{plan_bytes}
 
--- Inside, a job with fewer tasks than this takes shorter lists.
-abbrev pub few : ℕ
-few = 512
-
 -- The tests of the holds, by the number of the method: 17, and 18 for method 4.
 unfoldable pub hold_tests : ℕ → Job → List Test
 hold_tests m job = enough_test job ∷ map free_test (free_by m job)
 
--- The tests of the file, then (Scope 8.7: "16 × P bytes for a plan") that of a buffer of this length, then those of the holds;
+-- The tests of the file, then (Scope 8.7: "16 × P bytes for a plan") that of a buffer of this length, then those of
+-- the holds;
 unfoldable pub host_file_tests : List ℕ → ℕ → ℕ → List Test
-host_file_tests file m lent = file_tests file ++ length_test (plan_needed (job_in file)) lent ∷ hold_tests m (job_in file)
+host_file_tests file m lent =
+    file_tests file ++ length_test (plan_needed (job_in file)) lent ∷ hold_tests m (job_in file)
 
 -- before them the method.
 unfoldable pub host_tests : List ℕ → ℕ → ℕ → List Test
@@ -31,7 +29,8 @@ file_answer file m lent = first_refusal (host_file_tests file m lent)
 unfoldable pub host_answer : List ℕ → ℕ → ℕ → ℕ
 host_answer file m lent = first_refusal (host_tests file m lent)
 
--- Scope 7.10: "The plan fills the first 16 × P bytes of the buffer; the bytes behind them stay." By the number of the refusal.
+-- Scope 7.10: "The plan fills the first 16 × P bytes of the buffer; the bytes behind them stay." By the number of the
+-- refusal.
 unfoldable pub bytes_after : ℕ → List ℕ → List ℕ → List ℕ
 bytes_after number file plan = lent_after number (plan_bytes (job_in file) (plan_of (job_in file))) plan
 

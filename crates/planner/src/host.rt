@@ -1,243 +1,118 @@
 // The calls for hosts in C.
-ghost use Rattle.std.specs.Prelude.{◌≤◌, ◌<◌, ◌≡◌, ◌++◌, ◌≢◌, length, drop};
-ghost use Rattle.chain.specs.Job.{Job, job_of, tasks, Valid};
+ghost use Rattle.std.specs.Prelude.{◌≤◌, ◌<◌, ◌^◌, ◌≡◌, ◌++◌, length, drop};
+ghost use Rattle.chain.specs.declared.Method.TheVariants.{Table};
+ghost use Rattle.chain.specs.Numbers.{number_of, refused};
+ghost use Rattle.chain.specs.Job.{tasks};
 ghost use Rattle.chain.specs.Plan.{plan_of};
-ghost use Rattle.refusals.specs.Inputs.{plan_needed};
-ghost use Rattle.refusals.specs.Methods.{number_of};
-ghost use Rattle.jobs.specs.Parse.{record_count, weights_of, file_refusal};
+ghost use Rattle.chain.specs.Refusal.{first_refusal};
+ghost use Rattle.refusals.specs.Inputs.{scratch_needed, plan_needed};
+ghost use Rattle.parts.specs.Lent.{the};
+ghost use Rattle.jobs.specs.Parse.{weights_of, file_refusal};
 ghost use Rattle.planfile.specs.PlanFile.{plan_bytes};
 ghost use Rattle.grading.specs.Files.{host_grade, host_grades};
-ghost use Rattle.planner.specs.Answers.{Tested, Room};
-ghost use Rattle.planner.specs.HostCall.{few, hold_tests, Host, file_answer, file_writes, host_answer, host_writes};
-ghost use Rattle.chain.specs.Refusal.{first_refusal};
+ghost use Rattle.planner.specs.Answers.{Tested};
+ghost use Rattle.planner.specs.HostCall.{hold_tests, Host, file_answer, file_writes, host_answer, host_writes};
 
-use chain::Method;
+use super::{SCRATCH, SEPARATORS, SUMS, divide_in};
+use chain::{Method, Refusal};
 use grading::grade_into;
-use jobs::{JobRead, read_job};
+use jobs::read_job;
+use parts::{Line, ValidJob};
 use planfile::put_plan;
 use refusals::{
-    Chosen, MAX_PROCESSORS, MAX_TASKS, PLAN_RECORD, RECORD, choose, method_number, test_enough,
-    test_free,
+    MAX_PROCESSORS, MAX_TASKS, PLAN_RECORD, RECORD, test_enough, test_free, test_length,
 };
 
 // A job with fewer tasks takes shorter lists of weights and prefix sums.
 const FEW: usize = 512;
 
-// Inner. Plans a tested job and writes its plan file to the front of the buffer. The work numbers are enough for the method.
-fn write_in(
-    method: Method,
-    startup: u32,
-    speeds: &[u32],
-    holds: &[u16],
-    weights: &[u32],
-    scratch: &mut [u32],
-    plan: &mut [u8],
-)
-    requires tested { let job : Job = job_of startup speeds.now holds.now weights.now in Tested method job }
-    requires room { let job : Job = job_of startup speeds.now holds.now weights.now in Room method job scratch.old }
-    requires job_in_bounds { let job : Job = job_of startup speeds.now holds.now weights.now in plan_needed job ≤ length plan.old }
-    ensures { let job : Job = job_of startup speeds.now holds.now weights.now in plan.new ≡ plan_bytes job (plan_of job) ++ drop (plan_needed job) plan.old }
+// Inner. Plans a tested job and writes its plan file to the front of the buffer. N work numbers are enough for the
+// method. It is not inlined, so that no call takes the stack of another N.
+#[inline(never)]
+fn write_with<const N: usize>(method: Method, job: ValidJob, plan: &mut [u8])
+    requires tested { Tested method (the job) }
+    requires small { N < 2 ^ 32 }
+    requires sums_room { tasks (the job) < N }
+    requires rows_room { method ≡ Table → scratch_needed (the job) ≤ N }
+    requires plan_room { plan_needed (the job) ≤ length plan.old }
+    ensures { let planned = the job.entry in
+        plan.new ≡ plan_bytes planned (plan_of planned) ++ drop (plan_needed planned) plan.old }
 {
-    let mut separators = [0u32; super::SEPARATORS];
-    super::divide_in(
-        method,
-        startup,
-        speeds,
-        holds,
-        weights,
-        &mut separators,
-        scratch,
-    );
-    put_plan(startup, speeds, holds, weights, scratch, &separators, plan);
+    let mut scratch = [0u32; N];
+    let mut separators = [0u32; SEPARATORS];
+    divide_in(method, job, &mut separators, &mut scratch);
+    put_plan(Line::new(job, &scratch), &separators, plan);
 }
 
-// Inner. The same by the table, which takes all work numbers.
-fn write_tabled(
-    method: Method,
-    startup: u32,
-    speeds: &[u32],
-    holds: &[u16],
-    weights: &[u32],
-    plan: &mut [u8],
-)
-    requires tested { let job : Job = job_of startup speeds.now holds.now weights.now in Tested method job }
-    requires job_in_bounds { let job : Job = job_of startup speeds.now holds.now weights.now in plan_needed job ≤ length plan.old }
-    ensures { let job : Job = job_of startup speeds.now holds.now weights.now in plan.new ≡ plan_bytes job (plan_of job) ++ drop (plan_needed job) plan.old }
+// Inner. The same with no more work numbers than the method takes: the table all of them, the others the prefix sums
+// alone.
+fn write_best(method: Method, job: ValidJob, plan: &mut [u8])
+    requires tested { Tested method (the job) }
+    requires plan_room { plan_needed (the job) ≤ length plan.old }
+    ensures { let planned = the job.entry in
+        plan.new ≡ plan_bytes planned (plan_of planned) ++ drop (plan_needed planned) plan.old }
 {
-    let mut scratch = [0u32; super::SCRATCH];
-    write_in(method, startup, speeds, holds, weights, &mut scratch, plan);
-}
-
-// Inner. The same by another method, which takes the prefix sums alone, of a job with few tasks.
-fn write_few(
-    method: Method,
-    startup: u32,
-    speeds: &[u32],
-    holds: &[u16],
-    weights: &[u32],
-    plan: &mut [u8],
-)
-    requires tested { let job : Job = job_of startup speeds.now holds.now weights.now in Tested method job }
-    requires method_nonzero { let job : Job = job_of startup speeds.now holds.now weights.now in (number_of method ≢ 1) × (tasks job < few) }
-    requires job_in_bounds { let job : Job = job_of startup speeds.now holds.now weights.now in plan_needed job ≤ length plan.old }
-    ensures { let job : Job = job_of startup speeds.now holds.now weights.now in plan.new ≡ plan_bytes job (plan_of job) ++ drop (plan_needed job) plan.old }
-{
-    let mut sums = [0u32; FEW];
-    write_in(method, startup, speeds, holds, weights, &mut sums, plan);
-}
-
-// Inner. The same of any job.
-fn write_searched(
-    method: Method,
-    startup: u32,
-    speeds: &[u32],
-    holds: &[u16],
-    weights: &[u32],
-    plan: &mut [u8],
-)
-    requires tested { let job : Job = job_of startup speeds.now holds.now weights.now in Tested method job }
-    requires method_nonzero { number_of method ≢ 1 }
-    requires job_in_bounds { let job : Job = job_of startup speeds.now holds.now weights.now in plan_needed job ≤ length plan.old }
-    ensures { let job : Job = job_of startup speeds.now holds.now weights.now in plan.new ≡ plan_bytes job (plan_of job) ++ drop (plan_needed job) plan.old }
-{
-    let mut sums = [0u32; super::SUMS];
-    write_in(method, startup, speeds, holds, weights, &mut sums, plan);
-}
-
-// Inner. The same by the method, with no more work numbers than it takes.
-fn write_best(
-    method: Method,
-    startup: u32,
-    speeds: &[u32],
-    holds: &[u16],
-    weights: &[u32],
-    plan: &mut [u8],
-)
-    requires tested { let job : Job = job_of startup speeds.now holds.now weights.now in Tested method job }
-    requires job_in_bounds { let job : Job = job_of startup speeds.now holds.now weights.now in plan_needed job ≤ length plan.old }
-    ensures { let job : Job = job_of startup speeds.now holds.now weights.now in plan.new ≡ plan_bytes job (plan_of job) ++ drop (plan_needed job) plan.old }
-{
-    if method_number(method) == 1 {
-        write_tabled(method, startup, speeds, holds, weights, plan);
-    } else if weights.len() < FEW {
-        write_few(method, startup, speeds, holds, weights, plan);
+    if method == Method::Table {
+        write_with::<SCRATCH>(method, job, plan);
+    } else if job.weights.len() < FEW {
+        write_with::<FEW>(method, job, plan);
     } else {
-        write_searched(method, startup, speeds, holds, weights, plan);
+        write_with::<SUMS>(method, job, plan);
     }
 }
 
-// Inner. The tests of the holds of a job that is to be planned by the method: 0, 17 or, for method 4, 18.
-fn test_kept(method: Method, startup: u32, speeds: &[u32], holds: &[u16], weights: &[u32]) -> u32
-    requires valid { let job : Job = job_of startup speeds.now holds.now weights.now in Valid job }
-    ensures { let job : Job = job_of startup speeds.now holds.now weights.now in result ≡ first_refusal (hold_tests (number_of method) job) }
+// Inner. The tests of the holds of a job that is to be planned by the method: 17 or, for method 4, 18.
+fn test_kept(method: Method, job: ValidJob) -> Result<(), Refusal>
+    ensures { refused result ≡ first_refusal (hold_tests (number_of method) (the job.entry)) }
 {
-    let by_holds = test_enough(startup, speeds, holds, weights);
-    if by_holds != 0 {
-        return by_holds;
+    test_enough(job)?;
+    if method == Method::Nicol {
+        test_free(job)?;
     }
-    if method_number(method) == 4 {
-        return test_free(startup, speeds, holds, weights);
-    }
-    0
+    Ok(())
 }
 
 // Inner. The tests of the buffer and of the holds, and the plan.
-fn plan_read(
-    method: Method,
-    startup: u32,
-    speeds: &[u32],
-    holds: &[u16],
-    weights: &[u32],
-    plan: &mut [u8],
-) -> u32
-    requires valid { let job : Job = job_of startup speeds.now holds.now weights.now in Valid job }
-    ensures { let job : Job = job_of startup speeds.now holds.now weights.now in Host (number_of method) job plan.old plan.new result }
+fn plan_read(method: Method, job: ValidJob, plan: &mut [u8]) -> Result<(), Refusal>
+    ensures { Host (number_of method) (the job.entry) plan.old plan.new (refused result) }
 {
-    if plan.len() < PLAN_RECORD * speeds.len() {
-        return 9;
-    }
-    let kept = test_kept(method, startup, speeds, holds, weights);
-    if kept != 0 {
-        return kept;
-    }
-    write_best(method, startup, speeds, holds, weights, plan);
-    0
+    test_length(PLAN_RECORD * job.speeds.len(), plan.len())?;
+    test_kept(method, job)?;
+    write_best(method, job, plan);
+    Ok(())
 }
 
-// Inner. Plans the job file by a method that is known: 0, or the refusal. The list takes the file's weights.
-fn plan_into(method: Method, job: &[u8], weights: &mut [u32], plan: &mut [u8]) -> u32
-    requires { file_refusal job.now ≡ 0 → length (weights_of job.now) ≤ length weights.old }
-    ensures answer { result ≡ file_answer job.now (number_of method) (length plan.old) }
-    ensures bytes { plan.new ≡ file_writes job.now (number_of method) plan.old }
+// Inner. Plans the job file by a method that is known, or the refusal. A list of N takes the file's weights.
+fn plan_sized<const N: usize>(method: Method, file: &[u8], plan: &mut [u8]) -> Result<(), Refusal>
+    requires small { N < 2 ^ 32 }
+    requires weights_room { file_refusal file.now ≡ 0 → length (weights_of file.now) ≤ N }
+    ensures answer { refused result ≡ file_answer file.now (number_of method) (length plan.old) }
+    ensures bytes { plan.new ≡ file_writes file.now (number_of method) plan.old }
 {
     let mut speeds = [0u32; MAX_PROCESSORS];
     let mut holds = [0u16; MAX_PROCESSORS];
-    let answer = read_job(job, &mut speeds, &mut holds, weights);
-    match answer {
-        JobRead::Refused(number) => number,
-        JobRead::Read {
-            second: _,
-            startup,
-            processors,
-            tasks,
-        } => plan_read(
-            method,
-            startup,
-            &speeds[..processors],
-            &holds[..processors],
-            &weights[..tasks],
-            plan,
-        ),
-    }
+    let mut weights = [0u32; N];
+    let read = read_job(file, &mut speeds, &mut holds, &mut weights)?;
+    plan_read(method, read.job(&speeds, &holds, &weights), plan)
 }
 
-// Inner. The same for a file of few records.
-fn plan_few(method: Method, job: &[u8], plan: &mut [u8]) -> u32
-    requires { record_count job.now ≤ few }
-    ensures answer { result ≡ file_answer job.now (number_of method) (length plan.old) }
-    ensures bytes { plan.new ≡ file_writes job.now (number_of method) plan.old }
-{
-    let mut weights = [0u32; FEW];
-    plan_into(method, job, &mut weights, plan)
-}
-
-// Inner. The same for any file.
-fn plan_any(method: Method, job: &[u8], plan: &mut [u8]) -> u32
-    ensures answer { result ≡ file_answer job.now (number_of method) (length plan.old) }
-    ensures bytes { plan.new ≡ file_writes job.now (number_of method) plan.old }
-{
-    let mut weights = [0u32; MAX_TASKS];
-    plan_into(method, job, &mut weights, plan)
-}
-
-// Plans the job file by a method that is known: 0, or the refusal: 2 to 8, 15 and 16 on the file, then 9, 17 or 18.
-fn plan_file(method: Method, job: &[u8], plan: &mut [u8]) -> u32
-    ensures answer { result ≡ file_answer job.now (number_of method) (length plan.old) }
-    ensures bytes { plan.new ≡ file_writes job.now (number_of method) plan.old }
-{
-    if job.len() / RECORD <= FEW {
-        return plan_few(method, job, plan);
-    }
-    plan_any(method, job, plan)
-}
-
-// Plans the job file by the method with this number and writes its plan file: 0, or the refusal: 1, then 2 to 8, 15 and 16 on the file, then
-// 9, 17 or, for method 4, 18.
-pub fn plan_job(job: &[u8], method: u32, plan: &mut [u8]) -> u32
-    ensures answer { result ≡ host_answer job.now method (length plan.old) }
+// Plans the job file by the method with this number and writes its plan file, or the refusal: 1, then 2 to 8, 15 and
+// 16 on the file, then 9, 17 or, for method 4, 18.
+pub fn plan_job(job: &[u8], method: u32, plan: &mut [u8]) -> Result<(), Refusal>
+    ensures answer { refused result ≡ host_answer job.now method (length plan.old) }
     ensures bytes { plan.new ≡ host_writes job.now method plan.old }
 {
-    let chosen = choose(method);
-    match chosen {
-        Chosen::Unknown => 1,
-        Chosen::Known(known) => plan_file(known, job, plan),
+    let method = Method::try_from(method)?;
+    if job.len() / RECORD <= FEW {
+        return plan_sized::<FEW>(method, job, plan); // few records have few weights
     }
+    plan_sized::<MAX_TASKS>(method, job, plan)
 }
 
-// Grades the plan file beside its job file, 1 best, 2 valid, in the buffer's first byte: 0, or the refusal: 2 to 8, 15
+// Grades the plan file beside its job file, 1 best, 2 valid, in the buffer's first byte, or the refusal: 2 to 8, 15
 // and 16 on the job file, then 9, 12, 11 or 13.
-pub fn grade_plan(job: &[u8], plan: &[u8], grade: &mut [u8]) -> u32
-    ensures answer { result ≡ host_grade job.now plan.now (length grade.old) }
+pub fn grade_plan(job: &[u8], plan: &[u8], grade: &mut [u8]) -> Result<(), Refusal>
+    ensures answer { refused result ≡ host_grade job.now plan.now (length grade.old) }
     ensures bytes { grade.new ≡ host_grades job.now plan.now grade.old }
 {
     grade_into(job, plan, grade)

@@ -14,6 +14,7 @@ use Rattle.chain.specs.Probe.{walk, fits, next_bid, visited, probe}
 use Rattle.chain.proofs.Parts.{valid_proper}
 use Rattle.chain.proofs.Bottleneck.{processors-last}
 use Rattle.chain.proofs.Walk.{walk-length}
+use Rattle.chain.proofs.Visited.{visited_first}
 use Rattle.chain.specs.declared.Outcome.{Outcome}
 use Rattle.chain.specs.declared.Outcome.TheVariants.{Fits, Fails}
 
@@ -43,6 +44,10 @@ module _ (job : Job) (B : Bound) where
       go : (t : Bool) → fits job B ≡ t → T (not t) × (C ≡ next_bid job B)
       go true f = let z : ◌≡◌ {A = ℕ} 0 1 = cc (outcome_fits f) in absurd (let y : ⊥ = omega arith in y)
       go false f = (tt, cc (outcome_fails f))
+
+-- A walk that fits comes to no more processors than there are.
+pub fits_inside : {job : Job} → Valid job → (B : Bound) {n : ℕ} → probe job B ≡ Fits n → n ≤ processors job
+fits_inside {job} v B e = omega (arith, (fits_outcome job B e).1, (visited_first (valid_proper v) B).0)
 
 -- The list that is written: the walk, and behind it what was there.
 module _ {job : Job} (v : Valid job) (B : Bound) where

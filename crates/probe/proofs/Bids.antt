@@ -2,19 +2,17 @@
 -- Assumes nothing.
 use Prim.Native.Nat.{ℕ, suc, ◌+◌, ◌≤◌, ◌<◌}
 use mathlib.Core.Path.{◌≡◌, refl, sym, ap, subst, ◌∙◌}
-use mathlib.Core.Bool.{not}
 use mathlib.Core.List.{List}
 use mathlib.Core.Logic.{◌⊎◌, inl, inr}
 use native.Mathlib.Omega.{arith}
 use native.Mathlib.Numerals.{add-one}
-use lib.Dec.{T}
 use lib.ListN.{get_or}
 use Rattle.bound.specs.declared.Bound.{Bound}
 use Rattle.bound.specs.Order.{over, infinite, lesser, least_below}
 use Rattle.bound.proofs.Order.{least_next}
-use Rattle.chain.specs.Job.{Job, Valid, tasks, processors, last, held, part_bound, offer}
+use Rattle.chain.specs.Job.{Job, Valid, tasks, processors, last, part_bound, offer}
 use Rattle.chain.specs.Probe.{separator, bid, next_bid}
-use Rattle.chain.proofs.Within.{offer_cases, offer_part, free_of, free_keeps}
+use Rattle.chain.proofs.Within.{offer_cases}
 use Rattle.chain.proofs.NextBid.{bid_before, bid-last}
 use Rattle.chain.specs.Ranges.{Narrow}
 use Rattle.chain.proofs.Ranges.{part_small, small_narrow}
@@ -39,10 +37,6 @@ module _ {job : Job} {xs : List ℕ} (r : Ready job xs) (p a : ℕ) (h : p < pro
 
   pub rest_bound : a ≤ tasks job → C ≡ over (load_between job.startup xs a (tasks job)) (get_or job.speeds p 0) → C ≡ part_bound job p a (tasks job)
   rest_bound k e = prefix_bound r.prefix p a (tasks job) h k (omega arith) refl e
-
--- Without holds the bound of a part is what is offered for it.
-pub free_offer : (job : Job) → T (not (held job)) → (p a b : ℕ) {C : Bound} → C ≡ part_bound job p a b → C ≡ offer job p a b
-free_offer job f p a b e = e ∙ sym (offer_part job p a b (free_keeps (free_of f) p a b))
 
 -- A bid has a speed, or is none.
 pub offer_either : {job : Job} → Valid job → (p a b : ℕ) {C : Bound} → C ≡ offer job p a b → (1 ≤ C.speed) ⊎ (C ≡ infinite)

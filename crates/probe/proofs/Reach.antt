@@ -2,13 +2,13 @@
 -- Assumes nothing.
 use Prim.Native.Nat.{ℕ, suc, ◌+◌, ◌-◌, ◌*◌, ◌/◌, ◌^◌, ◌≤◌, ◌<◌}
 use mathlib.Core.Path.{◌≡◌, sym, ap, subst, ◌∙◌}
-use mathlib.Core.Bool.{Bool, not, cond}
+use mathlib.Core.Bool.{Bool, true, false, not, cond}
 use mathlib.Core.List.{List}
 use mathlib.Core.Logic.{◌≢◌, inl, inr}
 use native.Mathlib.Omega.{arith}
 use native.Mathlib.Nat.{le-div_iff_mul-le, mul-le-mul_right}
 use native.Mathlib.Decide.{dec_le, ℕ_discrete}
-use lib.Dec.{T, ltb, not_T}
+use lib.Dec.{T, eqb, ltb, not_T}
 use borrow.Author.Tests.{lt-ltb, le-ltb, eq-eqb, ne_eqb}
 use lib.ListN.{get_or}
 use Rattle.bound.specs.declared.Bound.{Bound}
@@ -24,7 +24,13 @@ use Rattle.chain.proofs.Ranges.{part_small, probe_products}
 use Rattle.parts.specs.Prefix.{weight_between, Ready}
 use Rattle.parts.proofs.Laws.{speed_read, prefix_weight, prefix_fits}
 use Rattle.parts.specs.Rising.{LastAtMost}
+use Rattle.parts.specs.Lent.{the}
+use Rattle.parts.specs.declared.line.Line.{Line}
 use Rattle.probe.specs.Walk.{EndsBy, kept_end}
+
+-- A line is ready.
+pub ready : (line : Line) → Ready (the line.job) line.sums.now
+ready line = record { valid = line.job.valid; prefix = line.prefix }
 
 module _ (job : Job) (p a b : ℕ) (B : Bound) (s : 1 ≤ B.speed) where
   -- A part's bound is at most the bound exactly when its load is at most the limit, a whole number.
@@ -156,3 +162,11 @@ kept_reach job p a b B w =
 -- Without holds it is the end by the bound itself.
 pub free_reach : (job : Job) (p a b : ℕ) (B : Bound) → T (not (held job)) → EndsBy job p a B b → b ≡ reach job p a B
 free_reach job p a b B f w = kept_free_is (hold_of job p) a b ((free_of f).none p) ∙ kept_reach job p a b B w
+
+-- Code that is compiled for no holds is run where none is set.
+pub unheld : (job : Job) {n : ℕ} → (T (held job) → T (not (eqb n 0))) → n ≡ 0 → T (not (held job))
+unheld job {n} f h = go (held job) (λ t. subst (λ (k : ℕ). T (not (eqb k 0))) h (f t))
+  where
+    go : (b : Bool) → (T b → T (not (eqb 0 0))) → T (not b)
+    go true g = g tt
+    go false g = tt

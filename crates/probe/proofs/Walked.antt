@@ -1,17 +1,20 @@
 -- What the probe's loop keeps, and what it comes to.
 -- Assumes nothing.
-use Prim.Native.Nat.{ℕ, suc, ◌+◌, ◌*◌, ◌^◌, ◌≤◌, ◌<◌}
+use Prim.Native.Nat.{ℕ, suc, ◌+◌, ◌-◌, ◌*◌, ◌^◌, ◌≤◌, ◌<◌}
 use mathlib.Core.Path.{◌≡◌, refl, sym, ap, subst, ◌∙◌}
-use mathlib.Core.Bool.{Bool, true, false, cond}
+use mathlib.Core.Bool.{true, false}
 use mathlib.Core.List.{List, ◌++◌}
 use native.Mathlib.Omega.{arith}
 use native.Mathlib.Decide.{dec_le}
 use native.Mathlib.Numerals.{add-one}
-use lib.Dec.{T, ltb}
-use borrow.Author.Tests.{lt-ltb, le-ltb}
-use lib.ListN.{length, get_or, set, drop}
+use lib.Dec.{T}
+use lib.ListN.{length, get_or, set, take, drop, replicate, length-drop}
+use lib.Seq.{length-take-le}
+use borrow.Rule.Slice.PartMut.{put_mid}
+use Rattle.std.proofs.Common.{rules}
+use Rattle.std.proofs.lemmas.List.{places, length-replicate, get_or-replicate}
 use Rattle.bound.specs.declared.Bound.{Bound}
-use Rattle.bound.specs.Order.{le, lesser, least_below, Finite}
+use Rattle.bound.specs.Order.{infinite, le, lesser, least_below, Finite}
 use Rattle.chain.specs.Lists.{tabulate}
 use Rattle.chain.specs.Job.{Job, Valid, tasks, processors, last, offer, at}
 use Rattle.chain.specs.Probe.{reach, separator, walk, walked, fits, visited, probe}
@@ -24,11 +27,11 @@ use Rattle.chain.proofs.Visited.{visited_first, visited_full, visited-all, visit
 use Rattle.chain.specs.Ranges.{Lendable, Narrow}
 use Rattle.chain.proofs.Ranges.{offer_products, offer_narrow, lesser_narrow, infinite_narrow}
 use Rattle.chain.proofs.Indices.{table_of}
-use Rattle.parts.proofs.Front.{Front, front_store, front_next, front_end, front_of, front_kept}
+use Rattle.parts.proofs.Front.{Front, front_store, front_end, front_of, front_kept}
 use Rattle.parts.specs.Kept.{KeptFrom}
 use Rattle.probe.specs.declared.Point.{Point}
 use Rattle.chain.specs.declared.Outcome.TheVariants.{Fits, Fails}
-use Rattle.probe.specs.Walk.{least_before, filled, begun, first_point, Reached}
+use Rattle.probe.specs.Walk.{least_before, begun, Reached}
 use Rattle.probe.proofs.Bids.{least_turn, least_end}
 use Rattle.probe.proofs.Answer.{outcome_fits, outcome_fails, walk_count, written_at, written_drop, written_length}
 
@@ -42,35 +45,6 @@ rest_products {job} {B} p a b v l e =
 pub end_to : (job : Job) {b : ℕ} (p a : ℕ) (B : Bound) → b ≡ reach job p a B → a ≤ tasks job → b ≤ tasks job
 end_to job p a B e h = omega (arith, reach_to job p a B h)
 
--- What filling keeps: ys is xs with the value v at the entries from a to before k.
-pub record Filling (xs : List ℕ) (a v k : ℕ) (ys : List ℕ) : Type 0 where
-  pub from : a ≤ k
-  pub front : Front (λ j. cond (ltb j a) (get_or xs j 0) v) k xs ys
-
-pub filling_start : (xs : List ℕ) (a v : ℕ) → Filling xs a v a xs
-filling_start xs a v =
-    record {
-      from = omega arith;
-      front =
-          record {
-            same = refl;
-            done = λ j h. sym (ap (λ (t : Bool). cond t (get_or xs j 0) v) (lt-ltb j a h));
-            rest = λ j h. refl;
-          };
-    }
-
-pub filling_turn : {xs ys : List ℕ} {a v k : ℕ} → Filling xs a v k ys → k < length xs → Filling xs a v (k + 1) (set ys k v)
-filling_turn {xs} {ys} {a} {v} {k} w h =
-    record {
-      from = omega (arith, w.from);
-      front = front_next v w.front h (sym (ap (λ (t : Bool). cond t (get_or xs k 0) v) (le-ltb k a w.from)));
-    }
-
-pub filling_end : {xs ys : List ℕ} {a v k b : ℕ} → Filling xs a v k ys → k ≡ b → b ≤ length xs → ys ≡ filled xs a b v
-unfolding filled
-filling_end {xs} {ys} {a} {v} {k} {b} w e h =
-    front_end (subst (λ (i : ℕ). Front (λ j. cond (ltb j a) (get_or xs j 0) v) i xs ys) e w.front) h
-
 -- What the loop keeps: it stands at the separator of p, where a task is left, has the least bid of the processors below p, and has written
 -- the separators before p.
 pub record Walked (job : Job) (B : Bound) (before now : List ℕ) (p a : ℕ) (best : Bound) : Type 0 where
@@ -82,7 +56,7 @@ pub record Walked (job : Job) (B : Bound) (before now : List ℕ) (p a : ℕ) (b
   pub front : Front (separator job B) p before now
 
 -- Every walk reaches its first point,
-pub reached_first : (job : Job) (B : Bound) (xs : List ℕ) → Reached job B xs first_point
+pub reached_first : (job : Job) (B : Bound) (xs : List ℕ) → Reached job B xs (record { processor = 0; start = 0; least = infinite })
 unfolding separator least_below
 reached_first job B xs =
     record {
@@ -123,17 +97,19 @@ module _ {job : Job} (v : Valid job) (B : Bound) {p : ℕ} (h : p ≤ last job) 
 -- So where a walk comes to a point with no task left.
 module _ {job : Job} (v : Valid job) {B : Bound} {xs : List ℕ} {point : Point} (r : processors job < length xs) (w : Reached job B xs point)
     (h : tasks job ≤ point.start) where
-  pub placed_first : {m : ℕ} → m ≡ point.processor → (Fits m ≡ probe job B) × (xs ≡ begun job B xs)
-  placed_first f =
-      let e : tasks job ≤ separator job B point.processor = omega (arith, w.start_is) in (
-        ap Fits f ∙ answer_placed v B w.to e w.left,
-        begun_end job B (reached_front w) (omega (arith, w.to, processors-last (valid_proper v))) (came v B w.to e w.left),
-      )
+  e : tasks job ≤ separator job B point.processor
+  e = omega (arith, w.start_is)
+
+  pub placed_first : Fits point.processor ≡ probe job B
+  placed_first = answer_placed v B w.to e w.left
+
+  pub begun_first : xs ≡ begun job B xs
+  begun_first = begun_end job B (reached_front w) (omega (arith, w.to, processors-last (valid_proper v))) (came v B w.to e w.left)
 
 module _ {job : Job} (v : Valid job) {B : Bound} {xs ys : List ℕ} {p a : ℕ} {best : Bound} (l : processors job < length xs)
     (w : Walked job B xs ys p a best) where
-  store : {s : ℕ} → s ≡ a → Front (separator job B) (suc p) xs (set ys p s)
-  store {s} e = front_store s w.front (omega (arith, w.to)) (e ∙ w.reached)
+  store : Front (separator job B) (suc p) xs (set ys p a)
+  store = front_store a w.front (omega (arith, w.to)) w.reached
 
   -- The part's end is after its start.
   pub end_after : {b : ℕ} → b ≡ reach job p a B → a ≤ b
@@ -145,24 +121,24 @@ module _ {job : Job} (v : Valid job) {B : Bound} {xs ys : List ℕ} {p a : ℕ} 
   next f = f ∙ ap (λ (i : ℕ). reach job p i B) w.reached
 
   -- Where it is N every task is placed,
-  pub placed : {s b m : ℕ} → p < last job → s ≡ a → b ≡ reach job p a B → tasks job ≤ b → m ≡ suc p
-      → (Fits m ≡ probe job B) × (set ys p s ≡ begun job B xs)
-  placed {s} {b} h e f x g = (
-    ap Fits g ∙ answer_placed v B h y before,
-    begun_end job B (store e) (omega (arith, processors-last (valid_proper v))) (came v B h y before),
-  )
-    where
-      y : tasks job ≤ separator job B (suc p)
-      y = omega (arith, next f)
+  module _ {b : ℕ} (h : p < last job) (f : b ≡ reach job p a B) (x : tasks job ≤ b) where
+    y : tasks job ≤ separator job B (suc p)
+    y = omega (arith, next f)
 
-      before : (k : ℕ) → k < suc p → separator job B k < tasks job
-      before k z = separator_left job B p k (omega (arith, w.reached, w.left)) (omega arith)
+    before : (k : ℕ) → k < suc p → separator job B k < tasks job
+    before k z = separator_left job B p k (omega (arith, w.reached, w.left)) (omega arith)
+
+    pub placed : Fits (p + 1) ≡ probe job B
+    placed = ap Fits (add-one p) ∙ answer_placed v B h y before
+
+    pub begun_placed : set ys p a ≡ begun job B xs
+    begun_placed = begun_end job B store (omega (arith, processors-last (valid_proper v))) (came v B h y before)
 
   -- else the walk goes on.
-  pub walked_turn : {s b : ℕ} {D C : Bound} → p < last job → s ≡ a → b ≡ reach job p a B → b < tasks job → D ≡ offer job p a (suc b) → C ≡ lesser best D
-      → Walked job B xs (set ys p s) (p + 1) b C
-  walked_turn {s} {b} {D} {C} h e f x d k =
-      subst (λ (i : ℕ). Walked job B xs (set ys p s) i b C) (sym (add-one p))
+  pub walked_turn : {b : ℕ} {D C : Bound} → p < last job → b ≡ reach job p a B → b < tasks job → D ≡ offer job p a (suc b) → C ≡ lesser best D
+      → Walked job B xs (set ys p a) (p + 1) b C
+  walked_turn {b} {D} {C} h f x d k =
+      subst (λ (i : ℕ). Walked job B xs (set ys p a) i b C) (sym (add-one p))
       (record {
         to = h;
         reached = next f;
@@ -174,7 +150,7 @@ module _ {job : Job} (v : Valid job) {B : Bound} {xs ys : List ℕ} {p a : ℕ} 
             ∙ ap (λ (D : Bound). lesser D (offer job p (separator job B p) (suc (separator job B (suc p))))) w.least
             ∙ least_turn v B p h;
         small = subst Narrow (sym g) (lesser_narrow w.small (offer_narrow v p a (suc b)));
-        front = store e;
+        front = store;
       })
     where
       g : C ≡ lesser best (offer job p a (suc b))
@@ -187,26 +163,24 @@ module _ {job : Job} (v : Valid job) {B : Bound} {xs ys : List ℕ} {p a : ℕ} 
     came_to_all : visited job B ≡ processors job
     came_to_all = visited-all (valid_proper v) B (omega (arith, w.left, w.reached, ap (separator job B) at_last))
 
-    pub walked_end : {s : ℕ} → s ≡ a → set ys p s ≡ begun job B xs
-    walked_end e =
-        let f : suc p ≡ processors job = omega (arith, at_last, processors-last (valid_proper v)) in
-        begun_end job B (store e) (omega (arith, processors-last (valid_proper v))) (came_to_all ∙ sym f)
+    pub walked_end : set ys (last job) a ≡ begun job B xs
+    walked_end =
+        ap (λ (i : ℕ). set ys i a) (sym at_last)
+        ∙ begun_end job B store (omega (arith, processors-last (valid_proper v)))
+        (came_to_all ∙ (let f : processors job ≡ suc p = omega (arith, at_last, processors-last (valid_proper v)) in f))
 
     -- The last part, from where the walk stands, decides,
-    module _ (f : Finite B) {start : ℕ} (x : start ≡ a) {C : Bound} (e : C ≡ offer job p start (tasks job)) where
+    module _ (f : Finite B) {C : Bound} (e : C ≡ offer job (last job) a (tasks job)) where
       rest_is : C ≡ offer job (last job) (separator job B (last job)) (tasks job)
-      rest_is =
-          e ∙ ap (λ (i : ℕ). offer job p i (tasks job)) (x ∙ w.reached)
-          ∙ ap (λ (q : ℕ). offer job q (separator job B q) (tasks job)) at_last
+      rest_is = e ∙ ap (λ (i : ℕ). offer job (last job) i (tasks job)) (w.reached ∙ ap (separator job B) at_last)
 
       fits_is : le C B ≡ fits job B
       unfolding fits
       fits_is =
           ap (λ (D : Bound). le D B) rest_is ∙ offer-test job (last job) (separator job B (last job)) (tasks job) f
 
-      pub answer_fits : {m : ℕ} → le C B ≡ true → m ≡ processors job → Fits m ≡ probe job B
-      answer_fits t g =
-          ap Fits (g ∙ sym came_to_all) ∙ sym (outcome_fits job B (sym fits_is ∙ t))
+      pub answer_fits : le C B ≡ true → Fits (processors job) ≡ probe job B
+      answer_fits t = ap Fits (sym came_to_all) ∙ sym (outcome_fits job B (sym fits_is ∙ t))
 
       -- and is the last bid.
       pub answer_fails : {D : Bound} → le C B ≡ false → D ≡ lesser best C → Fails D ≡ probe job B
@@ -215,6 +189,20 @@ module _ {job : Job} (v : Valid job) {B : Bound} {xs ys : List ℕ} {p a : ℕ} 
           (g ∙ ap (λ (E : Bound). lesser E C) (w.least ∙ ap (least_before job B) at_last) ∙ ap (lesser (least_before job B (last job))) rest_is
           ∙ least_end v B)
           ∙ sym (outcome_fails job B (sym fits_is ∙ t))
+
+-- The entries of a list a part of which, k entries from a on, was written.
+module _ (a k : ℕ) (xs vs : List ℕ) where
+  put_mid_length : a + k ≤ length xs → length vs ≡ k → length (put_mid a k xs vs) ≡ length xs
+  put_mid_length h e = search (rules, places)
+
+  put_mid_before : (i : ℕ) → i < a → a ≤ length xs → get_or (put_mid a k xs vs) i 0 ≡ get_or xs i 0
+  put_mid_before i h l = search (rules, places)
+
+  put_mid_at : (i : ℕ) → a ≤ i → i < a + length vs → a ≤ length xs → get_or (put_mid a k xs vs) i 0 ≡ get_or vs (i - a) 0
+  put_mid_at i h l m = search (rules, places)
+
+  put_mid_after : (i : ℕ) → a + k ≤ i → length vs ≡ k → a + k ≤ length xs → get_or (put_mid a k xs vs) i 0 ≡ get_or xs i 0
+  put_mid_after i h e l = search (rules, places)
 
 -- A walk that has begun, its list filled up with N from there on: it is the walk.
 module _ {job : Job} (v : Valid job) (B : Bound) (xs : List ℕ) (r : processors job < length xs) where
@@ -232,41 +220,67 @@ module _ {job : Job} (v : Valid job) (B : Bound) (xs : List ℕ) (r : processors
   begun_kept e =
       subst (KeptFrom (suc (processors job)) xs) (sym e) (front_kept begun-front (omega (arith, (visited_first (valid_proper v) B).0)))
 
-  pub begun-filled : {k m n : ℕ} {ys zs : List ℕ} → k ≡ visited job B → m ≡ suc (processors job) → n ≡ tasks job → ys ≡ begun job B xs
-      → zs ≡ filled ys k m n → zs ≡ walk job B ++ drop (suc (processors job)) xs
-  unfolding filled
-  begun-filled {k} {m} {n} {ys} {zs} e f g h t =
-      t ∙ front_end front (omega arith)
+  -- vs being as many N as are left,
+  pub begun-filled : {k m n : ℕ} {ys vs : List ℕ} → k ≡ visited job B → m ≡ suc (processors job) → n ≡ tasks job → ys ≡ begun job B xs
+      → vs ≡ replicate (length (take (m - k) (drop k ys))) n → put_mid k (m - k) ys vs ≡ walk job B ++ drop (suc (processors job)) xs
+  begun-filled {k} {m} {n} {ys} {vs} e f g h t =
+      front_end front (omega arith)
       ∙ ap (λ (i : ℕ). tabulate (at (walk job B)) i ++ drop i xs) f
       ∙ ap (λ (l : List ℕ). l ++ drop (suc (processors job)) xs) (table_of (walk job B) (walk_count v B))
     where
-      value : ℕ → ℕ
-      value i = cond (ltb i k) (get_or ys i 0) n
-
       old : Front (separator job B) (visited job B) xs ys
       old = subst (Front (separator job B) (visited job B) xs) (sym h) begun-front
 
-      new : Front value m ys (tabulate value m ++ drop m ys)
-      new = front_of value m ys (omega (arith, old.same))
+      come : visited job B ≤ processors job
+      come = (visited_first (valid_proper v) B).0
 
-      front : Front (at (walk job B)) m xs (tabulate value m ++ drop m ys)
-      front =
-          record {
-            same = new.same ∙ old.same;
-            done = λ i x. new.done i x ∙ entry i (omega arith);
-            rest = λ i x. new.rest i x ∙ old.rest i (omega (arith, (visited_first (valid_proper v) B).0));
-          }
-        where
-          entry : (i : ℕ) → i ≤ processors job → value i ≡ at (walk job B) i
-          entry i x =
-              elim (dec_le (suc i) k) [
-                | yes y ↦
-                    ap (λ (t : Bool). cond t (get_or ys i 0) n) (lt-ltb i k y) ∙ old.done i (omega arith)
-                    ∙ sym (walk_at job B i (omega (arith, (visited_first (valid_proper v) B).0, processors-last (valid_proper v))))
-                | no y ↦
-                    ap (λ (t : Bool). cond t (get_or ys i 0) n) (le-ltb i k (omega arith))
-                    ∙ g ∙ sym (visited_rest (valid_proper v) B i (omega arith) x)
-              ]
+      room : ℕ
+      room = length (take (m - k) (drop k ys))
+
+      as_many : length vs ≡ m - k
+      as_many =
+          ap length t ∙ length-replicate room n
+          ∙ length-take-le (m - k) (drop k ys) (omega (arith, length-drop k ys, old.same))
+
+      front : Front (at (walk job B)) m xs (put_mid k (m - k) ys vs)
+      front = record {
+        same = put_mid_length k (m - k) ys vs (omega (arith, old.same, come)) as_many ∙ old.same;
+        done = λ i x.
+            elim (dec_le (suc i) k) [
+              | yes y ↦
+                  put_mid_before k (m - k) ys vs i y (omega (arith, old.same, come)) ∙ old.done i (omega arith)
+                  ∙ sym (walk_at job B i (omega (arith, come, processors-last (valid_proper v))))
+              | no y ↦
+                  put_mid_at k (m - k) ys vs i (omega arith) (omega (arith, as_many)) (omega (arith, old.same, come))
+                  ∙ ap (λ (l : List ℕ). get_or l (i - k) 0) t
+                  ∙ get_or-replicate room (i - k) n 0 (omega (arith, as_many, length-replicate room n, ap length t))
+                  ∙ g ∙ sym (visited_rest (valid_proper v) B i (omega arith) (omega arith))
+            ];
+        rest = λ i x. put_mid_after k (m - k) ys vs i (omega (arith, come)) as_many (omega (arith, old.same, come))
+            ∙ old.rest i (omega (arith, come));
+      }
+
+  -- or one, where it has come to the last.
+  pub begun_ended : {ys : List ℕ} → visited job B ≡ processors job → ys ≡ begun job B xs
+      → set ys (processors job) (tasks job) ≡ walk job B ++ drop (suc (processors job)) xs
+  begun_ended {ys} e h =
+      front_end front (omega arith)
+      ∙ ap (λ (l : List ℕ). l ++ drop (suc (processors job)) xs) (table_of (walk job B) (walk_count v B))
+    where
+      old : Front (separator job B) (processors job) xs ys
+      old =
+          subst (Front (separator job B) (processors job) xs) (sym h)
+          (subst (λ (k : ℕ). Front (separator job B) k xs (begun job B xs)) e begun-front)
+
+      walked_to : Front (at (walk job B)) (processors job) xs ys
+      walked_to = record {
+        same = old.same;
+        done = λ i x. old.done i x ∙ sym (walk_at job B i (omega (arith, processors-last (valid_proper v))));
+        rest = old.rest;
+      }
+
+      front : Front (at (walk job B)) (suc (processors job)) xs (set ys (processors job) (tasks job))
+      front = front_store (tasks job) walked_to r (sym (visited_rest (valid_proper v) B (processors job) (omega arith) (omega arith)))
 
 -- The walk of a probe that fits is what it writes.
 pub fit_written : {job : Job} {ys : List ℕ} → Valid job → (B : Bound) (l : List ℕ) → T (fits job B) → ys ≡ walk job B ++ l → ys ≡ walked job B ++ l

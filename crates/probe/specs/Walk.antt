@@ -1,14 +1,15 @@
 -- A walk on its way: where it stands, and what it has seen; and what a failed one leaves.
 use Rattle.std.specs.Prelude.{ℕ, suc, ◌+◌, ◌-◌, ◌≤◌, ◌<◌, ◌≡◌, not, cond, List, ◌++◌, T, eqb, ltb, get_or, drop}
 use Rattle.bound.specs.declared.Bound.{Bound}
-use Rattle.bound.specs.Order.{infinite, ◌≼◌, ◌≺◌, least_below}
+use Rattle.bound.specs.Order.{◌≼◌, ◌≺◌, least_below}
 use Rattle.chain.specs.Ranges.{Narrow}
 use Rattle.chain.specs.Lists.{tabulate}
 use Rattle.chain.specs.Job.{Job, tasks, last, part_bound}
 use Rattle.chain.specs.Probe.{separator, fits, bid, next_bid, visited}
 use Rattle.probe.specs.declared.Point.{Point}
 
--- How far the part of processor p from a on goes by the bound alone: r is the greatest index from a to N whose part's bound is at most B.
+-- How far the part of processor p from a on goes by the bound alone: r is the greatest index from a to N whose
+-- part's bound is at most B.
 pub record EndsBy (job : Job) (p a : ℕ) (B : Bound) (r : ℕ) : Type 0 where
   pub from : a ≤ r
   pub to : r ≤ tasks job
@@ -23,20 +24,12 @@ kept_end h a b = cond (eqb h 0) b (cond (ltb h (b - a)) (a + h) b)
 abbrev pub least_before : Job → Bound → ℕ → Bound
 least_before job B p = least_below (bid job B) p
 
--- The list xs with the value v at the entries from a to before b.
-unfoldable pub filled : List ℕ → ℕ → ℕ → ℕ → List ℕ
-filled xs a b v = tabulate (λ k. cond (ltb k a) (get_or xs k 0) v) b ++ drop b xs
-
 -- The list xs with the separators of the processors that the walk came to in front.
 unfoldable pub begun : Job → Bound → List ℕ → List ℕ
 begun job B xs = tabulate (separator job B) (visited job B) ++ drop (visited job B) xs
 
--- Where every walk begins.
-abbrev pub first_point : Point
-first_point = record { processor = 0; start = 0; least = infinite }
-
--- The walk at the bound B has come to this point with a task left before each processor so far, and the separators before it stand in the
--- list xs.
+-- The walk at the bound B has come to this point with a task left before each processor so far, and the separators
+-- before it stand in the list xs.
 pub record Reached (job : Job) (B : Bound) (xs : List ℕ) (point : Point) : Type 0 where
   pub to : point.processor ≤ last job
   pub start_is : point.start ≡ separator job B point.processor

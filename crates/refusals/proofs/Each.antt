@@ -34,20 +34,6 @@ and_assoc : (a b c : Bool) → (a && (b && c)) ≡ ((a && b) && c)
 and_assoc true b c = refl
 and_assoc false b c = refl
 
-and_out : (a : Bool) {b : Bool} → b ≡ false → false ≡ (a && b)
-and_out true e = sym e
-and_out false e = refl
-
--- One entry more, by where it lies: below, above or between.
-pub among_low : (a : Bool) (lo hi x : ℕ) → x < lo → false ≡ (a && between lo hi x)
-among_low a lo hi x h = and_out a (between_low lo hi x h)
-
-pub among_high : (a : Bool) (lo hi x : ℕ) → hi < x → false ≡ (a && between lo hi x)
-among_high a lo hi x h = and_out a (between_high lo hi x h)
-
-pub among_in : (a : Bool) (lo hi x : ℕ) → lo ≤ x → x ≤ hi → a ≡ (a && between lo hi x)
-among_in a lo hi x h k = sym (ap (λ (b : Bool). a && b) (between_in lo hi x h k) ∙ and_true a)
-
 -- The entries before i and those from i on together are all.
 pub each_next : (lo hi : ℕ) (xs : List ℕ) (i : ℕ) → i < length xs → (a : Bool) {whole b : Bool} → whole ≡ (a && each_between lo hi (drop i xs)) → b ≡ (a && between lo hi (get_or xs i 0))
     → whole ≡ (b && each_between lo hi (drop (i + 1) xs))

@@ -3,6 +3,7 @@
 use Prim.Native.Nat.{ℕ}
 use mathlib.Core.Path.{◌≡◌, refl, sym, ap}
 use mathlib.Core.Bool.{Bool, true, false}
+use mir.Val.{bool_byte}
 use Rattle.chain.specs.Job.{startup_of, edition_of, effective}
 use Rattle.refusals.specs.Inputs.{head_records}
 
@@ -15,13 +16,10 @@ pub first_counts : {b : Bool} (c : ℕ) → b ≡ false → 0 ≡ effective b c
 unfolding edition_of startup_of
 first_counts c e = sym (ap (λ (b : Bool). effective b c) e)
 
-pub second_head : {b : Bool} (c : ℕ) → b ≡ true → 1 ≡ head_records (edition_of b c)
+pub head_is : (b : Bool) (c : ℕ) {n : ℕ} → n ≡ bool_byte b → n ≡ head_records (edition_of b c)
 unfolding edition_of head_records
-second_head c e = sym (ap (λ (b : Bool). head_records (edition_of b c)) e)
-
-pub first_head : {b : Bool} (c : ℕ) → b ≡ false → 0 ≡ head_records (edition_of b c)
-unfolding edition_of head_records
-first_head c e = sym (ap (λ (b : Bool). head_records (edition_of b c)) e)
+head_is true c e = e
+head_is false c e = e
 
 -- The edition with what counts is the edition.
 pub edition_effective : (b : Bool) (c : ℕ) → edition_of b (effective b c) ≡ edition_of b c

@@ -36,13 +36,16 @@ module _ (c : ℕ) (es hs ws : List ℕ) where
       (λ t. le→leb (length es) (length hs) (cut_long (length es) hs (leb→le (length es) (length (take (length es) hs)) t))))
 
   -- One processor has no limit, or all together decide.
-  pub one_free : (p : ℕ) → p < length es → get_or hs p 0 ≡ 0 → true ≡ enough job
+  pub no_limit : (p : ℕ) → p < length es → hold_of job p ≡ 0 → true ≡ enough job
   unfolding enough
-  one_free p k e =
+  no_limit p k e =
       sym (ap (λ (t : Bool). not (t && ltb (sum_to (hold_of job) (processors job)) (tasks job)))
       (same_test (all (λ p. ltb 0 (hold_of job p)) (processors job)) false
-      (λ t. let l : 0 < hold_of job p = ltb→lt 0 (hold_of job p) (all-at (λ p. ltb 0 (hold_of job p)) (processors job) t p k) in omega (arith, hold_at_lem c es hs ws p k))
+      (λ t. let l : 0 < hold_of job p = ltb→lt 0 (hold_of job p) (all-at (λ p. ltb 0 (hold_of job p)) (processors job) t p k) in omega arith)
       (λ x. absurd x)))
+
+  pub one_free : (p : ℕ) → p < length es → get_or hs p 0 ≡ 0 → true ≡ enough job
+  one_free p k e = no_limit p k (sym (hold_at_lem c es hs ws p k) ∙ e)
 
   pub all_decide : ((p : ℕ) → p < length es → 0 < hold_of job p) → {sum : ℕ} → sum ≡ sum_to (hold_of job) (length es) → leb (length ws) sum ≡ enough job
   unfolding enough

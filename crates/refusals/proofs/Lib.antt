@@ -11,3 +11,7 @@ pub mod Lent
 pub mod Answering
 pub mod Promises
 pub mod Editions
+pub mod Known
+pub mod Exits
+pub mod Power
+pub mod Values

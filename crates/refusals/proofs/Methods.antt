@@ -1,89 +1,67 @@
--- The methods by their numbers: what the choice says of the number, and of its test.
+-- The methods by their numbers: what the choice says of the test of the number.
 -- Assumes nothing.
 use Prim.Native.Nat.{ℕ, ◌≤◌}
-use mathlib.Core.Path.{◌≡◌, refl, sym}
-use mathlib.Core.Bool.{Bool, cond}
-use mathlib.Core.List.{[], ◌∷◌}
+use mathlib.Core.Path.{◌≡◌, refl, sym, ap, ◌∙◌}
+use mathlib.Core.Bool.{true, false}
 use mathlib.Core.Logic.{◌≢◌}
+use denote.Enum.Bare.{sameb}
+use mathlib.Core.List.{[], ◌∷◌}
 use native.Mathlib.Omega.{arith}
 use native.Mathlib.Decide.{ℕ_discrete, dec_le}
-use lib.Dec.{eqb}
-use borrow.Author.Tests.{eq-eqb, ne_eqb}
+use Rattle.std.specs.Prelude.{Ok, Err}
 use Rattle.chain.specs.declared.Method.{Method}
+use Rattle.chain.specs.contracts.Method.{the_type}
 use Rattle.chain.specs.declared.Method.TheVariants.{Table, Bidding, Bisection, Nicol}
+use Rattle.chain.specs.declared.Refusal.TheVariants.{UnknownMethod}
 use Rattle.chain.specs.Refusal.{method_test, first_refusal}
-use Rattle.refusals.specs.declared.Chosen.{Chosen}
-use Rattle.refusals.specs.declared.Chosen.TheVariants.{Known, Unknown}
-use Rattle.refusals.specs.Methods.{chosen_of, number_of}
+use Rattle.chain.specs.Numbers.{number_of, chosen_of, code_of, refused}
+use Rattle.chain.proofs.Numbers.{chosen_table, chosen_bidding, chosen_bisection, chosen_nicol, chosen_none}
 use Rattle.refusals.proofs.Tests.{method_low, method_high, method_in}
 
 module _ (n : ℕ) where
-  by_tests : (x y z w : Bool) → Chosen
-  by_tests x y z w = cond x (Known Table) (cond y (Known Bidding) (cond z (Known Bisection) (cond w (Known Nicol) Unknown)))
-
-  by : {x y z w : Bool} → eqb n 1 ≡ x → eqb n 2 ≡ y → eqb n 3 ≡ z → eqb n 4 ≡ w → chosen_of n ≡ by_tests x y z w
-  unfolding chosen_of by_tests
-  by e f g h = cc
-
-  -- The five cases.
-  pub chosen_table : n ≡ 1 → Known Table ≡ chosen_of n
-  unfolding by_tests
-  chosen_table e = sym (by (eq-eqb n 1 e) (ne_eqb n 2 (λ z. omega arith)) (ne_eqb n 3 (λ z. omega arith)) (ne_eqb n 4 (λ z. omega arith)))
-
-  pub chosen_bidding : n ≡ 2 → Known Bidding ≡ chosen_of n
-  unfolding by_tests
-  chosen_bidding e = sym (by (ne_eqb n 1 (λ z. omega arith)) (eq-eqb n 2 e) (ne_eqb n 3 (λ z. omega arith)) (ne_eqb n 4 (λ z. omega arith)))
-
-  pub chosen_bisection : n ≡ 3 → Known Bisection ≡ chosen_of n
-  unfolding by_tests
-  chosen_bisection e = sym (by (ne_eqb n 1 (λ z. omega arith)) (ne_eqb n 2 (λ z. omega arith)) (eq-eqb n 3 e) (ne_eqb n 4 (λ z. omega arith)))
-
-  pub chosen_nicol : n ≡ 4 → Known Nicol ≡ chosen_of n
-  unfolding by_tests
-  chosen_nicol e = sym (by (ne_eqb n 1 (λ z. omega arith)) (ne_eqb n 2 (λ z. omega arith)) (ne_eqb n 3 (λ z. omega arith)) (eq-eqb n 4 e))
-
-  pub chosen_none : n ≢ 1 → n ≢ 2 → n ≢ 3 → n ≢ 4 → Unknown ≡ chosen_of n
-  unfolding by_tests
-  chosen_none a b c d = sym (by (ne_eqb n 1 a) (ne_eqb n 2 b) (ne_eqb n 3 c) (ne_eqb n 4 d))
-
-  -- A number whose method is known passes the test of number 1,
-  pub known_passes : {k : Method} → chosen_of n ≡ Known k → 0 ≡ first_refusal (method_test n ∷ [])
-  known_passes {k} e =
+  -- The test of a number says whether it is a method's.
+  pub method_refused : refused (chosen_of n) ≡ first_refusal (method_test n ∷ [])
+  unfolding refused code_of
+  method_refused =
       elim (dec_le 1 n) [
-        | yes a ↦ elim (dec_le n 4) [ yes b ↦ method_in n a b | no b ↦ absurd (none (chosen_none (λ z. omega arith) (λ z. omega arith) (λ z. omega arith) (λ z. omega arith))) ]
-        | no a ↦ absurd (none (chosen_none (λ z. omega arith) (λ z. omega arith) (λ z. omega arith) (λ z. omega arith)))
+        | no a ↦ ap refused (sym (chosen_none n (λ z. omega arith) (λ z. omega arith) (λ z. omega arith) (λ z. omega arith))) ∙ method_low n (omega arith)
+        | yes a ↦ elim (dec_le n 4) [
+          | no b ↦ ap refused (sym (chosen_none n (λ z. omega arith) (λ z. omega arith) (λ z. omega arith) (λ z. omega arith))) ∙ method_high n (omega arith)
+          | yes b ↦ known a b ∙ method_in n a b
+        ]
       ]
     where
-      none : Unknown ≡ chosen_of n → ⊥
-      none f = let z : ◌≡◌ {A = ℕ} 0 1 = cc in omega arith
-
-  -- and one that is no method's fails it.
-  pub unknown_fails : chosen_of n ≡ Unknown → 1 ≡ first_refusal (method_test n ∷ [])
-  unknown_fails e =
-      elim (dec_le 1 n) [
-        | yes a ↦ elim (dec_le n 4) [ yes b ↦ absurd (some a b) | no b ↦ method_high n (omega arith) ]
-        | no a ↦ method_low n (omega arith)
-      ]
-    where
-      known : {k : Method} → Known k ≡ chosen_of n → ⊥
-      known f = let z : ◌≡◌ {A = ℕ} 0 1 = cc in omega arith
-
-      some : 1 ≤ n → n ≤ 4 → ⊥
-      some a b =
+      known : 1 ≤ n → n ≤ 4 → refused (chosen_of n) ≡ 0
+      known a b =
           elim (ℕ_discrete n 1) [
-            | yes x ↦ known (chosen_table x)
+            | yes x ↦ ap refused (sym (chosen_table n x))
             | no x ↦ elim (ℕ_discrete n 2) [
-              | yes y ↦ known (chosen_bidding y)
-              | no y ↦ elim (ℕ_discrete n 3) [ yes w ↦ known (chosen_bisection w) | no w ↦ known (chosen_nicol (omega arith)) ]
+              | yes y ↦ ap refused (sym (chosen_bidding n y))
+              | no y ↦ elim (ℕ_discrete n 3) [ yes w ↦ ap refused (sym (chosen_bisection n w)) | no w ↦ ap refused (sym (chosen_nicol n (omega arith))) ]
             ]
           ]
 
--- A method is the one that its number stands for.
-pub number_chosen : (k : Method) → chosen_of (number_of k) ≡ Known k
-unfolding chosen_of number_of
-number_chosen Table = refl
-number_chosen Bidding = refl
-number_chosen Bisection = refl
-number_chosen Nicol = refl
+  -- A number whose method is known passes the test of number 1,
+  pub known_passes : {k : Method} → chosen_of n ≡ Ok k → 0 ≡ first_refusal (method_test n ∷ [])
+  unfolding refused
+  known_passes e = sym (ap refused e) ∙ method_refused
 
-pub ruleset choice_laws = (chosen_table, chosen_bidding, chosen_bisection, chosen_nicol, chosen_none)
+  -- and one that is no method's fails it.
+  pub unknown_fails : chosen_of n ≡ Err UnknownMethod → 1 ≡ first_refusal (method_test n ∷ [])
+  unfolding refused code_of
+  unknown_fails e = sym (ap refused e) ∙ method_refused
+
+-- The test of whether a method is Nicol's search is that of its number.
+pub nicol_true : (k : Method) → sameb the_type k Nicol ≡ true → number_of k ≡ 4
+unfolding number_of
+nicol_true Table e = cc
+nicol_true Bidding e = cc
+nicol_true Bisection e = cc
+nicol_true Nicol e = refl
+
+pub nicol_false : (k : Method) → sameb the_type k Nicol ≡ false → number_of k ≢ 4
+unfolding number_of
+nicol_false Table e n = omega arith
+nicol_false Bidding e n = omega arith
+nicol_false Bisection e n = omega arith
+nicol_false Nicol e n = cc

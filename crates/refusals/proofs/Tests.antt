@@ -101,25 +101,21 @@ module _ (es : List ℕ) (some : 1 ≤ length es) {x : ℕ} (first : x ≡ get_o
   unfolding row_test
   row_is e f = cc
 
-  pub row_unequal : not b ≡ true → 14 ≡ first_refusal (row_test es ∷ [])
+  pub row_unequal : b ≡ false → 14 ≡ first_refusal (row_test es ∷ [])
   unfolding row_test
-  row_unequal h = sym (fails 14 [] (row_is (equal_is (not-true b h)) refl))
+  row_unequal h = sym (fails 14 [] (row_is (equal_is h) refl))
 
-  module _ (h : not b ≡ false) {c : Bool} (power : c ≡ power_of_two (length es)) where
-    pub row_no_power : not c ≡ true → 14 ≡ first_refusal (row_test es ∷ [])
+  module _ (h : b ≡ true) {c : Bool} (power : c ≡ power_of_two (length es)) where
+    pub row_no_power : c ≡ false → 14 ≡ first_refusal (row_test es ∷ [])
     unfolding row_test
-    row_no_power k = sym (fails 14 [] (row_is (equal_is (not-false b h)) (sym power ∙ not-true c k)))
+    row_no_power k = sym (fails 14 [] (row_is (equal_is h) (sym power ∙ k)))
 
-    pub row_in : not c ≡ false → 0 ≡ first_refusal (row_test es ∷ [])
+    pub row_in : c ≡ true → 0 ≡ first_refusal (row_test es ∷ [])
     unfolding row_test
-    row_in k = sym (passes 14 [] (row_is (equal_is (not-false b h)) (sym power ∙ not-false c k)) ∙ passed-all)
+    row_in k = sym (passes 14 [] (row_is (equal_is h) (sym power ∙ k)) ∙ passed-all)
 
 -- For `search`: at each return the law that its tests meet.
-pub ruleset row_laws = (row_unequal, row_no_power, row_in, refl)
-
 pub ruleset length_laws = (length_short, length-enough)
-
-pub ruleset bound_laws = (load_far, speed_none, speed_far, bound_in, refl)
 
 pub ruleset division_laws = (no_division, division)
 
@@ -176,18 +172,8 @@ module _ (job : Job) where
         quick_free y g =
             past_holds (others_decide (length_test (separators_needed job) lent ∷ []) (free_test job ∷ []) lent_is (numbered_cons (omega arith) numbered_nil) y g)
 
-    -- The heuristic: the job, then those.
+    -- Halving the row: the job, then the row, then those.
     module _ {n : ℕ} (e : n ≡ first_refusal (job_tests job)) where
-      pub heuristic_job : n ≢ 0 → n ≡ refusal job (heuristic_inputs job lent)
-      unfolding refusal call_tests job_tests quick
-      heuristic_job h = first_decide (job_tests job) quick e h
-
-      pub heuristic_list : n ≡ 0 → {k : ℕ} → k ≡ first_refusal (holds_test job ∷ length_test (separators_needed job) lent ∷ free_test job ∷ [])
-          → k ≡ refusal job (heuristic_inputs job lent)
-      unfolding refusal call_tests job_tests quick
-      heuristic_list z f = others_decide (job_tests job) quick e (job_numbered job) z f
-
-      -- Halving the row: the job, then the row, then those.
       row_and_quick : List Test
       row_and_quick = (row_test job.speeds ∷ []) ++ quick
 
@@ -220,6 +206,16 @@ module _ (job : Job) where
     unfolding refusal
     by_others z f =
         others_decide (call_tests job (list_inputs job lent)) us e (call_numbered job (list_inputs job lent)) z f
+
+  -- The heuristic: then no holds.
+  module _ (lent : ℕ) {n : ℕ} (e : n ≡ refusal job (list_inputs job lent)) where
+    pub heuristic_list : n ≢ 0 → n ≡ refusal job (heuristic_inputs job lent)
+    unfolding refusal call_tests job_tests
+    heuristic_list h = by_list lent (free_test job ∷ []) e h
+
+    pub heuristic_free : n ≡ 0 → {k : ℕ} → k ≡ first_refusal (free_test job ∷ []) → k ≡ refusal job (heuristic_inputs job lent)
+    unfolding refusal call_tests job_tests
+    heuristic_free z f = by_others lent (free_test job ∷ []) e z f
 
   -- Measuring: then the division.
   module _ (s : List ℕ) {n : ℕ} (e : n ≡ refusal job (list_inputs job (length s))) where
@@ -354,25 +350,3 @@ module _ (job : Job) where
       unfolding after length_test
       write_plan_division y g =
           by_after (others_decide (length_test (plan_needed job) lent ∷ []) (partition_test job s ∷ []) f (numbered_cons (omega arith) numbered_nil) y g)
-
-pub ruleset all_laws = (all_job, all-holds)
-
-pub ruleset separators_laws = (separators_job, separators_list)
-
-pub ruleset quick_laws = (quick_holds, quick_list, quick_free)
-
-pub ruleset heuristic_laws = (heuristic_job, heuristic_list)
-
-pub ruleset halving_laws = (halving_job, halving_row, halving_list)
-
-pub ruleset measure_laws = (measure_list, measure_division)
-
-pub ruleset probe_laws = (probe_list, probe-holds, probe_bound)
-
-pub ruleset plan_laws = (plan_list, plan_scratch, plan_holds)
-
-pub ruleset method_laws = (method_list, method_free, method_other)
-
-pub ruleset write_job_laws = (write_job_tests, write_bytes_lem)
-
-pub ruleset write_plan_laws = (write_plan_list, write_plan_bytes_lem, write_plan_division)

@@ -1,8 +1,9 @@
 -- What an answer says, what a call that writes a file answers, and what any call leaves in a lent list, by the number that it is
 -- refused with. Scope, section 8.
-use Rattle.std.specs.Prelude.{ℕ, cond, List, [], ◌∷◌, ◌++◌, length, drop, eqb}
+use Rattle.std.specs.Prelude.{ℕ, cond, List, [], ◌∷◌, ◌++◌, length, drop, eqb, Result, Ok, Err}
 use Rattle.bound.specs.declared.Bound.{Bound}
-use Rattle.refusals.specs.declared.Written.{Written}
+use Rattle.chain.specs.declared.Refusal.{Refusal}
+use Rattle.chain.specs.Numbers.{code_of}
 
 -- What an answer says: the scope's number, 0 where the call is accepted, and the values.
 pub record Said : Type 0 where
@@ -25,14 +26,14 @@ said_by number values = cond (eqb number 0) (accepting values) (alone number)
 abbrev pub bound_values : Bound → List ℕ
 bound_values B = B.load ∷ B.speed ∷ []
 
--- Writing a file says the count of its bytes.
-abbrev pub written_said : Written → Said
-written_said (Written.Bytes count) = accepting (count ∷ [])
-written_said (Written.Refused number) = alone number
+-- An answer says what its value does, or the number of the refusal.
+abbrev pub answer_said : {A : Type 0} → (A → List ℕ) → Result A Refusal → Said
+answer_said values (Ok x) = accepting (values x)
+answer_said values (Err refusal) = alone (code_of refusal)
 
--- The answer by the number of the refusal: the count of bytes, or that number.
-unfoldable pub written_of : ℕ → ℕ → Written
-written_of number count = cond (eqb number 0) (Written.Bytes count) (Written.Refused number)
+-- Writing a file says the count of its bytes.
+abbrev pub written_said : Result ℕ Refusal → Said
+written_said = answer_said (λ count. count ∷ [])
 
 -- What a lent list holds after a call that puts these entries in front. On a refusal, Scope 8.1: "every list or buffer that was lent
 -- stays as it was"; otherwise, Scope 8.5: "Entries behind those that a call needs stay."

@@ -1,3 +1,2 @@
-pub mod Methods
 pub mod Inputs
 pub mod Answers

@@ -1,24 +1,16 @@
-// The program: a job file comes on standard input, and its listing goes to standard output. What the listing is, is the library's
-// (`listing::list`); here is only what is read and written.
+// The program: a job file comes on standard input, and its listing goes to standard output. What the listing is, is
+// the library's (`listing::list`); here is only what is read and written.
 #![tactic(auto)]
 
-ghost use Rattle.std.specs.Prelude.{◌≡◌, ℕ, ◌<◌, ◌≤◌, List, false, length, take, IfSome, IsErrOf, OnOk};
-ghost use Rattle.std.specs.Counts.{IsPrefixLen};
-ghost use Rattle.std.specs.Io.KnownBytes.{Appends, Consumes, IsAtEnd, Keeps};
+ghost use Rattle.std.specs.Prelude.{◌≡◌, ℕ, ◌≤◌, List, length, IfSome, IsErrOf, OnOk};
+ghost use Rattle.std.specs.Io.KnownBytes.{Appends, Consumes, Keeps};
 ghost use Rattle.listing.specs.Listing.{intake, listing};
 ghost use Rattle.strips.specs.declared.Failure.TheVariants.{Unread};
 
+use intake::{ReadFailed, take_in};
 use listing::{INTAKE, LISTING_ROOM, list};
-use refusals::Written;
 use std::io::{Read, Write};
 use std::{fmt, io};
-
-// What came on standard input: the number of bytes, and whether a read failed before the input ended.
-#[derive(Clone, Copy)]
-struct Input {
-    bytes: usize,
-    failed: bool,
-}
 
 // Why there is no listing.
 #[derive(Clone, Copy)]
@@ -27,42 +19,20 @@ enum Failure {
     Unwritten,
 }
 
+impl From<ReadFailed> for Failure {
+    ghost from_gives = { λ _ failure. failure ≡ Unread };
+
+    fn from(_: ReadFailed) -> Failure {
+        Failure::Unread
+    }
+}
+
 impl fmt::Display for Failure {
     fn fmt<W: fmt::Write>(&self, f: &mut fmt::Formatter<W>) -> fmt::Result {
         f.write_str(match self {
             Failure::Unread => "standard input cannot be read",
             Failure::Unwritten => "the listing cannot be written",
         })
-    }
-}
-
-// Fills the buffer from standard input, however the bytes arrive, until it is full or the input ends.
-fn take_in<R: Read>(input: &mut R, file: &mut [u8]) -> Input
-    ensures prefix { IsPrefixLen result.bytes file.new }
-    ensures taken { Consumes (R.remaining input.old) (R.remaining input.new) (take result.bytes file.new) }
-    ensures all { result.failed ≡ false → result.bytes < length file.new → IsAtEnd (R.remaining input.new) }
-{
-    let mut bytes = 0;
-    while bytes < file.len() {
-        match input.read(&mut file[bytes..]) {
-            Ok(0) => {
-                return Input {
-                    bytes,
-                    failed: false,
-                };
-            }
-            Ok(more) => bytes += more,
-            Err(_) => {
-                return Input {
-                    bytes,
-                    failed: true,
-                };
-            }
-        }
-    }
-    Input {
-        bytes,
-        failed: false,
     }
 }
 
@@ -79,9 +49,7 @@ fn answer<W: Write>(out: &mut W, file: &[u8]) -> io::Result<()>
     ensures { OnOk result (Appends (W.contents out.old) (W.contents out.new) (listing file.now)) }
 {
     let mut text = [0u8; LISTING_ROOM];
-    let Written::Bytes(n) = list(file, &mut text) else {
-        unreachable!();
-    };
+    let n = list(file, &mut text).unwrap();
     send(out, file, &text[..n])
 }
 
@@ -89,18 +57,13 @@ fn answer<W: Write>(out: &mut W, file: &[u8]) -> io::Result<()>
 fn run<R: Read, W: Write>(input: &mut R, out: &mut W) -> Result<(), Failure>
     ensures listed { IfSome (R.remaining input.old) (λ file.
         OnOk result (Appends (W.contents out.old) (W.contents out.new) (listing file))) }
-    ensures taken { (bytes : List ℕ) × (length bytes ≤ intake) × Consumes (R.remaining input.old) (R.remaining input.new) bytes }
+    ensures taken { (bytes : List ℕ) × (length bytes ≤ intake)
+        × Consumes (R.remaining input.old) (R.remaining input.new) bytes }
     ensures unread { IsErrOf result Unread → Keeps (W.contents out.old) (W.contents out.new) }
 {
     let mut file = [0u8; INTAKE];
-    let taken = take_in(input, &mut file);
-    if taken.failed {
-        return Err(Failure::Unread);
-    }
-    match answer(out, &file[..taken.bytes]) {
-        Ok(()) => Ok(()),
-        Err(_) => Err(Failure::Unwritten),
-    }
+    let bytes = take_in(input, &mut file)?;
+    answer(out, &file[..bytes]).map_err(|_| Failure::Unwritten)
 }
 
 // Says on standard error what cannot be done.

@@ -1,12 +1,13 @@
-// Runs edge lines and worked lines of the scope on the proved library. A line of the output is the number of a case, then each
-// answer: the number of the refusal, or 0 and what was answered; then what the lent lists hold. What a case is stands beside it.
+// Runs edge lines and worked lines of the scope on the proved library. A line of the output is the number of a case, then
+// each answer: the number of the refusal, or 0 and what was answered; then what the lent lists hold. What a case is stands
+// beside it.
 #![tactic(auto)]
 
 use bound::Bound;
-use calls::{Measured, Probed};
-use chain::Outcome;
+use chain::{Outcome, Refusal};
 use jobs::JobRead;
-use planner::Planned;
+use parts::JobLists;
+use planner::Figures;
 use refusals::{MAX_PROCESSORS, MAX_TASKS};
 use std::io;
 
@@ -23,26 +24,15 @@ fn end_line(rt: &impl Print) -> io::Result<()> {
     println!(rt; "")
 }
 
-fn say_entry(rt: &impl Print, x: u32) -> io::Result<()> {
-    say(rt, u64::from(x))
-}
-
-fn say_list(rt: &impl Print, list: &[u32]) -> io::Result<()> {
+fn say_list<T: Copy + Into<u64>>(rt: &impl Print, list: &[T]) -> io::Result<()> {
     for x in list {
-        say_entry(rt, *x)?;
+        say(rt, (*x).into())?;
     }
     Ok(())
 }
 
-fn say_hold(rt: &impl Print, x: u16) -> io::Result<()> {
-    say(rt, u64::from(x))
-}
-
-fn say_holds(rt: &impl Print, list: &[u16]) -> io::Result<()> {
-    for x in list {
-        say_hold(rt, *x)?;
-    }
-    Ok(())
+fn say_refusal(rt: &impl Print, refusal: Refusal) -> io::Result<()> {
+    say(rt, u64::from(u32::from(refusal)))
 }
 
 fn say_bound(rt: &impl Print, bound: Bound) -> io::Result<()> {
@@ -51,66 +41,55 @@ fn say_bound(rt: &impl Print, bound: Bound) -> io::Result<()> {
     say(rt, bound.speed)
 }
 
-fn say_edition(rt: &impl Print, second: bool) -> io::Result<()> {
-    say(rt, if second { 2 } else { 1 })
+// A job that is read: 0, the edition, the start-up work that counts, the machines and the tiles.
+fn say_job(rt: &impl Print, read: JobRead) -> io::Result<()> {
+    say(rt, 0)?;
+    say(rt, if read.second { 2 } else { 1 })?;
+    say(rt, u64::from(read.startup))?;
+    say(rt, read.processors as u64)?;
+    say(rt, read.tasks as u64)
 }
 
-// A job that is read: 0, the edition, the start-up work that counts, the machines and the tiles.
-fn say_read(rt: &impl Print, answer: JobRead) -> io::Result<()> {
+fn say_read(rt: &impl Print, answer: Result<JobRead, Refusal>) -> io::Result<()> {
     match answer {
-        JobRead::Refused(number) => say_entry(rt, number),
-        JobRead::Read {
-            second,
-            startup,
-            processors,
-            tasks,
-        } => {
-            say(rt, 0)?;
-            say_edition(rt, second)?;
-            say_entry(rt, startup)?;
-            say(rt, processors as u64)?;
-            say(rt, tasks as u64)
-        }
+        Ok(read) => say_job(rt, read),
+        Err(refusal) => say_refusal(rt, refusal),
     }
 }
 
-fn say_measured(rt: &impl Print, answer: Measured) -> io::Result<()> {
+fn say_measured(rt: &impl Print, answer: Result<Bound, Refusal>) -> io::Result<()> {
     match answer {
-        Measured::Refused(number) => say_entry(rt, number),
-        Measured::Bottleneck(bound) => say_bound(rt, bound),
+        Ok(bound) => say_bound(rt, bound),
+        Err(refusal) => say_refusal(rt, refusal),
     }
 }
 
 // A fit is 0 and the number of machines that its walk came to; a failure is 0, the next bid's load and its speed.
-fn say_outcome(rt: &impl Print, outcome: Outcome) -> io::Result<()> {
-    match outcome {
-        Outcome::Fits(visited) => {
+fn say_probed(rt: &impl Print, answer: Result<Outcome, Refusal>) -> io::Result<()> {
+    match answer {
+        Ok(Outcome::Fits(visited)) => {
             say(rt, 0)?;
             say(rt, visited as u64)
         }
-        Outcome::Fails(next) => say_bound(rt, next),
-    }
-}
-
-fn say_probed(rt: &impl Print, answer: Probed) -> io::Result<()> {
-    match answer {
-        Probed::Refused(number) => say_entry(rt, number),
-        Probed::Answered(outcome) => say_outcome(rt, outcome),
+        Ok(Outcome::Fails(next)) => say_bound(rt, next),
+        Err(refusal) => say_refusal(rt, refusal),
     }
 }
 
 // A plan: 0, its count, its allowance, the bottleneck's load and speed, its imbalance.
-fn say_planned(rt: &impl Print, answer: Planned) -> io::Result<()> {
+fn say_figures(rt: &impl Print, figures: Figures) -> io::Result<()> {
+    say(rt, 0)?;
+    say(rt, u64::from(figures.count))?;
+    say(rt, u64::from(figures.allowance))?;
+    say(rt, figures.bottleneck.load)?;
+    say(rt, figures.bottleneck.speed)?;
+    say(rt, figures.imbalance)
+}
+
+fn say_planned(rt: &impl Print, answer: Result<Figures, Refusal>) -> io::Result<()> {
     match answer {
-        Planned::Refused(number) => say_entry(rt, number),
-        Planned::Accepted(figures) => {
-            say(rt, 0)?;
-            say_entry(rt, figures.count)?;
-            say_entry(rt, figures.allowance)?;
-            say(rt, figures.bottleneck.load)?;
-            say(rt, figures.bottleneck.speed)?;
-            say(rt, figures.imbalance)
-        }
+        Ok(figures) => say_figures(rt, figures),
+        Err(refusal) => say_refusal(rt, refusal),
     }
 }
 
@@ -125,8 +104,15 @@ fn read(rt: &impl Print, case: u64, file: &[u8]) -> io::Result<()> {
         jobs::read_job(file, &mut speeds, &mut holds, &mut weights),
     )?;
     say_list(rt, &speeds)?;
-    say_holds(rt, &holds)?;
+    say_list(rt, &holds)?;
     say_list(rt, &weights)?;
+    end_line(rt)
+}
+
+// Measures a division of a job.
+fn measure_in(rt: &impl Print, case: u64, lists: JobLists, separators: &[u32]) -> io::Result<()> {
+    begin_line(rt, case)?;
+    say_measured(rt, calls::measure(lists, separators))?;
     end_line(rt)
 }
 
@@ -138,44 +124,37 @@ fn measure(
     weights: &[u32],
     separators: &[u32],
 ) -> io::Result<()> {
-    begin_line(rt, case)?;
-    say_measured(
-        rt,
-        calls::measure(
-            false,
-            0,
-            speeds,
-            &[0; MAX_PROCESSORS + 1],
-            weights,
-            separators,
-        ),
-    )?;
-    end_line(rt)
+    let lists = JobLists {
+        second: false,
+        startup: 0,
+        speeds,
+        holds: &[0; MAX_PROCESSORS + 1],
+        weights,
+    };
+    measure_in(rt, case, lists, separators)
 }
 
-// The probe of job A at a bound, with this start-up work in this edition and these holds.
-fn probe_by(
-    rt: &impl Print,
-    case: u64,
-    second: bool,
-    startup: u32,
-    holds: &[u16],
-    bound: Bound,
-) -> io::Result<()> {
+// Job A with this start-up work in this edition, these speeds and these holds.
+fn job_a<'a>(second: bool, startup: u32, speeds: &'a [u32], holds: &'a [u16]) -> JobLists<'a> {
+    JobLists {
+        second,
+        startup,
+        speeds,
+        holds,
+        weights: &[1, 3, 8],
+    }
+}
+
+// Job A in the first edition, with these holds.
+fn job_held(holds: &[u16]) -> JobLists {
+    job_a(false, 0, &[1, 3], holds)
+}
+
+// The probe of a job of two machines at a bound.
+fn probe_in(rt: &impl Print, case: u64, lists: JobLists, bound: Bound) -> io::Result<()> {
     let mut separators = [7u32; 4];
     begin_line(rt, case)?;
-    say_probed(
-        rt,
-        calls::probe(
-            second,
-            startup,
-            &[1, 3],
-            holds,
-            &[1, 3, 8],
-            bound,
-            &mut separators,
-        ),
-    )?;
+    say_probed(rt, calls::probe(lists, bound, &mut separators))?;
     say_list(rt, &separators)?;
     end_line(rt)
 }
@@ -188,15 +167,20 @@ fn probe_started(
     load: u64,
     speed: u64,
 ) -> io::Result<()> {
-    probe_by(rt, case, second, startup, &[0, 0], Bound { load, speed })
+    probe_in(
+        rt,
+        case,
+        job_a(second, startup, &[1, 3], &[0, 0]),
+        Bound { load, speed },
+    )
 }
 
 fn probe_held(rt: &impl Print, case: u64, holds: &[u16], load: u64, speed: u64) -> io::Result<()> {
-    probe_by(rt, case, false, 0, holds, Bound { load, speed })
+    probe_in(rt, case, job_held(holds), Bound { load, speed })
 }
 
 fn probe(rt: &impl Print, case: u64, load: u64, speed: u64) -> io::Result<()> {
-    probe_started(rt, case, false, 0, load, speed)
+    probe_held(rt, case, &[0, 0], load, speed)
 }
 
 // Measures 0 3 3 of the job of these speeds and A's weights, with this start-up work in this edition.
@@ -207,32 +191,24 @@ fn measure_started(
     startup: u32,
     speeds: &[u32],
 ) -> io::Result<()> {
-    begin_line(rt, case)?;
-    say_measured(
+    measure_in(
         rt,
-        calls::measure(second, startup, speeds, &[0, 0], &[1, 3, 8], &[0, 3, 3]),
-    )?;
-    end_line(rt)
+        case,
+        job_a(second, startup, speeds, &[0, 0]),
+        &[0, 3, 3],
+    )
 }
 
 // Measures a division of job S.
 fn measure_held(rt: &impl Print, case: u64, separators: &[u32]) -> io::Result<()> {
-    begin_line(rt, case)?;
-    say_measured(
-        rt,
-        calls::measure(false, 0, &[1, 3], &[0, 1], &[1, 3, 8], separators),
-    )?;
-    end_line(rt)
+    measure_in(rt, case, job_held(&[0, 1]), separators)
 }
 
 // The heuristic on job A with these holds.
 fn heuristic_held(rt: &impl Print, case: u64, holds: &[u16]) -> io::Result<()> {
     let mut separators = [7u32; 4];
     begin_line(rt, case)?;
-    say_measured(
-        rt,
-        calls::heuristic(false, 0, &[1, 3], holds, &[1, 3, 8], &mut separators),
-    )?;
+    say_measured(rt, calls::heuristic(job_held(holds), &mut separators))?;
     say_list(rt, &separators)?;
     end_line(rt)
 }
@@ -248,16 +224,7 @@ fn plan_held(rt: &impl Print, case: u64, method: u32, holds: &[u16]) -> io::Resu
     begin_line(rt, case)?;
     say_planned(
         rt,
-        planner::plan(
-            method,
-            false,
-            0,
-            &[1, 3],
-            holds,
-            &[1, 3, 8],
-            &mut separators,
-            &mut scratch,
-        ),
+        planner::plan(method, job_held(holds), &mut separators, &mut scratch),
     )?;
     say_list(rt, &separators)?;
     end_line(rt)

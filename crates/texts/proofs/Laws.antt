@@ -9,14 +9,19 @@ use native.Mathlib.Omega.{arith}
 use native.Mathlib.Decide.{dec_le}
 use native.Mathlib.Nat.{pow-le-pow_right, pow-succ'}
 use lib.Dec.{ltb, lit<}
-use lib.ListN.{length, get_or, set, take, drop, length-append}
-use lib.Seq.{sets, sets-eq, take-suc, take_all, length-take-le, take_at}
+use lib.ListN.{length, set, take, drop, length-append}
+use lib.Seq.{sets, sets-eq, take_all, take_at}
+use native.Mathlib.Nat.{le_refl}
+use borrow.Rule.Slice.PartMut.{put_mid}
+use Rattle.std.proofs.lemmas.Slice.{put_mid-paste}
 use borrow.Author.Tests.{ltb-true, ltb-false, lt-ltb}
 use Rattle.io.specs.Digits.{hex_digit_ascii, last_digits, IsDigitCount}
 use Rattle.chain.specs.Lists.{smallest_from}
 use Rattle.chain.proofs.Indices.{Smallest, smallest_is}
 use Rattle.texts.specs.Text.{text, width, decimal, field, labelled, refusal_line}
-use Rattle.texts.specs.Room.{number_room, Put}
+use Rattle.texts.specs.Room.{Put}
+use Rattle.texts.specs.Page.{Puts}
+use Rattle.texts.specs.declared.Page.{Page}
 
 -- Stores that follow one another are one run.
 sets_then : (s t l : List ℕ) (i : ℕ) → sets (sets l i s) (i + length s) t ≡ sets l i (s ++ t)
@@ -52,21 +57,38 @@ put_read {s} {o} {o₁} {n} p h =
     let f = put_front p h in
     (ap (take n) f.1 ∙ take_at s (drop n o) n (sym f.0), omega (arith, f.0, ap length f.1, length-append s (drop n o)))
 
--- One entry more of a list.
-pub put_entry : (l out : List ℕ) (at : ℕ) {out₁ : List ℕ} {i : ℕ} → out₁ ≡ sets out at (take i l) → i < length l
-    → set out₁ (at + i) (get_or l i 0) ≡ sets out at (take (i + 1) l)
-put_entry l out at {out₁} {i} e h =
-    let n : length (take i l) ≡ i = length-take-le i l (omega arith) in
-    let next : i + 1 ≡ suc i = omega arith in
-    ap (λ (o : List ℕ). set o (at + i) (get_or l i 0)) e
-    ∙ ap (λ (k : ℕ). set (sets out at (take i l)) (at + k) (get_or l i 0)) (sym n)
-    ∙ sets_then (take i l) (get_or l i 0 ∷ []) out at
-    ∙ ap (λ (t : List ℕ). sets out at t) (sym (take-suc l i 0 h) ∙ ap (λ (k : ℕ). take k l) (sym next))
+-- A text copied into the part of a buffer that begins at an index.
+pub put_part : {new out copied : List ℕ} {at : ℕ} → at + length new ≤ length out → copied ≡ new
+    → Put new at out (put_mid at (at + length new - at) out copied) (at + length new)
+put_part {new} {out} {copied} {at} h e =
+    let whole : length new ≡ at + length new - at = omega arith in
+    record {
+      bytes = put_mid-paste at (at + length new - at) out copied new (length new) e whole refl
+          ∙ ap (λ (l : List ℕ). take at out ++ l ++ drop (at + length new) out)
+          (take_all (length new) new (le_refl (length new)))
+          ∙ sym (sets-eq new out at h);
+      behind = refl;
+    }
 
--- All of them.
-pub put_all : {l out out₁ : List ℕ} {at i : ℕ} → out₁ ≡ sets out at (take i l) → i ≡ length l → Put l at out out₁ (at + i)
-put_all {l} {out} {out₁} {at} {i} e h =
-    record { bytes = e ∙ ap (λ (t : List ℕ). sets out at t) (take_all i l (omega arith)); behind = omega arith }
+-- The same of pages: nothing put, a text put behind another, and the same text by another name.
+pub puts_none : (page : Page) → Puts [] page page
+puts_none page = record { put = put_none page.at page.out.now; size = refl; same_buffer = refl }
+
+pub puts_then : {s t : List ℕ} {p p₁ p₂ : Page} → Puts s p p₁ → Puts t p₁ p₂ → Puts (s ++ t) p p₂
+puts_then a b =
+    record { put = put_then a.put b.put; size = b.size ∙ a.size; same_buffer = b.same_buffer ∙ a.same_buffer }
+
+pub puts_as : {s t : List ℕ} {p p₁ : Page} → s ≡ t → Puts s p p₁ → Puts t p p₁
+puts_as {s} {t} {p} {p₁} e a = subst (λ (l : List ℕ). Puts l p p₁) e a
+
+-- What was put on a page that was empty stands at the front of its buffer.
+pub puts_all : {s out later : List ℕ} {p p₁ : Page} {n : ℕ} → Puts s p p₁ → p.out.now ≡ out → p.at ≡ 0
+    → later ≡ p₁.out.now → n ≡ p₁.at → Put s 0 out later n
+puts_all {s} {out} {later} {p} {p₁} {n} a bytes empty left written =
+    record {
+      bytes = left ∙ a.put.bytes ∙ ap (λ (o : List ℕ). sets o p.at s) bytes ∙ ap (λ (k : ℕ). sets out k s) empty;
+      behind = omega (arith, a.put.behind, empty, written);
+    }
 
 -- A power of ten is above its exponent.
 above : (n : ℕ) → n < 10 ^ n
@@ -109,15 +131,6 @@ fewest_width {n} {k} f = sym (go (smallest_from (λ j. ltb n (10 ^ j)) 1 n) (sma
 pub number-text : {n k : ℕ} {t : List ℕ} → IsDigitCount 10 1 n k → t ≡ last_digits 10 k n → t ≡ decimal n
 unfolding decimal
 number-text {n} f e = e ∙ ap (λ (j : ℕ). last_digits 10 j n) (fewest_width f)
-
--- A number of 64 bits has at most so many digits.
-pub digits-few : {n k : ℕ} → IsDigitCount 10 1 n k → n < 2 ^ 64 → k ≤ number_room
-digits-few {n} {k} f h =
-    elim (dec_le k number_room) [
-      | yes p ↦ p
-      | no p ↦ let least : 10 ^ number_room ≤ 10 ^ (k - 1) = pow-le-pow_right (lit< tt) {i = number_room} {j = k - 1} (omega arith) in
-          let held = f.2 (omega arith) in absurd (omega arith)
-    ]
 
 -- A number read from its digits, behind those that gave v.
 abbrev told : ℕ → List ℕ → ℕ

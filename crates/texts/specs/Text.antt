@@ -10,7 +10,8 @@ unfoldable pub text : String → List ℕ
 text []ᵗ = []
 text (c ∷ᵗ t) = code c ∷ text t
 
--- How many digits a number has in decimal: the fewest that hold it, and at least one. Scope 9.7: "no zero in front of another digit"
+-- How many digits a number has in decimal: the fewest that hold it, and at least one. Scope 9.7: "no zero in front of
+-- another digit"
 unfoldable pub width : ℕ → ℕ
 width n = smallest_from (λ k. ltb n (10 ^ k)) 1 n
 

@@ -1,68 +1,88 @@
-// Text put into a buffer, one piece behind another. All functions here are inner: their callers have room for what is put.
+// Text put on a page, one piece behind another. What puts text is inner: its callers have room for what is put.
 #![tactic(auto)]
 
 ghost use Rattle.std.specs.Prelude.{◌+◌, ◌≤◌, ◌≡◌, ◌++◌, length};
 ghost use Rattle.texts.specs.Text.{decimal, field, refusal_line};
-ghost use Rattle.texts.specs.Room.{number_room, field_room, refusal_room, Put};
-
-use parts::wide;
+ghost use Rattle.texts.specs.Room.{number_room, field_room, refusal_room};
+ghost use Rattle.texts.specs.Page.{HasRoom, Puts};
 
 // Room for a number of 64 bits, and for one with its space.
 const NUMBER_ROOM: usize = 20;
 
 pub const FIELD_ROOM: usize = 1 + NUMBER_ROOM;
 
-// Inner. Puts the text at index `at`, and answers the index behind it.
-pub fn put_text(text: &[u8], at: usize, out: &mut [u8]) -> usize
-    requires { at + length text.now ≤ length out.old }
-    ensures put { Put text.now at out.old out.new result }
-    ensures value { result ≡ at + length text.now }
-{
-    let mut i = 0;
-    while i < text.len() {
-        out[at + i] = text[i];
-        i += 1;
+// A lent buffer, and how many bytes of it have been written.
+#[derive(Drop)]
+pub struct Page<'a> {
+    out: &'a mut [u8],
+    at: usize,
+}
+
+impl<'a> Page<'a> {
+    // Inner. The page with nothing on it.
+    pub fn new(out: &'a mut [u8]) -> Page<'a>
+        ensures same_buffer { result.out.ghost_name ≡ out.entry.ghost_name }
+        ensures bytes { result.out.now ≡ out.old }
+        ensures empty { result.at ≡ 0 }
+    {
+        Page { out, at: 0 }
     }
-    at + i
-}
 
-// Inner. Puts the number in decimal.
-pub fn put_number(n: u64, at: usize, out: &mut [u8]) -> usize
-    requires { at + number_room ≤ length out.old }
-    ensures put { Put (decimal n) at out.old out.new result }
-    ensures upper_bound { result ≤ at + number_room }
-{
-    let mut text = [0u8; NUMBER_ROOM];
-    let count = io::decimal(n, &mut text);
-    put_text(&text[..count], at, out)
-}
+    // Inner. How many bytes have been written.
+    pub fn written(&self) -> usize
+        ensures { result ≡ self.now.at }
+    {
+        self.at
+    }
 
-// Inner. Puts a space and the number.
-pub fn put_field(n: u64, at: usize, out: &mut [u8]) -> usize
-    requires { at + field_room ≤ length out.old }
-    ensures put { Put (field n) at out.old out.new result }
-    ensures upper_bound { result ≤ at + field_room }
-{
-    let next = put_text(b" ", at, out);
-    put_number(n, next, out)
-}
+    // Inner. Puts the text behind what has been written.
+    pub fn put_text(&mut self, text: &[u8])
+        requires { HasRoom self.old (length text.now) }
+        ensures { Puts text.now self.old self.new }
+    {
+        let end = self.at + text.len();
+        self.out[self.at..end].copy_from_slice(text);
+        self.at = end;
+    }
 
-// Inner. Puts a word and the number that it is of.
-pub fn put_labelled(word: &[u8], n: u64, at: usize, out: &mut [u8]) -> usize
-    requires { at + length word.now + field_room ≤ length out.old }
-    ensures put { Put (word.now ++ field n) at out.old out.new result }
-    ensures upper_bound { result ≤ at + length word.now + field_room }
-{
-    let next = put_text(word, at, out);
-    put_field(n, next, out)
-}
+    // Inner. Puts the number in decimal.
+    pub fn put_number(&mut self, n: u64)
+        requires { HasRoom self.old number_room }
+        ensures put { Puts (decimal n) self.old self.new }
+        ensures upper_bound { self.new.at ≤ self.old.at + number_room }
+    {
+        let mut text = [0u8; NUMBER_ROOM];
+        let count = io::decimal(n, &mut text);
+        self.put_text(&text[..count]);
+    }
 
-// Inner. Puts the line of a refusal.
-pub fn put_refusal_line(number: u32, out: &mut [u8]) -> usize
-    requires { refusal_room ≤ length out.old }
-    ensures put { Put (refusal_line number) 0 out.old out.new result }
-    ensures upper_bound { result ≤ refusal_room }
-{
-    let next = put_labelled(b"refused", wide(number), 0, out);
-    put_text(b"\n", next, out)
+    // Inner. Puts a space and the number.
+    pub fn put_field(&mut self, n: u64)
+        requires { HasRoom self.old field_room }
+        ensures put { Puts (field n) self.old self.new }
+        ensures upper_bound { self.new.at ≤ self.old.at + field_room }
+    {
+        self.put_text(b" ");
+        self.put_number(n);
+    }
+
+    // Inner. Puts a word and the number that it is of.
+    pub fn put_labelled(&mut self, word: &[u8], n: u64)
+        requires { HasRoom self.old (length word.now + field_room) }
+        ensures put { Puts (word.now ++ field n) self.old self.new }
+        ensures upper_bound { self.new.at ≤ self.old.at + length word.now + field_room }
+    {
+        self.put_text(word);
+        self.put_field(n);
+    }
+
+    // Inner. Puts the line of a refusal.
+    pub fn put_refusal_line(&mut self, number: u32)
+        requires { HasRoom self.old refusal_room }
+        ensures put { Puts (refusal_line number) self.old self.new }
+        ensures upper_bound { self.new.at ≤ self.old.at + refusal_room }
+    {
+        self.put_labelled(b"refused", u64::from(number));
+        self.put_text(b"\n");
+    }
 }

@@ -1,50 +1,34 @@
 -- `walk_block` meets its contract: the loop keeps `Going`.
+use mathlib.Core.Path.{refl}
 use native.Mathlib.Omega.{arith}
 use Rattle.chain.proofs.Ranges.{index_fits, narrow_products}
 use Rattle.bidding.proofs.Blocks.{going_start, going_old, going_placed, going_turn, going_end}
 use Rattle.bidding.proofs.walk_block.Goals as goal
 
-pub bounds-separators-first : goal.bounds-separators-first
-bounds-separators-first c =
-    omega (arith, c.requires.job_in_bounds, c.requires.first_le_stop.0, c.requires.first_le_stop.1)
-
 pub loop-p-init : goal.loop-p-init
-loop-p-init c =
-    going_start c.requires.ready.valid c.requires.come c.requires.first_le_stop.0 c.index-was.ensures
+loop-p-init g c = going_start c.args.line.job.valid c.requires.come c.requires.block.0 refl
 
-pub bounds-separators-p : goal.bounds-separators-p
-bounds-separators-p c =
-    omega (arith, c.requires.job_in_bounds, c.requires.first_le_stop.1, c.loop-p.invariant.walked.front.same)
+pub overflow_cast-separators : goal.overflow_cast-separators
+overflow_cast-separators g c = record { fits = index_fits c.args.line.job.valid (omega (arith, c.loop-p.invariant.walked.left)) }
 
-pub narrow-requires : goal.narrow-requires
-narrow-requires c = index_fits c.requires.ready.valid (omega (arith, c.loop-p.invariant.walked.left))
+pub share_at-share-requires-clause-place : goal.share_at-share-requires-clause-place
+share_at-share-requires-clause-place g c = (omega (arith, c.requires.block.1), c.loop-p.invariant.walked.left)
 
-pub bounds-separators-p-in-loop-p : goal.bounds-separators-p-in-loop-p
-bounds-separators-p-in-loop-p c =
-    omega (arith, c.requires.job_in_bounds, c.requires.first_le_stop.1, c.loop-p.invariant.walked.front.same)
-
-pub share_at-share-requires : goal.share_at-share-requires
-share_at-share-requires c =
-    let w = c.loop-p.invariant in
-    record {
-      ready = c.requires.ready;
-      lendable = c.requires.lendable;
-      p_bound = (omega (arith, c.requires.first_le_stop.1), w.walked.left);
-      was_le = going_old c.requires.ready.valid c.requires.come w (omega arith) c.requires.first_le_stop.1 c.index-old.ensures;
-      held_value = c.requires.held_value;
-    }
+pub share_at-share-requires-clause-laid : goal.share_at-share-requires-clause-laid
+share_at-share-requires-clause-laid g c =
+    going_old c.args.line.job.valid c.requires.come c.loop-p.invariant (omega arith) c.requires.block.1 refl
 
 pub returns-then-n-a : goal.returns-then-n-a
-returns-then-n-a c =
-    going_placed c.requires.ready.valid c.requires.job_in_bounds c.requires.first_le_stop.1 c.loop-p.invariant (omega arith) c.narrow.ensures c.share_at-share.ensures (omega arith)
+returns-then-n-a g c =
+    going_placed c.args.line.job.valid c.requires.room c.requires.block.1 c.loop-p.invariant (omega arith) c.share_at-share.ensures c.if-n-a.true
 
 pub lesser-least-requires : goal.lesser-least-requires
-lesser-least-requires c = narrow_products c.loop-p.invariant.small c.share_at-share.ensures.small
+lesser-least-requires g c = narrow_products c.share_at-share.ensures.small c.loop-p.invariant.small
 
 pub loop-p-preserved : goal.loop-p-preserved
-loop-p-preserved c =
-    going_turn c.requires.ready.valid c.requires.job_in_bounds c.requires.first_le_stop.1 c.loop-p.invariant (omega arith) c.narrow.ensures c.share_at-share.ensures (omega arith)
-    c.index-old.ensures c.lesser-least.ensures
+loop-p-preserved g c =
+    going_turn c.args.line.job.valid c.requires.room c.requires.block.1 c.loop-p.invariant (omega arith) c.share_at-share.ensures c.if-n-a.false
+    refl c.lesser-least.ensures
 
 pub returns : goal.returns
-returns c = going_end c.requires.ready.valid c.loop-p.invariant (omega arith)
+returns g c = going_end c.args.line.job.valid c.loop-p.invariant c.loop-p-test.false

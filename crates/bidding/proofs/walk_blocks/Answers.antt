@@ -1,108 +1,110 @@
 -- `walk_blocks` meets its contract: the loop keeps `Trial`.
-use Prim.Native.Nat.{◌-◌}
-use mathlib.Core.Path.{refl, sym, ◌∙◌}
+use mathlib.Core.Path.{sym, ◌∙◌}
 use native.Mathlib.Omega.{arith}
-use lib.ListN.{length}
-use Rattle.chain.specs.Limits.{max_processors}
 use Rattle.chain.proofs.Ranges.{index_fits, narrow_products, lent_finite}
-use Rattle.probe.proofs.Walked.{walked_end, answer_fits, answer_fails}
-use Rattle.bidding.proofs.Trial.{trial_start, trial_none, fits_leasts, trial_come, known_small, known_least, trial_placed, trial_turn, trial_last, trial_leasts}
+use Rattle.parts.specs.Lent.{the}
+use Rattle.probe.proofs.Walked.{reached_first, placed_first, begun_first, walked_end, answer_fits, answer_fails}
+use Rattle.bidding.proofs.Trial.{trial_start, fits_leasts, trial_come, known_small, known_least}
+use Rattle.bidding.proofs.Trial.{trial_placed, begun_placed, trial_turn, trial_last, trial_leasts}
 use Rattle.bidding.proofs.walk_blocks.Goals as goal
 
-pub returns-then-n-a : goal.returns-then-n-a
-returns-then-n-a c =
-    let y = trial_none c.requires.ready.valid c.args.bound c.requires.job_in_bounds (omega arith) refl in
-    record { value = y.0; separators_after = y.1; leasts = fits_leasts c.args.bound y.0 }
+-- Without tasks it fits at once.
+pub returns-then-n-a-clause-value : goal.returns-then-n-a-clause-value
+returns-then-n-a-clause-value g c =
+    placed_first c.args.line.job.valid c.requires.room (reached_first (the c.args.line.job) c.args.bound c.args.separators.now) c.if-n-a.true
+
+pub returns-then-n-a-clause-separators : goal.returns-then-n-a-clause-separators
+returns-then-n-a-clause-separators g c =
+    begun_first c.args.line.job.valid c.requires.room (reached_first (the c.args.line.job) c.args.bound c.args.separators.now) c.if-n-a.true
+
+pub returns-then-n-a-clause-leasts : goal.returns-then-n-a-clause-leasts
+returns-then-n-a-clause-leasts g c =
+    fits_leasts c.args.bound
+    (placed_first c.args.line.job.valid c.requires.room (reached_first (the c.args.line.job) c.args.bound c.args.separators.now) c.if-n-a.true)
 
 pub loop-k-init : goal.loop-k-init
-loop-k-init c = trial_start (omega arith)
+loop-k-init g c = trial_start (omega arith)
 
-pub overflow_mul-k : goal.overflow_mul-k
-unfolding max_processors
-overflow_mul-k c = omega (arith, c.loop-k.invariant.count, c.requires.ready.valid.processors_limit)
+pub pass_block-point-requires-clause-come : goal.pass_block-point-requires-clause-come
+pass_block-point-requires-clause-come g c =
+    trial_come c.args.line.job.valid c.args.bound c.requires.room c.loop-k.invariant (omega (arith, c.div_ceil-k-end.ensures)) (c.requires.laid (omega arith))
 
-pub bounds-loads-k : goal.bounds-loads-k
-unfolding max_processors
-bounds-loads-k c = omega (arith, c.requires.ready.valid.processors_limit)
+pub pass_block-point-requires-clause-narrow : goal.pass_block-point-requires-clause-narrow
+pass_block-point-requires-clause-narrow g c =
+    known_small c.args.line.job.valid c.args.bound c.requires.room c.loop-k.invariant (omega (arith, c.div_ceil-k-end.ensures)) c.requires.known
 
-pub bounds-rates-k : goal.bounds-rates-k
-unfolding max_processors
-bounds-rates-k c = omega (arith, c.requires.ready.valid.processors_limit)
+pub pass_block-point-requires-clause-known : goal.pass_block-point-requires-clause-known
+pass_block-point-requires-clause-known g c =
+    known_least c.args.line.job.valid c.args.bound c.requires.room c.loop-k.invariant (omega (arith, c.div_ceil-k-end.ensures))
+    c.requires.known (omega (arith, c.min-stop.ensures))
 
-pub pass_block-point-requires : goal.pass_block-point-requires
-pass_block-point-requires c =
-    let w = c.loop-k.invariant in
-    let r = c.requires.job_in_bounds in
-    record {
-      ready = c.requires.ready;
-      lendable = c.requires.lendable;
-      job_in_bounds = omega (arith, r, w.walked.front.same);
-      come = trial_come c.requires.ready.valid c.args.bound r w (omega arith) (c.requires.laid (omega arith));
-      first_le_stop = (omega (arith, c.block_end.ensures), omega (arith, c.block_end.ensures));
-      narrow = known_small c.requires.ready.valid c.args.bound r w (omega arith) c.requires.known;
-      known_value = known_least c.requires.ready.valid c.args.bound r w (omega arith) c.requires.known c.block_end.ensures;
-      held_value = c.requires.held_value;
-    }
+pub returns-then-n-a-2-clause-value : goal.returns-then-n-a-2-clause-value
+returns-then-n-a-2-clause-value g c =
+    trial_placed c.args.line.job.valid c.args.bound c.requires.room c.loop-k.invariant (omega (arith, c.div_ceil-k-end.ensures))
+    (omega (arith, c.min-stop.ensures)) c.pass_block-point.ensures
+    c.if-n-a-2.true
 
-pub returns-then-n-a-2 : goal.returns-then-n-a-2
-returns-then-n-a-2 c =
-    let y = trial_placed c.requires.ready.valid c.args.bound c.requires.job_in_bounds c.loop-k.invariant (omega arith) c.block_end.ensures c.pass_block-point.ensures (omega arith) refl in
-    record { value = y.0; separators_after = y.1; leasts = fits_leasts c.args.bound y.0 }
+pub returns-then-n-a-2-clause-separators : goal.returns-then-n-a-2-clause-separators
+returns-then-n-a-2-clause-separators g c =
+    begun_placed c.args.line.job.valid c.args.bound c.requires.room c.loop-k.invariant (omega (arith, c.div_ceil-k-end.ensures))
+    (omega (arith, c.min-stop.ensures)) c.pass_block-point.ensures
+    c.if-n-a-2.true
 
-pub bounds-loads-k-in-loop-k : goal.bounds-loads-k-in-loop-k
-unfolding max_processors
-bounds-loads-k-in-loop-k c = omega (arith, c.requires.ready.valid.processors_limit)
-
-pub bounds-rates-k-in-loop-k : goal.bounds-rates-k-in-loop-k
-unfolding max_processors
-bounds-rates-k-in-loop-k c = omega (arith, c.requires.ready.valid.processors_limit)
+pub returns-then-n-a-2-clause-leasts : goal.returns-then-n-a-2-clause-leasts
+returns-then-n-a-2-clause-leasts g c =
+    fits_leasts c.args.bound
+    (trial_placed c.args.line.job.valid c.args.bound c.requires.room c.loop-k.invariant (omega (arith, c.div_ceil-k-end.ensures))
+    (omega (arith, c.min-stop.ensures)) c.pass_block-point.ensures
+    c.if-n-a-2.true)
 
 pub lesser-best-requires : goal.lesser-best-requires
-lesser-best-requires c = narrow_products c.loop-k.invariant.walked.small c.pass_block-point.ensures.small
+lesser-best-requires g c = narrow_products c.pass_block-point.ensures.small c.loop-k.invariant.walked.small
 
 pub loop-k-preserved : goal.loop-k-preserved
-loop-k-preserved c =
-    trial_turn c.requires.ready.valid c.args.bound c.requires.job_in_bounds c.loop-k.invariant (omega arith) c.block_end.ensures c.pass_block-point.ensures c.requires.known (omega arith) c.lesser-best.ensures (omega arith) (omega arith)
+loop-k-preserved g c =
+    trial_turn c.args.line.job.valid c.args.bound c.requires.room c.loop-k.invariant (omega (arith, c.div_ceil-k-end.ensures))
+    (omega (arith, c.min-stop.ensures)) c.pass_block-point.ensures
+    c.requires.known c.if-n-a-2.false c.lesser-best.ensures
 
-pub narrow-requires : goal.narrow-requires
-narrow-requires c = index_fits c.requires.ready.valid (omega (arith, c.loop-k.invariant.walked.left))
+pub overflow_cast-separators : goal.overflow_cast-separators
+overflow_cast-separators g c = record { fits = index_fits c.args.line.job.valid (omega (arith, c.loop-k.invariant.walked.left)) }
 
-pub bounds-separators-last : goal.bounds-separators-last
-bounds-separators-last c = omega (arith, c.loop-k.invariant.walked.front.same, c.requires.job_in_bounds)
+pub rest_of-rest-requires-clause-place : goal.rest_of-rest-requires-clause-place
+rest_of-rest-requires-clause-place g c =
+    (omega (arith, c.args.line.job.valid.some_processor), omega (arith, c.loop-k.invariant.walked.left))
 
-pub rest_at-rest-requires : goal.rest_at-rest-requires
-rest_at-rest-requires c =
-    let h = c.loop-k.invariant.walked.left in
-    record {
-      ready = c.requires.ready;
-      p_bound = (omega arith, omega arith);
-      held_value = c.requires.held_value;
-    }
+pub returns-then-at_most-clause-value : goal.returns-then-at_most-clause-value
+returns-then-at_most-clause-value g c =
+    answer_fits c.args.line.job.valid c.requires.room
+    (trial_last c.args.line.job.valid c.args.bound c.requires.room c.loop-k.invariant (omega (arith, c.div_ceil-k-end.ensures)))
+    (omega arith) (lent_finite c.requires.lendable.0) c.rest_of-rest.ensures.value (sym c.at_most.ensures ∙ c.if-at_most.true)
 
-pub at_most-requires : goal.at_most-requires
-at_most-requires c = narrow_products c.rest_at-rest.ensures.narrow c.requires.lendable.1
+pub returns-then-at_most-clause-separators : goal.returns-then-at_most-clause-separators
+returns-then-at_most-clause-separators g c =
+    walked_end c.args.line.job.valid c.requires.room
+    (trial_last c.args.line.job.valid c.args.bound c.requires.room c.loop-k.invariant (omega (arith, c.div_ceil-k-end.ensures))) (omega arith)
 
-pub returns-then-at_most : goal.returns-then-at_most
-returns-then-at_most c =
-    let r = c.requires.job_in_bounds in
-    let w = trial_last c.requires.ready.valid c.args.bound r c.loop-k.invariant (omega arith) {p = length c.args.speeds.now - 1} (omega arith) in
-    let y = answer_fits c.requires.ready.valid r w (omega arith) (lent_finite c.requires.lendable.0) refl c.rest_at-rest.ensures.value (sym c.at_most.ensures ∙ c.if-at_most.true) refl in
-    record {
-      value = y;
-      separators_after = walked_end c.requires.ready.valid r w (omega arith) c.narrow.ensures;
-      leasts = fits_leasts c.args.bound y;
-    }
+pub returns-then-at_most-clause-leasts : goal.returns-then-at_most-clause-leasts
+returns-then-at_most-clause-leasts g c =
+    fits_leasts c.args.bound
+    (answer_fits c.args.line.job.valid c.requires.room
+    (trial_last c.args.line.job.valid c.args.bound c.requires.room c.loop-k.invariant (omega (arith, c.div_ceil-k-end.ensures)))
+    (omega arith) (lent_finite c.requires.lendable.0) c.rest_of-rest.ensures.value (sym c.at_most.ensures ∙ c.if-at_most.true))
 
 pub lesser-requires : goal.lesser-requires
-lesser-requires c = narrow_products c.loop-k.invariant.walked.small c.rest_at-rest.ensures.narrow
+lesser-requires g c = narrow_products c.rest_of-rest.ensures.narrow c.loop-k.invariant.walked.small
 
-pub returns : goal.returns
-returns c =
-    let r = c.requires.job_in_bounds in
-    let i = c.loop-k.invariant in
-    let w = trial_last c.requires.ready.valid c.args.bound r i (omega arith) {p = length c.args.speeds.now - 1} (omega arith) in
-    record {
-      value = answer_fails c.requires.ready.valid r w (omega arith) (lent_finite c.requires.lendable.0) refl c.rest_at-rest.ensures.value (sym c.at_most.ensures ∙ c.if-at_most.false) c.lesser.ensures;
-      separators_after = walked_end c.requires.ready.valid r w (omega arith) c.narrow.ensures;
-      leasts = λ t. trial_leasts c.requires.ready.valid c.args.bound r i c.requires.known (omega arith);
-    }
+pub returns-clause-value : goal.returns-clause-value
+returns-clause-value g c =
+    answer_fails c.args.line.job.valid c.requires.room
+    (trial_last c.args.line.job.valid c.args.bound c.requires.room c.loop-k.invariant (omega (arith, c.div_ceil-k-end.ensures)))
+    (omega arith) (lent_finite c.requires.lendable.0) c.rest_of-rest.ensures.value (sym c.at_most.ensures ∙ c.if-at_most.false) c.lesser.ensures
+
+pub returns-clause-separators : goal.returns-clause-separators
+returns-clause-separators g c =
+    walked_end c.args.line.job.valid c.requires.room
+    (trial_last c.args.line.job.valid c.args.bound c.requires.room c.loop-k.invariant (omega (arith, c.div_ceil-k-end.ensures))) (omega arith)
+
+pub returns-clause-leasts : goal.returns-clause-leasts
+returns-clause-leasts g c =
+    λ t. trial_leasts c.args.line.job.valid c.args.bound c.requires.room c.loop-k.invariant c.requires.known (omega (arith, c.div_ceil-k-end.ensures))

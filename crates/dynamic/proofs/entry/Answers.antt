@@ -6,4 +6,4 @@ use Rattle.dynamic.proofs.entry.Goals as goal
 
 pub returns : goal.returns
 unfolding entry_at
-returns c = ap₂ over c.wide.ensures c.wide-2.ensures
+returns c = ap₂ over c.from.ensures c.from-2.ensures

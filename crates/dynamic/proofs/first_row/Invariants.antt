@@ -1,11 +1,7 @@
-use Prim.Native.Nat.{suc, ◌-◌}
-use lib.ListN.{length}
-use Rattle.chain.specs.Job.{job_of}
-use Rattle.dynamic.specs.Rows.{Writing}
+-- The loop fills the first i entries.
+use Rattle.parts.specs.Lent.{the}
+use Rattle.dynamic.specs.Rows.{RowAt}
 use Rattle.dynamic.proofs.first_row.Given as goal
 
 abbrev pub invariant-loop-i : goal.invariant-loop-i
-invariant-loop-i l = Writing (job_of l.startup l.speeds l.holds l.weights) l.initial.scratch l.scratch l.row 0 l.i
-
-abbrev pub decreases-loop-i : goal.decreases-loop-i
-decreases-loop-i l = suc (length l.weights) - l.i
+invariant-loop-i l = RowAt (the l.line.job) l.row 0 l.i

@@ -1,31 +1,25 @@
 -- `put_graded` meets its contract, by the answer.
-use mathlib.Core.Path.{sym, ap}
-use native.Mathlib.Omega.{arith}
-use Rattle.texts.specs.Text.{text}
-use Rattle.texts.proofs.Laws.{put_as}
+use mathlib.Core.Path.{◌≡◌, sym, ap, ◌∙◌}
+use Rattle.std.specs.Prelude.{Ok}
+use Rattle.grading.specs.declared.grades.Grade.{Grade}
+use Rattle.texts.specs.Text.{text, refusal_line}
+use Rattle.texts.proofs.Laws.{puts_as}
 use Rattle.gradeline.specs.Line.{grade_text}
 use Rattle.gradeline.proofs.put_graded.Goals as goal
 
-pub returns-in-Refused : goal.returns-in-Refused
+pub returns-in-Ok-Best-clause-put : goal.returns-in-Ok-Best-clause-put
+unfolding grade_text text
+returns-in-Ok-Best-clause-put c =
+    let best : c.in-Ok-Best.field-0 ≡ Grade.Best = cc in
+    puts_as (sym (ap grade_text (c.in-Ok-Best.is ∙ ap Ok best))) c.put_text.ensures
+
+pub returns-in-Ok-Valid-clause-put : goal.returns-in-Ok-Valid-clause-put
+unfolding grade_text text
+returns-in-Ok-Valid-clause-put c =
+    let valid : c.in-Ok-Valid.field-0 ≡ Grade.Valid = cc in
+    puts_as (sym (ap grade_text (c.in-Ok-Valid.is ∙ ap Ok valid))) c.put_text-in-Ok-Valid.ensures
+
+pub returns-in-Err-clause-put : goal.returns-in-Err-clause-put
 unfolding grade_text
-returns-in-Refused c =
-    record {
-      put = put_as (sym (ap grade_text c.in-Refused.is)) c.put_refusal_line.ensures.put;
-      upper_bound = c.put_refusal_line.ensures.upper_bound;
-    }
-
-pub returns-in-Best : goal.returns-in-Best
-unfolding grade_text text
-returns-in-Best c =
-    record {
-      put = put_as (sym (ap grade_text c.in-Best.is)) c.put_text.ensures.put;
-      upper_bound = omega (arith, c.put_text.ensures.value);
-    }
-
-pub returns-in-Valid : goal.returns-in-Valid
-unfolding grade_text text
-returns-in-Valid c =
-    record {
-      put = put_as (sym (ap grade_text c.in-Valid.is)) c.put_text-in-Valid.ensures.put;
-      upper_bound = omega (arith, c.put_text-in-Valid.ensures.value);
-    }
+returns-in-Err-clause-put c =
+    puts_as (ap refusal_line c.from.ensures ∙ sym (ap grade_text c.in-Err.is)) c.put_refusal_line.ensures.put

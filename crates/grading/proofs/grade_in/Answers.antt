@@ -1,54 +1,43 @@
 -- `grade_in` meets its contract: the length, the separators, the records.
 use native.Mathlib.Omega.{arith}
 use Rattle.chain.specs.Limits.{max_processors}
-use Rattle.chain.specs.Job.{job_of}
+use Rattle.parts.specs.Lent.{the}
 use Rattle.grading.proofs.Answering.{grade_length, grade_gap, grade_no_division, front_division, grade_told}
-use borrow.Author.Tests.{not-true, not-false}
-use mathlib.Core.Path.{ap}
-use mathlib.Core.Bool.{not}
 use Rattle.grading.proofs.grade_in.Goals as goal
+use Rattle.grading.proofs.grade_in.Goals.{then-not-take_separators-via-then-not-take_separators, then-not-take_separators-via-else-not-take_separators+then-not-is_partition}
 
-pub overflow_mul-speeds : goal.overflow_mul-speeds
+pub overflow_mul-job : goal.overflow_mul-job
 unfolding max_processors
-overflow_mul-speeds c = omega (arith, c.requires.valid.processors_limit)
+overflow_mul-job c = omega (arith, c.args.job.now.valid.processors_limit)
 
-pub returns-then-plan-speeds : goal.returns-then-plan-speeds
-returns-then-plan-speeds c =
-    grade_length (job_of c.args.startup c.args.speeds.now c.args.holds.now c.args.weights.now) c.args.plan.now (omega arith) c.if-plan-speeds.true
+pub returns-then-plan-job : goal.returns-then-plan-job
+returns-then-plan-job c = grade_length (the c.args.job.now) c.args.plan.now c.if-plan-job.true
 
-pub take_separators-requires : goal.take_separators-requires
+pub take_separators-requires-clause-room : goal.take_separators-requires-clause-room
 unfolding max_processors
-take_separators-requires c =
-    record {
-      valid = c.requires.valid;
-      job_in_bounds = omega arith;
-      job_in_bounds_2 = omega (arith, c.requires.valid.processors_limit);
-    }
-
-pub returns-then-not-take_separators : goal.returns-then-not-take_separators
-returns-then-not-take_separators c =
-    grade_gap (job_of c.args.startup c.args.speeds.now c.args.holds.now c.args.weights.now) c.args.plan.now c.if-plan-speeds.false (omega arith) c.take_separators.ensures.value (not-true _ (ap not c.if-not-take_separators.true))
+take_separators-requires-clause-room c = omega (arith, c.args.job.now.valid.processors_limit)
 
 pub is_partition-requires : goal.is_partition-requires
 unfolding max_processors
-is_partition-requires c =
-    record { valid = c.requires.valid; job_in_bounds = omega (arith, c.requires.valid.processors_limit) }
+is_partition-requires c = omega (arith, c.args.job.now.valid.processors_limit, c.take_separators.auto.separators)
 
-pub returns-then-not-is_partition : goal.returns-then-not-is_partition
-returns-then-not-is_partition c =
-    grade_no_division (job_of c.args.startup c.args.speeds.now c.args.holds.now c.args.weights.now) c.args.plan.now c.if-plan-speeds.false c.take_separators.ensures.value (not-false _ (ap not c.if-not-take_separators.false)) _ _ c.take_separators.ensures.separators_after (omega arith) c.is_partition.ensures
-    (not-true _ (ap not c.if-not-is_partition.true))
+pub returns-then-not-take_separators : goal.returns-then-not-take_separators
+returns-then-not-take_separators c =
+    let long = c.if-plan-job.false in
+    elim c.then-not-take_separators.branch [
+      | then-not-take_separators-via-then-not-take_separators w ↦
+          grade_gap (the c.args.job.now) c.args.plan.now long w.if-not-take_separators.ensures.joined
+      | then-not-take_separators-via-else-not-take_separators+then-not-is_partition w ↦
+          grade_no_division (the c.args.job.now) c.args.plan.now long w.if-not-take_separators.ensures.joined _ _
+          w.if-not-take_separators.ensures.separators w.if-not-is_partition.ensures
+    ]
 
-pub grade_told-requires : goal.grade_told-requires
-grade_told-requires c =
-    record {
-      valid = c.requires.valid;
-      job_in_bounds = omega arith;
-      partition = front_division (job_of c.args.startup c.args.speeds.now c.args.holds.now c.args.weights.now) c.args.plan.now c.if-plan-speeds.false c.take_separators.ensures.value (not-false _ (ap not c.if-not-take_separators.false)) _ _ c.take_separators.ensures.separators_after c.is_partition.ensures
-          (not-false _ (ap not c.if-not-is_partition.false));
-    }
+pub grade_told-requires-clause-partition : goal.grade_told-requires-clause-partition
+grade_told-requires-clause-partition c =
+    let taken = c.if-not-take_separators.ensures in
+    front_division (the c.args.job.now) c.args.plan.now c.if-plan-job.false taken.joined _ _ taken.separators c.if-not-is_partition.ensures
 
 pub returns : goal.returns
 returns c =
-    grade_told (job_of c.args.startup c.args.speeds.now c.args.holds.now c.args.weights.now) c.args.plan.now c.if-plan-speeds.false c.take_separators.ensures.value (not-false _ (ap not c.if-not-take_separators.false)) _ _ c.take_separators.ensures.separators_after c.is_partition.ensures (not-false _ (ap not c.if-not-is_partition.false))
-    c.grade_told.ensures
+    let taken = c.if-not-take_separators.ensures in
+    grade_told (the c.args.job.now) c.args.plan.now c.if-plan-job.false taken.joined _ _ taken.separators c.if-not-is_partition.ensures c.grade_told.ensures

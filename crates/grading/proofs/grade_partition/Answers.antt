@@ -6,19 +6,19 @@ use Rattle.grading.proofs.grade_partition.Goals as goal
 
 pub bisection_in-found-requires : goal.bisection_in-found-requires
 bisection_in-found-requires c =
-    record {
-      ready_kept = record { ready = c.requires.ready; enough-holds = partition_enough _ c.requires.partition };
-      job_in_bounds = front_length c.args.separators.now c.requires.partition;
-    }
+    record { enough = partition_enough _ c.requires; room = front_length c.args.separators.now c.requires }
 
 pub at_most-requires : goal.at_most-requires
 at_most-requires c =
-    measured_products c.requires.ready.valid c.requires.partition c.measure_in-measured.ensures.value_2 c.bisection_in-found.ensures.bisection_ends c.bisection_in-found.ensures.lendable
+    let found = c.bisection_in-found.ensures in
+    measured_products c.args.line.job.valid c.requires c.measure_in-measured.ensures.of_front found.bisection_ends found.lendable
 
 pub returns-then-at_most : goal.returns-then-at_most
 returns-then-at_most c =
-    graded_best c.requires.ready.valid c.requires.partition c.measure_in-measured.ensures.value_2 c.bisection_in-found.ensures.bisection_ends c.at_most.ensures c.if-at_most.true
+    let v = c.args.line.job.valid in
+    graded_best v c.requires c.measure_in-measured.ensures.of_front c.bisection_in-found.ensures.bisection_ends c.at_most.ensures c.if-at_most.true
 
-pub returns : goal.returns
-returns c =
-    graded_valid c.requires.ready.valid c.requires.partition c.measure_in-measured.ensures.value_2 c.bisection_in-found.ensures.bisection_ends c.at_most.ensures c.if-at_most.false
+pub returns-else-at_most : goal.returns-else-at_most
+returns-else-at_most c =
+    let v = c.args.line.job.valid in
+    graded_valid v c.requires c.measure_in-measured.ensures.of_front c.bisection_in-found.ensures.bisection_ends c.at_most.ensures c.if-at_most.false

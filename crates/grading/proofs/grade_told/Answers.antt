@@ -1,45 +1,37 @@
 -- `grade_told` meets its contract: the prefix sums, the records, the grade.
+use mathlib.Core.Path.{ap, ◌∙◌}
 use native.Mathlib.Omega.{arith}
+use lib.ListN.{take}
+use Prim.Native.Nat.{suc}
 use Rattle.chain.specs.Limits.{max_tasks}
-use Rattle.chain.specs.Job.{Job, job_of}
-use Rattle.parts.proofs.Laws.{sums_ready, weights_fit}
+use Rattle.chain.specs.Job.{processors}
+use Rattle.parts.specs.declared.job.ValidJob.{ValidJob}
+use Rattle.parts.specs.Lent.{the}
+use Rattle.parts.proofs.Laws.{weights_fit}
+use Rattle.parts.proofs.Lines.{sums_prefix}
+use Rattle.grading.specs.Inner.{tells}
+use Rattle.grading.specs.Answers.{grade_of}
 use Rattle.grading.proofs.Answering.{told_untrue, told_true}
-use borrow.Author.Tests.{not-true, not-false}
-use mathlib.Core.Path.{ap}
-use mathlib.Core.Bool.{not}
 use Rattle.grading.proofs.grade_told.Goals as goal
 
 pub prefix_sums-requires : goal.prefix_sums-requires
 unfolding max_tasks
 prefix_sums-requires c =
-    record {
-      weights_bound = weights_fit c.requires.valid;
-      weights_in_bounds = omega (arith, c.requires.valid.tasks_limit);
-    }
+    let v = c.args.job.now.valid in
+    record { weights_bound = weights_fit v; weights_in_bounds = omega (arith, v.tasks_limit) }
 
-pub tells_all-requires : goal.tells_all-requires
-tells_all-requires c =
-    let job : Job = job_of c.args.startup c.args.speeds.now c.args.holds.now c.args.weights.now in
-    record {
-      ready = sums_ready {job = job} _ c.requires.valid c.prefix_sums.ensures;
-      partition = c.requires.partition;
-      job_in_bounds = c.requires.job_in_bounds;
-    }
+pub new-line-requires : goal.new-line-requires
+new-line-requires c = sums_prefix _ c.prefix_sums.ensures
 
 pub returns-then-not-tells_all : goal.returns-then-not-tells_all
 returns-then-not-tells_all c =
-    told_untrue (job_of c.args.startup c.args.speeds.now c.args.holds.now c.args.weights.now) c.args.separators.now c.args.plan.now (omega arith) c.tells_all.ensures
-    (not-true _ (ap not c.if-not-tells_all.true))
-
-pub grade_partition-requires : goal.grade_partition-requires
-grade_partition-requires c =
-    let job : Job = job_of c.args.startup c.args.speeds.now c.args.holds.now c.args.weights.now in
-    record {
-      ready = sums_ready {job = job} _ c.requires.valid c.prefix_sums.ensures;
-      partition = c.requires.partition;
-    }
+    let a = c.args in
+    told_untrue (the a.job.now) a.separators.now a.plan.now
+    (c.if-not-tells_all.ensures ∙ ap (λ (job : ValidJob). tells (the job) a.separators.now a.plan.now) c.new-line.ensures.0)
 
 pub returns : goal.returns
 returns c =
-    told_true (job_of c.args.startup c.args.speeds.now c.args.holds.now c.args.weights.now) c.args.separators.now c.args.plan.now c.grade_partition.ensures c.tells_all.ensures
-    (not-false _ (ap not c.if-not-tells_all.false))
+    let a = c.args in
+    told_true (the a.job.now) a.separators.now a.plan.now
+    (c.grade_partition.ensures ∙ ap (λ (job : ValidJob). grade_of (the job) (take (suc (processors (the job))) a.separators.now)) c.new-line.ensures.0)
+    (c.if-not-tells_all.ensures ∙ ap (λ (job : ValidJob). tells (the job) a.separators.now a.plan.now) c.new-line.ensures.0)

@@ -1,29 +1,28 @@
 -- `tells_at` meets its contract: the load of the part, then the speed.
-use mathlib.Core.Path.{◌∙◌}
-use native.Mathlib.Omega.{arith}
-use Rattle.chain.specs.Job.{Job, job_of}
+use mathlib.Core.Path.{refl, ◌∙◌}
+use Rattle.parts.specs.Lent.{the}
 use Rattle.parts.proofs.Laws.{speed_read, loads_to, prefix_load}
-use Rattle.parts.proofs.Measure.{front_length, front_part}
-use Rattle.grading.proofs.Laws.{load_read, tells_read}
+use Rattle.parts.proofs.Lines.{line_ready}
+use Rattle.parts.proofs.Measure.{front_part}
+use Rattle.grading.proofs.Laws.{load_read, load_told, load_untold}
 use Rattle.grading.proofs.tells_at.Goals as goal
-
-pub bounds-separators-p : goal.bounds-separators-p
-bounds-separators-p c =
-    omega (arith, front_length c.args.separators.now c.requires.partition)
-
-pub bounds-separators-p-2 : goal.bounds-separators-p-2
-bounds-separators-p-2 c =
-    omega (arith, front_length c.args.separators.now c.requires.partition)
 
 pub part_load-load-requires : goal.part_load-load-requires
 part_load-load-requires c =
-    let h = front_part c.args.separators.now c.requires.partition c.requires.p_bound c.index.ensures c.index-2.ensures in
-    record { loadable = loads_to c.requires.ready h.1; a_le_b = h.0 }
+    let h = front_part c.args.separators.now c.requires.partition c.requires.processor refl refl in
+    record { loadable = loads_to (line_ready c.args.line) h.1; a_le_b = h.0 }
 
-pub returns : goal.returns
-returns c =
-    let job : Job = job_of c.args.startup c.args.speeds.now c.args.holds.now c.args.weights.now in
-    let h = front_part c.args.separators.now c.requires.partition c.requires.p_bound c.index.ensures c.index-2.ensures in
-    tells_read job c.args.separators.now c.args.plan.now c.args.p _ _ c.get_field-told_load.ensures (omega arith)
-    (c.part_load-load.ensures ∙ prefix_load c.requires.ready.prefix c.index.result c.index-2.result h.0 h.1 ∙ load_read job c.args.separators.now c.args.p c.index.ensures c.index-2.ensures)
-    c.get_field-told_speed.ensures (omega arith) (speed_read job c.args.p c.requires.p_bound) c.and_same.ensures c.and_same-2.ensures
+pub returns-then-record-load : goal.returns-then-record-load
+returns-then-record-load c =
+    let a = c.args in
+    let h = front_part a.separators.now c.requires.partition c.requires.processor refl refl in
+    let load = load_read (the a.line.job) a.separators.now a.p (c.part_load-load.ensures ∙ prefix_load a.line.prefix _ _ h.0 h.1) in
+    let speed = speed_read (the a.line.job) a.p c.requires.processor in
+    load_told (the a.line.job) a.separators.now a.plan.now a.p c.record_at-record.ensures load speed c.if-record-load.true
+
+pub returns-else-record-load : goal.returns-else-record-load
+returns-else-record-load c =
+    let a = c.args in
+    let h = front_part a.separators.now c.requires.partition c.requires.processor refl refl in
+    let load = load_read (the a.line.job) a.separators.now a.p (c.part_load-load.ensures ∙ prefix_load a.line.prefix _ _ h.0 h.1) in
+    load_untold (the a.line.job) a.separators.now a.plan.now a.p c.record_at-record.ensures load c.if-record-load.false

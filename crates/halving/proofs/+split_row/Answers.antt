@@ -1,68 +1,63 @@
--- The proof of the cycle of calls {split_row}: it calls itself for the two halves of its processors.
-use Prim.Native.Nat.{◌+◌, ◌-◌, ◌/◌}
+-- The proof of the cycle of calls {split_row}: it calls itself for the two halves of its row.
+use Prim.Native.Nat.{◌/◌}
+use mathlib.Core.Path.{◌≡◌, ◌∙◌}
+use mathlib.Core.List.{◌++◌}
 use native.Mathlib.Omega.{arith}
-use lib.ListN.{length-set}
+use lib.ListN.{length, set, drop, length-set, length-take}
 use Rattle.parts.proofs.Laws.{rising_to}
-use Rattle.halving.proofs.Laws.{split_in_from, split_in_to, left_power, right_power, left_less, right_less, row_halves, row_alone}
+use Rattle.halving.specs.Row.{split_in}
+use Rattle.halving.proofs.Laws.{split_in_from, split_in_to, some_between, written_length, left_number, right_number, half_power, row_split, row_halves, row_alone}
 use Rattle.halving.proofs.+split_row.Goals as goal
 
-pub narrow-requires : goal.narrow-requires
-narrow-requires t c =
-    omega (arith, c.split_in-i.ensures, split_in_to c.args.sums.now c.args.a c.args.b c.requires.a_le_b.0)
+pub overflow_cast-between : goal.overflow_cast-between
+overflow_cast-between t c =
+    record { fits = omega (arith, c.split_in-i.ensures, split_in_to c.args.sums.now c.args.a c.args.b c.requires.part.0) }
 
 pub split_row-requires : goal.split_row-requires
 split_row-requires t c =
-    let power = c.requires.first_value in
-    let more = c.if-last-first-gt1.true in
-    let less = left_less c.args.first c.args.last power more in
+    let xs = c.args.between.now in
+    let some = some_between xs c.is_empty.ensures c.if-not-is_empty.true in
+    let number = left_number xs c.requires.power some c.split_in-i.result in
     let e = c.split_in-i.ensures in
     let from = split_in_from c.args.sums.now c.args.a c.args.b in
-    let to = split_in_to c.args.sums.now c.args.a c.args.b c.requires.a_le_b.0 in (
-      omega (arith, less.1, c.decreases),
+    let to = split_in_to c.args.sums.now c.args.a c.args.b c.requires.part.0 in (
+      omega (arith, number, some, c.decreases),
       (
         rising_to (omega (arith, e, to)) c.requires.rising,
-        (
-          (omega (arith, e, from), omega (arith, e, to)),
-          (
-            (
-              less.0,
-              omega (arith, length-set c.args.separators.now (c.args.first + (c.args.last - c.args.first) / 2) c.narrow.result, c.requires.first_lt_last.1, less.1),
-            ),
-            left_power c.args.first c.args.last power more,
-          ),
-        ),
+        ((omega (arith, e, from), omega (arith, e, to)), half_power xs c.requires.power some number),
       ),
     )
 
-pub split_row-requires-then-last-first-gt1 : goal.split_row-requires-then-last-first-gt1
-split_row-requires-then-last-first-gt1 t c =
-    let power = c.requires.first_value in
-    let more = c.if-last-first-gt1.true in
-    let less = right_less c.args.first c.args.last power more in
-    let e = c.split_in-i.ensures in
-    let to = split_in_to c.args.sums.now c.args.a c.args.b c.requires.a_le_b.0 in (
-      omega (arith, less.1, c.decreases),
+pub split_row-requires-then-not-is_empty : goal.split_row-requires-then-not-is_empty
+split_row-requires-then-not-is_empty t c =
+    let xs = c.args.between.now in
+    let m = length xs / 2 in
+    let some = some_between xs c.is_empty.ensures c.if-not-is_empty.true in
+    let H = c.split_row.new.between in
+    let same = written_length xs m c.split_in-i.result H c.split_row.auto.between in
+    let number = right_number xs c.requires.power some (H ++ drop m (set xs m c.split_in-i.result)) same in
+    let to = split_in_to c.args.sums.now c.args.a c.args.b c.requires.part.0 in (
+      omega (arith, number, some, c.decreases),
       (
         c.requires.rising,
-        (
-          (omega (arith, e, to), c.requires.a_le_b.1),
-          (
-            (
-              less.0,
-              omega
-                  (arith, length-set c.args.separators.now (c.args.first + (c.args.last - c.args.first) / 2) c.narrow.result, c.split_row.auto.separators, c.requires.first_lt_last.1),
-            ),
-            right_power c.args.first c.args.last power more,
-          ),
-        ),
+        ((omega (arith, c.split_in-i.ensures, to), c.requires.part.1), half_power xs c.requires.power some number),
       ),
     )
 
-pub returns-then-last-first-gt1 : goal.returns-then-last-first-gt1
-returns-then-last-first-gt1 t c =
-    row_halves c.args.first c.args.last c.requires.first_value c.if-last-first-gt1.true c.args.sums.now c.args.separators.now c.args.a c.args.b
-    c.requires.first_lt_last.1 c.split_in-i.ensures c.narrow.ensures c.split_row.ensures c.split_row-then-last-first-gt1.ensures
+pub returns-then-not-is_empty : goal.returns-then-not-is_empty
+returns-then-not-is_empty t c =
+    let xs = c.args.between.now in
+    let m = length xs / 2 in
+    let some = some_between xs c.is_empty.ensures c.if-not-is_empty.true in
+    let i = c.split_in-i.result in
+    let H = c.split_row.new.between in
+    let left : length H ≡ m = omega (arith, length-set xs m i, length-take m (set xs m i), c.split_row.auto.between) in
+    let same = written_length xs m i H c.split_row.auto.between in
+    row_split xs i (omega arith) H c.split_row-then-not-is_empty.new.between left
+    ∙ row_halves xs c.requires.power some (split_in c.args.sums.now) c.args.a c.args.b c.split_in-i.ensures
+    (left_number xs c.requires.power some i) (right_number xs c.requires.power some (H ++ drop m (set xs m i)) same)
+    c.split_row.ensures c.split_row-then-not-is_empty.ensures
 
-pub returns-else-last-first-gt1 : goal.returns-else-last-first-gt1
-returns-else-last-first-gt1 t c =
-    row_alone c.args.sums.now c.args.separators.now c.args.first c.args.last c.args.a c.args.b (omega arith)
+pub returns-else-not-is_empty : goal.returns-else-not-is_empty
+returns-else-not-is_empty t c =
+    row_alone (split_in c.args.sums.now) c.args.between.now c.args.a c.args.b c.is_empty.ensures c.if-not-is_empty.false

@@ -2,17 +2,12 @@
 -- stands before the first that is not.
 use mathlib.Core.Logic.{inl, inr}
 use native.Mathlib.Omega.{arith}
-use Rattle.parts.proofs.Laws.{rising_to}
 use Rattle.heuristic.proofs.Laws.{level_first, level_all, level_after}
 use Rattle.heuristic.proofs.first_level.Goals as goal
 
 pub returns-then-sums-b : goal.returns-then-sums-b
 returns-then-sums-b c =
     level_all c.requires.rising (omega arith) (omega arith)
-
-pub last_far-requires : goal.last_far-requires
-last_far-requires c =
-    record { rising = rising_to (omega arith) c.requires.rising; a_le_n = (omega arith, omega arith) }
 
 pub returns-then-sums-a : goal.returns-then-sums-a
 returns-then-sums-a c =

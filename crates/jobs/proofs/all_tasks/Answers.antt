@@ -8,18 +8,14 @@ use Rattle.jobs.proofs.all_tasks.Goals as goal
 
 pub loop-j-init : goal.loop-j-init
 unfolding plain_tasks
-loop-j-init c = (omega arith, refl)
+loop-j-init c = refl
 
 pub loop-j-preserved : goal.loop-j-preserved
 unfolding max_weight
 loop-j-preserved c =
-    let a = c.args in (
-      omega arith,
-      plain_next a.file.now a.from c.loop-j.j c.loop-j.invariant.1 c.front_at.ensures c.and_between-all.ensures c.value_at.ensures (omega arith)
-          c.and_between-all-in-loop-j.ensures,
-    )
+    plain_next c.args.file.now c.args.from c.loop-j.j c.loop-j.invariant c.front_at.ensures c.and_between-all.ensures c.value_at.ensures refl
+    c.and_between-all-in-loop-j.ensures
 
 pub returns : goal.returns
 returns c =
-    let a = c.args in
-    c.loop-j.invariant.1 ∙ ap (plain_tasks a.file.now a.from) (let e : c.loop-j.j ≡ a.count = omega arith in e)
+    c.loop-j.invariant ∙ ap (plain_tasks c.args.file.now c.args.from) (let e : c.loop-j.j ≡ c.args.count = omega arith in e)

@@ -1,29 +1,21 @@
--- `any_hold` meets its contract: the loop keeps `Seen`.
-use Prim.Native.Nat.{◌+◌}
-use mathlib.Core.Path.{subst, sym}
-use native.Mathlib.Omega.{arith}
-use Rattle.chain.proofs.Cut.{holds_long}
-use Rattle.parts.proofs.Held.{Seen, seen_start, seen_set, seen_zero, seen_end}
+-- `any_hold` meets its contract: the loop knows whether a hold so far is set.
+use mathlib.Core.Path.{refl}
+use lib.ListN.{length, take}
+use Rattle.chain.specs.Lists.{each_of}
+use Rattle.parts.proofs.Held.{any_next, any_end, any_held}
 use Rattle.parts.proofs.any_hold.Goals as goal
-use Rattle.parts.proofs.any_hold.Goals.{then-holds-p-ne0, else-holds-p-ne0}
 
-pub loop-p-init : goal.loop-p-init
-loop-p-init c =
-    let a = c.args in
-    (omega arith, holds_long a.startup a.speeds.now a.holds.now a.weights.now c.requires.valid, seen_start a.holds.now)
+pub loop-hold-init : goal.loop-hold-init
+unfolding each_of
+loop-hold-init c = refl
 
-pub loop-p-preserved : goal.loop-p-preserved
-loop-p-preserved c =
-    let hs = c.args.holds.now in (
-      omega arith,
-      omega arith,
-      elim c.if-holds-p-ne0.branch [
-        | then-holds-p-ne0 w ↦ subst (Seen hs (c.loop-p.p + 1)) (sym w.any-is) (seen_set hs c.loop-p.p w.if-holds-p-ne0.true)
-        | else-holds-p-ne0 w ↦ subst (Seen hs (c.loop-p.p + 1)) (sym w.any-is) (seen_zero c.loop-p.invariant.2 (omega (arith, w.if-holds-p-ne0.false)))
-      ],
-    )
+pub loop-hold-preserved : goal.loop-hold-preserved
+loop-hold-preserved c =
+    let job = c.args.job in
+    any_next (take (length job.speeds.now) job.holds.now) c.loop-hold.hold-index c.loop-hold.invariant c.loop-hold-test.true
 
 pub returns : goal.returns
 returns c =
-    let a = c.args in
-    seen_end a.startup a.speeds.now a.holds.now a.weights.now c.requires.valid c.loop-p.invariant.2 (omega arith)
+    let job = c.args.job in
+    any_held job.startup job.speeds.now job.holds.now job.weights.now
+    (any_end (take (length job.speeds.now) job.holds.now) c.loop-hold.hold-index c.loop-hold.invariant c.loop-hold-test.false)

@@ -4,15 +4,12 @@ use native.Mathlib.Omega.{arith}
 use Rattle.chain.proofs.Cut.{holds_long, hold_at_lem}
 use Rattle.parts.proofs.hold_of.Goals as goal
 
-pub bounds-holds-p : goal.bounds-holds-p
-bounds-holds-p c =
-    let a = c.args in
-    omega (arith, holds_long a.startup a.speeds.now a.holds.now a.weights.now c.requires.valid, c.requires.p_bound)
+pub bounds-job-p : goal.bounds-job-p
+bounds-job-p c =
+    let job = c.args.job in
+    omega (arith, holds_long job.startup job.speeds.now job.holds.now job.weights.now job.valid, c.requires)
 
-pub returns : goal.returns
-returns c =
-    let a = c.args in
-    record {
-      value = c.hold_count.ensures.value ∙ hold_at_lem a.startup a.speeds.now a.holds.now a.weights.now a.p c.requires.p_bound;
-      upper_bound = c.hold_count.ensures.upper_bound;
-    }
+pub returns-clause-value : goal.returns-clause-value
+returns-clause-value c =
+    let job = c.args.job in
+    c.from.ensures ∙ hold_at_lem job.startup job.speeds.now job.holds.now job.weights.now c.args.p c.requires

@@ -4,4 +4,4 @@ use Rattle.bound.specs.Order.{over}
 use Rattle.parts.proofs.part_bound.Goals as goal
 
 pub returns : goal.returns
-returns c = ap₂ over (c.wide.ensures ∙ c.part_load.ensures) c.wide-2.ensures
+returns c = ap₂ over (c.from.ensures ∙ c.part_load.ensures) c.from-2.ensures

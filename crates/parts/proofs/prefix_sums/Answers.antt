@@ -5,20 +5,14 @@ use Rattle.parts.proofs.Laws.{summed_start, summed_fits, summed_turn, summed_end
 use Rattle.parts.proofs.prefix_sums.Goals as goal
 
 pub loop-i-init : goal.loop-i-init
-loop-i-init c = (omega (arith, length-set c.args.sums.now 0 0), summed_start c.args.weights.now c.args.sums.now (omega arith))
+loop-i-init c = summed_start c.args.weights.now c.args.sums.now (omega arith)
 
 pub overflow_add-sum : goal.overflow_add-sum
-overflow_add-sum c =
-    record { fits = summed_fits c.requires.weights_bound c.loop-i.invariant.1 }
-
-pub bounds-sums-i : goal.bounds-sums-i
-bounds-sums-i c = omega (arith, c.loop-i.invariant.1.front.same)
+overflow_add-sum c = record { fits = summed_fits c.requires.weights_bound c.loop-i.invariant }
 
 pub loop-i-preserved : goal.loop-i-preserved
-loop-i-preserved c = (
-  c.loop-i.invariant.0,
-  summed_turn c.loop-i.invariant.0 c.loop-i.invariant.1 (omega arith),
-)
+loop-i-preserved c =
+    summed_turn (omega (arith, length-set c.args.sums.now 0 0)) c.loop-i.invariant c.loop-i-test.true
 
 pub returns : goal.returns
-returns c = summed_end c.args.sums.now c.requires.weights_in_bounds c.loop-i.invariant.1 (omega arith)
+returns c = summed_end c.args.sums.now c.requires.weights_in_bounds c.loop-i.invariant c.loop-i-test.false

@@ -1,10 +1,6 @@
-use Prim.Native.Nat.{◌-◌}
-use lib.ListN.{length}
+use Prim.Native.Nat.{◌+◌}
 use Rattle.parts.proofs.Slowest.{Fewest}
 use Rattle.parts.proofs.slowest_of.Given as goal
 
-abbrev pub invariant-loop-i : goal.invariant-loop-i
-invariant-loop-i l = Fewest l.speeds l.i l.least
-
-abbrev pub decreases-loop-i : goal.decreases-loop-i
-decreases-loop-i l = length l.speeds - l.i
+abbrev pub invariant-loop-speed : goal.invariant-loop-speed
+invariant-loop-speed l = Fewest l.speeds (l.speed-index + 1) l.least

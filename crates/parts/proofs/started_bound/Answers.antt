@@ -18,6 +18,6 @@ pub returns : goal.returns
 unfolding weight_between
 returns c =
     record {
-      value = ap₂ over (c.wide.ensures ∙ ap (λ (n : ℕ). c.args.startup + n) c.part_weight.ensures) c.wide-2.ensures;
-      narrow = record { load_fits = omega (arith, c.wide.ensures, c.part_weight.ensures, c.requires.loadable.fits); speed_fits = omega (arith, c.wide-2.ensures) };
+      value = ap₂ over (c.from.ensures ∙ ap (λ (n : ℕ). c.args.startup + n) c.part_weight.ensures) c.from-2.ensures;
+      narrow = record { load_fits = omega (arith, c.from.ensures, c.part_weight.ensures, c.requires.loadable.fits); speed_fits = omega (arith, c.from-2.ensures) };
     }

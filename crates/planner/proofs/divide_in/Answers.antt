@@ -1,45 +1,35 @@
 -- `divide_in` meets its contract: prefix sums, the method, the closing walk.
-use native.Mathlib.Omega.{arith}
-use Rattle.chain.specs.Job.{Job, job_of}
-use Rattle.chain.specs.Plan.{plan_of}
-use Rattle.chain.proofs.Demand.{plan_of_best}
-use Rattle.parts.proofs.Front.{kept_is, kept_trans}
-use Rattle.parts.proofs.Laws.{sums_ready, weights_fit}
-use Rattle.planner.proofs.Laws.{summed_kept, room_same, walk_is_plan, tested_plannable}
+use Rattle.chain.proofs.Demand.{plan_of_best, method_unique}
+use Rattle.parts.specs.Lent.{the}
+use Rattle.parts.proofs.Front.{kept_trans}
+use Rattle.parts.proofs.Laws.{weights_fit}
+use Rattle.parts.proofs.Lines.{sums_prefix}
+use Rattle.planner.proofs.Laws.{summed_kept, walk_is_plan, tested_plannable}
 use Rattle.planner.proofs.divide_in.Goals as goal
 
-pub prefix_sums-requires : goal.prefix_sums-requires
-prefix_sums-requires c =
-    record {
-      weights_bound = weights_fit c.requires.tested.valid;
-      weights_in_bounds = c.requires.job_in_bounds.1.sums;
-    }
+pub prefix_sums-requires-clause-weights_bound : goal.prefix_sums-requires-clause-weights_bound
+prefix_sums-requires-clause-weights_bound c = weights_fit c.args.job.valid
 
-pub run_method-ended-requires : goal.run_method-ended-requires
-run_method-ended-requires c =
-    let job : Job = job_of c.args.startup c.args.speeds.now c.args.holds.now c.args.weights.now in
-    let room = c.requires.job_in_bounds.1 in
-    record {
-      ready = (sums_ready {job = job} _ c.requires.tested.valid c.prefix_sums.ensures, c.requires.tested);
-      job_in_bounds = (c.requires.job_in_bounds.0, room_same room (summed_kept job c.args.scratch.now c.prefix_sums.ensures room.sums).same);
-    }
+pub run_method-ended-requires-clause-sums : goal.run_method-ended-requires-clause-sums
+run_method-ended-requires-clause-sums c = sums_prefix _ c.prefix_sums.ensures
 
-pub close_walk-measured-requires : goal.close_walk-measured-requires
-close_walk-measured-requires c =
-    record {
-      ready = c.run_method-ended.ensures.ready_2;
-      job_in_bounds = omega (arith, c.requires.job_in_bounds.0, c.run_method-ended.ensures.kept_from.same);
-      bound_value = (walk_is_plan c.requires.tested c.run_method-ended.result.count c.run_method-ended.result.bound c.run_method-ended.ensures.method_ends, (plan_of_best (tested_plannable c.requires.tested)).partition);
-      lendable = c.run_method-ended.ensures.lendable;
-      closed = c.run_method-ended.ensures.closed;
-    }
+pub close_walk-requires-clause-plan_walk : goal.close_walk-requires-clause-plan_walk
+close_walk-requires-clause-plan_walk c =
+    let ended = c.run_method-ended.result in
+    rw (c.new.ensures.0) (walk_is_plan c.requires.tested ended.count ended.bound c.run_method-ended.ensures.method_ends)
 
-pub returns : goal.returns
-returns c =
-    let job : Job = job_of c.args.startup c.args.speeds.now c.args.holds.now c.args.weights.now in
-    record {
-      method_ends = (c.run_method-ended.ensures.method_ends, c.close_walk-measured.ensures.value);
-      separators_after = kept_is (plan_of job) c.run_method-ended.ensures.kept_from c.close_walk-measured.ensures.separators_after;
-      kept_from = kept_trans (summed_kept job c.args.scratch.now c.prefix_sums.ensures c.requires.job_in_bounds.1.sums) c.run_method-ended.ensures.kept_from_2;
-      ready = c.run_method-ended.ensures.ready_2;
-    }
+pub close_walk-requires-clause-partition : goal.close_walk-requires-clause-partition
+close_walk-requires-clause-partition c =
+    rw (c.new.ensures.0) (plan_of_best (tested_plannable c.requires.tested)).partition
+
+pub returns-clause-count : goal.returns-clause-count
+returns-clause-count c =
+    let ended = c.run_method-ended.result in
+    let can = tested_plannable c.requires.tested in
+    method_unique can c.args.method c.requires.tested.taken ended.count ended.bound
+    c.run_method-ended.ensures.method_ends
+
+pub returns-clause-scratch_kept : goal.returns-clause-scratch_kept
+returns-clause-scratch_kept c =
+    kept_trans (summed_kept (the c.args.job) c.args.scratch.now c.prefix_sums.ensures c.requires.scratch_room.sums)
+    c.run_method-ended.ensures.scratch_kept

@@ -1,74 +1,58 @@
 -- `run_method` meets its contract, method by method.
 use Prim.Native.Nat.{suc}
-use lib.ListN.{length}
-use Rattle.chain.specs.Job.{Job, job_of}
+use mathlib.Core.Bool.{not}
+use mathlib.Core.Path.{◌≡◌, sym, ap, subst}
+use mathlib.Core.List.{◌++◌}
+use lib.Dec.{T}
+use lib.ListN.{length, drop}
+use Rattle.chain.specs.Job.{Job, processors, held}
 use Rattle.chain.specs.Probe.{walk}
+use Rattle.chain.specs.Plan.{BiddingEnds, BisectionEnds, NicolEnds}
 use Rattle.chain.proofs.Ranges.{small_lendable}
-use Rattle.refusals.specs.Inputs.{scratch_needed}
+use Rattle.parts.specs.Lent.{the}
 use Rattle.parts.proofs.Front.{kept_start, kept_written}
 use Rattle.probe.proofs.Answer.{walk_count}
-use Rattle.dynamic.proofs.Laws.{tabled_ready, tabled_small}
-use Rattle.planner.proofs.Laws.{ends_table, ends-bidding, ends_bisection, ends_nicol, open_ended, ended_lendable, tabled_kept, taken_free}
+use Rattle.dynamic.proofs.Laws.{tabled_small}
+use Rattle.planner.proofs.Laws.{ends_bisection, ends_nicol, ended_lendable, taken_free}
 use Rattle.planner.proofs.run_method.Goals as goal
 
-pub table_in-requires : goal.table_in-requires
-table_in-requires c =
-    record { ready = c.requires.ready.0; job_in_bounds = c.requires.job_in_bounds.1.rows c.in-Table.is }
+pub nicol_in-requires-clause-free : goal.nicol_in-requires-clause-free
+nicol_in-requires-clause-free c =
+    subst (λ (g : Job). T (not (held g))) (sym (ap the c.new-in-Nicol.ensures.0))
+    (taken_free c.in-Nicol.is c.requires.tested)
 
-pub nicol_in-requires : goal.nicol_in-requires
-nicol_in-requires c =
-    record {
-      ready_free = record { ready = c.requires.ready.0; free = taken_free c.in-Nicol.is c.requires.ready.1 };
-      job_in_bounds = c.requires.job_in_bounds.0;
-    }
+pub returns-in-Table-clause-lendable : goal.returns-in-Table-clause-lendable
+returns-in-Table-clause-lendable c =
+    rw c.open.ensures.0 (small_lendable (tabled_small c.table_in.ensures c.args.job.valid
+    c.requires.tested.enough-holds))
 
-pub returns-in-Table : goal.returns-in-Table
-returns-in-Table c =
-    let job : Job = job_of c.args.startup c.args.speeds.now c.args.holds.now c.args.weights.now in
-    let o = open_ended c.args.method c.open.ensures (ends_table c.in-Table.is c.table_in.ensures) (small_lendable (tabled_small c.table_in.ensures c.requires.ready.0.valid c.requires.ready.1.enough-holds)) in
-    record {
-      method_ends = o.0;
-      lendable = o.1;
-      kept_from = kept_start (suc (length c.args.speeds.now)) c.args.separators.now;
-      ready_2 = tabled_ready c.table_in.ensures c.requires.ready.0;
-      kept_from_2 = tabled_kept c.table_in.ensures;
-      closed = o.2;
-    }
+pub returns-in-Bidding-clause-lendable : goal.returns-in-Bidding-clause-lendable
+returns-in-Bidding-clause-lendable c =
+    let found = c.bidding_in.result in
+    let ends = subst (λ (g : Job). BiddingEnds g found.count found.bound) (ap the c.new.ensures.0)
+    c.bidding_in.ensures.bidding_ends in
+    rw c.open-in-Bidding.ensures.0 (ended_lendable c.args.job.valid c.requires.tested.enough-holds ends)
 
-pub returns-in-Bidding : goal.returns-in-Bidding
-returns-in-Bidding c =
-    let job : Job = job_of c.args.startup c.args.speeds.now c.args.holds.now c.args.weights.now in
-    let v = c.requires.ready.0.valid in
-    let b = kept_start (suc (length c.args.speeds.now)) c.args.separators.now in
-    let o = open_ended c.args.method c.open-in-Bidding.ensures (ends-bidding c.in-Bidding.is c.bidding_in.ensures.bidding_ends) (ended_lendable v c.requires.ready.1.enough-holds c.bidding_in.ensures.bidding_ends) in
-    record {
-      method_ends = o.0;
-      lendable = o.1;
-      kept_from = kept_written (walk job c.bidding_in.result.bound) _ b c.requires.job_in_bounds.0 (walk_count v c.bidding_in.result.bound) c.bidding_in.ensures.separators_after;
-      ready_2 = c.requires.ready.0;
-      kept_from_2 = kept_start (scratch_needed job) c.args.scratch.now;
-      closed = o.2;
-    }
+pub returns-in-Bidding-clause-separators_kept : goal.returns-in-Bidding-clause-separators_kept
+returns-in-Bidding-clause-separators_kept c =
+    let bound = c.bidding_in.result.bound in
+    let start = kept_start (suc (length c.args.job.speeds.now)) c.args.separators.now in
+    let count = walk_count c.args.job.valid bound in
+    let written =
+    subst (λ (g : Job). c.bidding_in.new.separators ≡ walk g bound ++ drop (suc (processors g)) c.args.separators.now)
+    (ap the c.new.ensures.0) c.bidding_in.ensures.separators in
+    kept_written (walk (the c.args.job) bound) _ start c.requires.separators_room count written
 
-pub returns-in-Bisection : goal.returns-in-Bisection
-returns-in-Bisection c =
-    record {
-      method_ends = ends_bisection c.in-Bisection.is c.bisection_ended.ensures.bisection_ends;
-      lendable = c.bisection_ended.ensures.lendable;
-      kept_from = c.bisection_ended.ensures.kept_from;
-      ready_2 = c.requires.ready.0;
-      kept_from_2 = kept_start (scratch_needed (job_of c.args.startup c.args.speeds.now c.args.holds.now c.args.weights.now)) c.args.scratch.now;
-      closed = c.bisection_ended.ensures.closed;
-    }
+pub returns-in-Bisection-clause-method_ends : goal.returns-in-Bisection-clause-method_ends
+returns-in-Bisection-clause-method_ends c =
+    let ended = c.bisection_ended.result in
+    ends_bisection c.in-Bisection.is
+    (subst (λ (g : Job). BisectionEnds g ended.count ended.bound) (ap the c.new-in-Bisection.ensures.0)
+    c.bisection_ended.ensures.bisection_ends)
 
-pub returns-in-Nicol : goal.returns-in-Nicol
-returns-in-Nicol c =
-    let o = open_ended c.args.method c.open-in-Nicol.ensures (ends_nicol c.in-Nicol.is c.nicol_in.ensures.nicol_ends) c.nicol_in.ensures.lendable in
-    record {
-      method_ends = o.0;
-      lendable = o.1;
-      kept_from = c.nicol_in.ensures.kept_from;
-      ready_2 = c.requires.ready.0;
-      kept_from_2 = kept_start (scratch_needed (job_of c.args.startup c.args.speeds.now c.args.holds.now c.args.weights.now)) c.args.scratch.now;
-      closed = o.2;
-    }
+pub returns-in-Nicol-clause-method_ends : goal.returns-in-Nicol-clause-method_ends
+returns-in-Nicol-clause-method_ends c =
+    let found = c.nicol_in.result in
+    rw (c.open-in-Nicol.ensures.0, c.open-in-Nicol.ensures.1)
+    (ends_nicol c.in-Nicol.is (subst (λ (g : Job). NicolEnds g found.count found.bound)
+    (ap the c.new-in-Nicol.ensures.0) c.nicol_in.ensures.nicol_ends))

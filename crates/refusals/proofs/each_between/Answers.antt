@@ -4,15 +4,15 @@ use native.Mathlib.Omega.{arith}
 use Rattle.refusals.proofs.Each.{each_next, each_end}
 use Rattle.refusals.proofs.each_between.Goals as goal
 
-pub loop-i-init : goal.loop-i-init
-loop-i-init c = (omega arith, refl)
+pub loop-value-init : goal.loop-value-init
+loop-value-init c = refl
 
-pub loop-i-preserved : goal.loop-i-preserved
-loop-i-preserved c =
+pub loop-value-preserved : goal.loop-value-preserved
+loop-value-preserved c =
     let a = c.args in
-    (omega arith, each_next a.lo a.hi a.values.now c.loop-i.i (omega arith) c.loop-i.all c.loop-i.invariant.1 c.and_between-all.ensures)
+    each_next a.lo a.hi a.values.now c.loop-value.value-index (omega arith) c.loop-value.all c.loop-value.invariant c.and_between-all.ensures
 
 pub returns : goal.returns
 returns c =
     let a = c.args in
-    each_end a.lo a.hi a.values.now c.loop-i.i c.loop-i-test.false c.loop-i.all c.loop-i.invariant.1
+    each_end a.lo a.hi a.values.now c.loop-value.value-index (omega arith) c.loop-value.all c.loop-value.invariant

@@ -1,12 +1,6 @@
 -- `head_records` meets its contract, edition by edition.
-use native.Mathlib.Omega.{arith}
-use Rattle.refusals.proofs.Editions.{second_head, first_head}
+use Rattle.refusals.proofs.Editions.{head_is}
 use Rattle.refusals.proofs.head_records.Goals as goal
 
-pub returns-then-second : goal.returns-then-second
-returns-then-second c =
-    record { value = second_head c.args.startup c.if-second.true; upper_bound = omega arith }
-
-pub returns-else-second : goal.returns-else-second
-returns-else-second c =
-    record { value = first_head c.args.startup c.if-second.false; upper_bound = omega arith }
+pub returns-clause-value : goal.returns-clause-value
+returns-clause-value c = λ startup. head_is c.args.second startup c.from.ensures

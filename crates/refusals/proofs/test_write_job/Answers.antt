@@ -1,28 +1,50 @@
 -- `test_write_job` meets its contract: the job, then the buffer.
+use Prim.Native.Nat.{◌+◌, ◌*◌}
+use Rattle.std.proofs.Math.Nat.{add_assoc}
 use native.Mathlib.Omega.{arith}
 use Rattle.chain.specs.Limits.{max_processors, max_tasks}
-use Rattle.chain.specs.Job.{job_of, Valid}
-use Rattle.refusals.proofs.Accepted.{passed}
-use Rattle.refusals.proofs.Tests.{write_job_laws}
+use Rattle.chain.specs.Job.{tasks, processors}
+use Rattle.chain.specs.Numbers.{refused}
+use Rattle.parts.specs.Lent.{lent, lent_edition}
+use Rattle.refusals.specs.Inputs.{record_size}
+use Rattle.refusals.proofs.Tests.{write_job_tests, write_bytes_lem}
+use Rattle.refusals.proofs.Exits.{stopped, went, length_lent}
 use Rattle.refusals.proofs.test_write_job.Goals as goal
 
-pub returns-then-by_job-ne0 : goal.returns-then-by_job-ne0
-returns-then-by_job-ne0 c = search write_job_laws
-
--- What the tests of the job say of its counts.
-pub overflow_add-head : goal.overflow_add-head
-unfolding max_processors max_tasks
-overflow_add-head c =
+pub returns-in_err-job-clause-number : goal.returns-in_err-job-clause-number
+returns-in_err-job-clause-number c =
     let a = c.args in
-    let v : Valid (job_of a.startup a.speeds.now a.holds.now a.weights.now) = (passed c.test_all_lists-by_job.ensures c.if-by_job-ne0.false).valid in
-    omega (arith, v.tasks_limit, v.processors_limit, c.head_records-head.ensures.upper_bound)
+    stopped _ c.in_err-job.was c.from_residual.ensures.1 (write_job_tests (lent a.lists) (lent_edition a.lists) a.bytes c.test_all_lists.ensures.number)
 
-pub overflow_mul-head : goal.overflow_mul-head
+pub overflow_add-records : goal.overflow_add-records
 unfolding max_processors max_tasks
-overflow_mul-head c =
-    let a = c.args in
-    let v : Valid (job_of a.startup a.speeds.now a.holds.now a.weights.now) = (passed c.test_all_lists-by_job.ensures c.if-by_job-ne0.false).valid in
-    omega (arith, v.tasks_limit, v.processors_limit, c.head_records-head.ensures.upper_bound)
+overflow_add-records c =
+    let v = c.in_ok-job.job.valid in omega (arith, v.tasks_limit, v.processors_limit, c.head_records.ensures.upper_bound)
 
-pub returns : goal.returns
-returns c = search write_job_laws
+pub overflow_add-records-2 : goal.overflow_add-records-2
+unfolding max_processors max_tasks
+overflow_add-records-2 c =
+    let v = c.in_ok-job.job.valid in omega (arith, v.tasks_limit, v.processors_limit, c.head_records.ensures.upper_bound)
+
+pub overflow_mul-records : goal.overflow_mul-records
+unfolding max_processors max_tasks
+overflow_mul-records c =
+    let v = c.in_ok-job.job.valid in omega (arith, v.tasks_limit, v.processors_limit, c.head_records.ensures.upper_bound)
+
+pub returns-in_err-test_length-clause-number : goal.returns-in_err-test_length-clause-number
+returns-in_err-test_length-clause-number c =
+    let a = c.args in
+    let h = c.head_records.result in
+    stopped _ c.in_err-test_length.was c.from_residual-in_err-test_length.ensures.1
+    (λ _. write_bytes_lem (lent a.lists) (lent_edition a.lists) a.bytes c.test_all_lists.ensures.number (went c.in_ok-job.was)
+    (c.head_records.ensures.value a.lists.startup)
+    (length_lent c.in_ok-job.ensures.job (λ j. record_size * (h + (tasks j + processors j))) a.bytes (rw add_assoc at c.test_length.ensures)))
+
+pub returns-clause-number : goal.returns-clause-number
+unfolding refused
+returns-clause-number c =
+    let a = c.args in
+    let h = c.head_records.result in
+    write_bytes_lem (lent a.lists) (lent_edition a.lists) a.bytes c.test_all_lists.ensures.number (went c.in_ok-job.was)
+    (c.head_records.ensures.value a.lists.startup)
+    (length_lent c.in_ok-job.ensures.job (λ j. record_size * (h + (tasks j + processors j))) a.bytes (rw add_assoc at c.in_ok-test_length.ensures))

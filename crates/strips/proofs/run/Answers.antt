@@ -2,29 +2,23 @@
 use Rattle.std.proofs.Common.{arith}
 use Rattle.listing.specs.Listing.{intake}
 use Rattle.chain.specs.Limits.{max_processors, max_tasks}
-use Rattle.strips.proofs.Listed.{listed_all, taken_at_most}
+use Rattle.strips.proofs.Listed.{listed_ok, taken_at_most}
 use Rattle.strips.proofs.run.Goals as goal
 
-pub returns-in-Ok-clause-listed : goal.returns-in-Ok-clause-listed
+pub returns-in_err-bytes-clause-taken : goal.returns-in_err-bytes-clause-taken
 unfolding intake max_processors max_tasks
-returns-in-Ok-clause-listed g c =
-    let t = c.take_in-taken in
-    listed_all _ _ _ _ t.new.file t.result.bytes (omega arith) t.ensures.prefix.0 t.ensures.taken (t.ensures.all c.if-taken.false) c.in-Ok.ensures
+returns-in_err-bytes-clause-taken g c =
+    let t = c.take_in in taken_at_most _ _ t.new.file _ (omega arith) t.ensures.prefix.0 t.ensures.taken
 
-pub returns-then-taken-clause-taken : goal.returns-then-taken-clause-taken
+pub returns-clause-listed : goal.returns-clause-listed
 unfolding intake max_processors max_tasks
-returns-then-taken-clause-taken g c =
-    let t = c.take_in-taken in
-    taken_at_most _ _ t.new.file t.result.bytes (omega arith) t.ensures.prefix.0 t.ensures.taken
+returns-clause-listed g c =
+    let t = c.in_ok-bytes.ensures in
+    let file = c.take_in.new.file in
+    let same = c.map_err.ensures.variant in
+    listed_ok _ _ _ _ file c.in_ok-bytes.bytes _ _ same (omega arith) t.prefix.0 t.taken t.all c.answer.ensures
 
-pub returns-in-Ok-clause-taken : goal.returns-in-Ok-clause-taken
+pub returns-clause-taken : goal.returns-clause-taken
 unfolding intake max_processors max_tasks
-returns-in-Ok-clause-taken g c =
-    let t = c.take_in-taken in
-    taken_at_most _ _ t.new.file t.result.bytes (omega arith) t.ensures.prefix.0 t.ensures.taken
-
-pub returns-in-Err-clause-taken : goal.returns-in-Err-clause-taken
-unfolding intake max_processors max_tasks
-returns-in-Err-clause-taken g c =
-    let t = c.take_in-taken in
-    taken_at_most _ _ t.new.file t.result.bytes (omega arith) t.ensures.prefix.0 t.ensures.taken
+returns-clause-taken g c =
+    let t = c.take_in in taken_at_most _ _ t.new.file _ (omega arith) t.ensures.prefix.0 t.ensures.taken

@@ -4,7 +4,7 @@ use Rattle.bound.proofs.Order.{lesser_first, lesser_second}
 use Rattle.bound.proofs.Bound.lesser.Goals as goal
 
 pub returns-then-at_most : goal.returns-then-at_most
-returns-then-at_most c = lesser_first c.args.a c.args.b (sym c.at_most.ensures ∙ c.if-at_most.true)
+returns-then-at_most c = lesser_first c.args.self c.args.other (sym c.at_most.ensures ∙ c.if-at_most.true)
 
 pub returns-else-at_most : goal.returns-else-at_most
-returns-else-at_most c = lesser_second c.args.a c.args.b (sym c.at_most.ensures ∙ c.if-at_most.false)
+returns-else-at_most c = lesser_second c.args.self c.args.other (sym c.at_most.ensures ∙ c.if-at_most.false)
