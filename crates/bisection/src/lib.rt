@@ -140,8 +140,9 @@ fn bisect(line: &Line, next: Bound, separators: &mut [u32]) -> Ended
     }
 }
 
-// Inner. Bisection, of a line by reference, so that no call copies it to the stack: a trial at the ideal; if it fails, rounds between its next bid and a bound that fits. It leaves the
+// Inner. Bisection: a trial at the ideal; if it fails, rounds between its next bid and a bound that fits. It leaves the
 // walk of the last trial that fitted: where there is one that is the plan, and no walk at the bound found is needed.
+// The line comes by reference, so that no call copies it to the stack.
 pub fn bisection_ended(line: &Line, separators: &mut [u32]) -> Ended
     requires enough { T (enough (the line.now.job)) }
     requires room { processors (the line.now.job) < length separators.old }
