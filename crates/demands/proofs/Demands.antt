@@ -62,7 +62,7 @@ use Rattle.planner.proofs.Numbers.{plan_numbers, host_numbers, host_plan, host_k
 use Rattle.listing.specs.Answers.{list_tests, list_refusal}
 use Rattle.listing.proofs.Promises.{list_said, list_numbers, list_keeps}
 use Rattle.jobs.proofs.Taken.{Taken, read_taken, taken_job}
-use Rattle.refusals.proofs.Editions.{edition_effective}
+use Rattle.parts.proofs.Lines.{edition_effective}
 use Rattle.demands.specs.Call.{ByLists, edition_by, job_by, lists_in, Call, TestJob, ReadJob, WriteJob, Measure, Probe}
 use Rattle.demands.specs.Call.{Heuristic, Halving, Plan, WritePlan, Grade, ListJob, PlanJob, GradePlan, said, values}
 use Rattle.demands.specs.Call.{tests, numbers, records_order, file_order, free_order, order, lent, Leaves}

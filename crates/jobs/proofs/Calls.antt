@@ -19,7 +19,7 @@ use Rattle.refusals.specs.Answers.{said_by, written_said, lent_after}
 use Rattle.refusals.proofs.Tests.{length-enough, all-holds, write_bytes_lem}
 use Rattle.refusals.proofs.Answering.{Known, answer_said_lem, number_of_lem}
 use Rattle.refusals.proofs.Known.{KnownTests, tests_nil, tests_cons, tests_append, known_first, refusal_known}
-use Rattle.refusals.proofs.Editions.{edition_effective}
+use Rattle.parts.proofs.Lines.{edition_effective}
 use Rattle.refusals.proofs.Steps.{passes, passed-all}
 use Rattle.refusals.proofs.Lent.{lent_accepted}
 use Rattle.jobs.specs.JobFile.{job_bytes, ExactHolds}

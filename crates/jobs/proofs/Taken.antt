@@ -17,7 +17,7 @@ use Rattle.parts.specs.declared.job.ValidJob.{ValidJob}
 use Rattle.parts.specs.Lent.{the, edition}
 use Rattle.refusals.specs.Answers.{lent_after}
 use Rattle.refusals.proofs.Lent.{lent_accepted}
-use Rattle.refusals.proofs.Editions.{edition_effective}
+use Rattle.parts.proofs.Lines.{edition_effective}
 use Rattle.jobs.specs.declared.JobRead.{JobRead}
 use Rattle.jobs.specs.Parse.{value_at, second_in, edition_in, startup_in, speeds_of, holds_of, weights_of, job_in, file_tests, file_refusal}
 use Rattle.jobs.specs.Answers.{read_in, read_tests, read_refusal, read_answer, read_speeds, read_holds, read_weights}

@@ -1,7 +1,7 @@
 -- Prefix sums, over which the walk, the heuristic, the table and measuring work.
-use Rattle.std.specs.Prelude.{ℕ, suc, ◌+◌, ◌-◌, ◌≤◌, ◌<◌, ◌^◌, ◌≡◌, not, cond, List, T, ltb, length, get_or, take}
+use Rattle.std.specs.Prelude.{ℕ, suc, ◌+◌, ◌-◌, ◌≤◌, ◌<◌, ◌^◌, ◌≡◌, cond, List, ltb, length, get_or, take}
 use Rattle.chain.specs.Lists.{sum, tabulate}
-use Rattle.chain.specs.Job.{Job, Valid, tasks, held, enough, part_weight}
+use Rattle.chain.specs.Job.{Job, Valid, tasks, part_weight}
 use Rattle.parts.specs.Rising.{Rising}
 
 -- The prefix sums of the weights: W(1,0), W(1,1), .. W(1,N).
@@ -26,17 +26,7 @@ pub record Prefix (job : Job) (xs : List ℕ) : Type 0 where
   pub enough : tasks job < length xs
   pub sums : (i : ℕ) → i ≤ tasks job → get_or xs i 0 ≡ part_weight job 0 i
 
--- What inner functions ask: a job within the limits, and its prefix sums.
+-- What a line has: a job within the limits, and its prefix sums.
 pub record Ready (job : Job) (xs : List ℕ) : Type 0 where
   pub valid : Valid job
   pub prefix : Prefix job xs
-
--- What those ask that divide the job: its holds are enough;
-pub record ReadyKept (job : Job) (xs : List ℕ) : Type 0 where
-  pub ready : Ready job xs
-  pub enough-holds : T (enough job)
-
--- and those that take no job with holds.
-pub record ReadyFree (job : Job) (xs : List ℕ) : Type 0 where
-  pub ready : Ready job xs
-  pub free : T (not (held job))

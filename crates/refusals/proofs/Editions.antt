@@ -1,7 +1,7 @@
 -- The two editions, as the calls take them: a yes or no, and the start-up work beside it.
 -- Assumes nothing.
 use Prim.Native.Nat.{ℕ}
-use mathlib.Core.Path.{◌≡◌, refl, sym, ap}
+use mathlib.Core.Path.{◌≡◌, sym, ap}
 use mathlib.Core.Bool.{Bool, true, false}
 use mir.Val.{bool_byte}
 use Rattle.chain.specs.Job.{startup_of, edition_of, effective}
@@ -20,9 +20,3 @@ pub head_is : (b : Bool) (c : ℕ) {n : ℕ} → n ≡ bool_byte b → n ≡ hea
 unfolding edition_of head_records
 head_is true c e = e
 head_is false c e = e
-
--- The edition with what counts is the edition.
-pub edition_effective : (b : Bool) (c : ℕ) → edition_of b (effective b c) ≡ edition_of b c
-unfolding edition_of startup_of
-edition_effective true c = refl
-edition_effective false c = refl

@@ -16,7 +16,7 @@ use Rattle.parts.specs.Lent.{the, edition, lent, lent_edition, IsLent}
 use Rattle.refusals.specs.Inputs.{list_inputs}
 use Rattle.refusals.proofs.Accepted.{Accepted, accepted}
 use Rattle.refusals.proofs.Answering.{passed_on}
-use Rattle.refusals.proofs.Editions.{edition_effective}
+use Rattle.parts.proofs.Lines.{edition_effective}
 
 -- At the exit of a `?` the refusal is that of the test before it, which decides;
 pub stopped : {A B : Type 0} {n : ℕ} {r : Result A Refusal} {e : Refusal} (q : Result B Refusal) → r ≡ Err e → IsErrAnd q (λ y. y ≡ e)
