@@ -378,7 +378,7 @@ uint32_t pelshaqu_halve_row(bool second, uint32_t startup, const uint32_t *speed
  * the ideal, rounded up.
  *
  * Refusals, in this order: 1, 16, 5, 6, 7, 8, 9 (fewer than P holds, P + 1 separators or 5 * (N + 1) work numbers), 17, and 18 by method 4.
- * Takes at most 2.2 KB of stack.
+ * Takes at most 2.1 KB of stack.
  */
 uint32_t pelshaqu_plan(uint32_t method, bool second, uint32_t startup, const uint32_t *speeds, size_t speeds_len, const uint16_t *holds,
                        size_t holds_len, const uint32_t *weights, size_t weights_len, uint32_t *separators, size_t separators_len,

@@ -30,9 +30,9 @@ pub struct Ended {
 // The ends after a round and, where a trial has fitted, the bottleneck of the last that did: it is the high end, and
 // its walk stands in the list.
 #[derive(Clone, Copy)]
-struct Round {
-    ends: Ends,
-    fitted: Option<Bound>,
+pub struct Round {
+    pub ends: Ends,
+    pub fitted: Option<Bound>,
 }
 
 // Inner. One round of bisection: a trial at half the sum of the ends, in a list of its own. A fit brings the high end
@@ -119,24 +119,31 @@ fn bisect(line: &Line, next: Bound, separators: &mut [u32]) -> Ended
     let mut trial = [0u32; MAX_PROCESSORS + 1];
     copy_front(separators, count, &mut failed);
     copy_front(separators, count, &mut trial);
-    let high = first_high(*line, separators);
-    let mut round = Round {
-        ends: Ends { low: next, high },
-        fitted: None,
-    };
+    let mut low = next;
+    let mut high = first_high(*line, separators);
+    let mut fitted = None;
     let mut rounds = 0u32;
     let bound = loop {
-        let Ends { low, high } = round.ends;
         if high.at_most(low) {
             break low;
         }
-        round = next_round(line, round, &mut failed, &mut trial, separators);
+        let ends = Ends { low, high };
+        let round = next_round(
+            line,
+            Round { ends, fitted },
+            &mut failed,
+            &mut trial,
+            separators,
+        );
+        low = round.ends.low;
+        high = round.ends.high;
+        fitted = round.fitted;
         rounds += 1;
     };
     Ended {
         bound,
         count: rounds + 1,
-        measured: round.fitted,
+        measured: fitted,
     }
 }
 

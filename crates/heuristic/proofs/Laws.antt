@@ -17,6 +17,7 @@ use Rattle.chain.specs.Job.{Job, Valid, tasks, processors, last, speed_of, total
 use Rattle.chain.specs.Heuristic.{nearest, heuristic}
 use Rattle.chain.proofs.Parts.{Proper, valid_proper, weight_all}
 use Rattle.chain.proofs.Indices.{table_of}
+use Rattle.chain.proofs.Ideal.{total_speed_is}
 use Rattle.chain.proofs.Heuristic.{nearest-le, nearest_first, nearest_grows, heuristic-at, heuristic_end, heuristic_count}
 use Rattle.chain.proofs.Ranges.{speeds_to_limit, index_fits, total_speed_positive, total_speed_fits, heuristic_products}
 use Rattle.parts.specs.Prefix.{Prefix, Ready}
@@ -46,6 +47,11 @@ unfolding sum_to
 speed_turn {job} {p} {total} {e} w h x =
     subst (λ (k : ℕ). SpeedTo job k (total + e)) (sym (add-one p))
     (record { to = h; total_is = ap₂ ◌+◌ w.total_is (x ∙ speed_read job p h) })
+
+-- Summed up over all processors it is the speed of all.
+pub speed_end : {job : Job} {p total : ℕ} → SpeedTo job p total → processors job ≤ p → total ≡ total_speed job
+speed_end {job} {p} w h =
+    w.total_is ∙ ap (sum_to (speed_of job)) (let e : p ≡ processors job = omega (arith, w.to) in e) ∙ sym (total_speed_is job)
 
 -- Every entry from a to i is less than the limit.
 record Passed (xs : List ℕ) (a b limit i : ℕ) : Type 0 where

@@ -10,13 +10,14 @@ use lib.Seq.{get_or-take}
 use Rattle.std.specs.Prelude.{Result, Ok, Err, IsErrAnd}
 use Rattle.chain.specs.declared.Refusal.{Refusal}
 use Rattle.chain.specs.Numbers.{refused}
-use Rattle.chain.specs.Job.{Edition, First, Second, edition_of, Job, job_of, tasks, processors, hold_of}
+use Rattle.chain.specs.Job.{Edition, First, Second, startup_of, edition_of, effective, Job, job_of, tasks, processors, hold_of}
 use Rattle.chain.specs.Refusal.{refusal}
 use Rattle.fields.proofs.Stores.{put_next}
 use Rattle.refusals.specs.Inputs.{head_records, bytes_needed, write_inputs}
 use Rattle.parts.specs.declared.job.JobLists.{JobLists}
 use Rattle.parts.specs.declared.job.ValidJob.{ValidJob}
 use Rattle.parts.specs.Lent.{the, edition, lent, lent_edition, IsLent}
+use Rattle.parts.proofs.Lines.{edition_effective}
 use Rattle.refusals.proofs.Accepted.{Accepted}
 use Rattle.refusals.proofs.Exits.{the_lent, edition_lent, tested}
 use Rattle.refusals.proofs.Answering.{wrote_refused, wrote_all}
@@ -147,3 +148,30 @@ module _ {lists : JobLists} {job : ValidJob} (is : IsLent lists job) where
   write_lent file now r w =
       subst (λ (d : Edition). Writes d (lent lists) file r now) (edition_lent is)
       (subst (λ (j : Job). Writes (edition job) j file r now) (the_lent is) w)
+
+-- Lists with the start-up work that counts in place of what was given: they are tested alike, and their job is the same.
+effective_twice : (b : Bool) (c : ℕ) → effective b (effective b c) ≡ effective b c
+unfolding edition_of startup_of
+effective_twice true c = refl
+effective_twice false c = refl
+
+module _ (lists : JobLists) {s : ℕ} (counts : s ≡ effective lists.second lists.startup) where
+  abbrev by_startup : ℕ → Job
+  by_startup c = job_of c lists.speeds.now lists.holds.now lists.weights.now
+
+  pub counted_number : (n : ℕ) {k : ℕ} → k ≡ refusal (by_startup s) (write_inputs (edition_of lists.second s) (by_startup s) n)
+      → k ≡ refusal (lent lists) (write_inputs (lent_edition lists) (lent lists) n)
+  counted_number n e =
+      e ∙ ap (λ (c : ℕ). refusal (by_startup c) (write_inputs (edition_of lists.second c) (by_startup c) n)) counts
+      ∙ ap (λ (d : Edition). refusal (lent lists) (write_inputs d (lent lists) n)) (edition_effective lists.second lists.startup)
+
+  pub counted_lent : {job : ValidJob}
+      → IsLent (record { second = lists.second; startup = s; speeds = lists.speeds; holds = lists.holds; weights = lists.weights }) job → IsLent lists job
+  counted_lent i =
+      record {
+        second = i.second;
+        startup = i.startup ∙ ap (effective lists.second) counts ∙ effective_twice lists.second lists.startup;
+        speeds = i.speeds;
+        holds = i.holds;
+        weights = i.weights;
+      }

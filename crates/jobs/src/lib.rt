@@ -2,7 +2,7 @@
 #![tactic(auto)]
 
 ghost use Rattle.std.specs.Prelude.{ℕ, ◌+◌, ◌*◌, ◌%◌, ◌<◌, ◌≤◌, ◌≡◌, ◌++◌, length, get_or, take, drop};
-ghost use Rattle.std.specs.Prelude.{slice_get, IfOk};
+ghost use Rattle.std.specs.Prelude.{slice_get, IfOk, T, not};
 ghost use Rattle.chain.specs.Job.{edition_of, job_of, Valid};
 ghost use Rattle.chain.specs.Numbers.{refused, answered};
 ghost use Rattle.chain.specs.Refusal.{first_refusal};
@@ -20,7 +20,7 @@ use chain::Refusal;
 use fields::{get_field, get_half, put_field, put_half};
 use parts::{JobLists, ValidJob};
 use refusals::{
-    MAX_SPEED, MAX_STARTUP, MAX_WEIGHT, RECORD, and_between, head_records, test_counts,
+    MAX_SPEED, MAX_STARTUP, MAX_WEIGHT, RECORD, and_between, effective, head_records, test_counts,
     test_length, test_write_job,
 };
 
@@ -110,16 +110,33 @@ fn put_record(kind: Kind, hold: u16, value: u32, i: usize, file: &mut [u8])
     put_field(value, at + VALUE_PLACE, file);
 }
 
-// Inner. A record for each value, from record `from` on, with its hold: 0 where there is none.
-fn put_records(kind: Kind, values: &[u32], holds: &[u16], from: usize, file: &mut [u8])
-    requires { record_size * (from + length values.now) ≤ length file.old }
+// Inner. The hold of value i: of each value, or of none, as HELD says, so that no turn of a loop asks for it.
+fn hold_in<const HELD: bool>(holds: &[u16], i: usize) -> u16
+    requires held { T HELD → i < length holds.now }
+    requires free { T (not HELD) → length holds.now ≡ 0 }
+    ensures { result ≡ get_or holds.now i 0 }
+{
+    if HELD { holds[i] } else { 0 }
+}
+
+// Inner. A record for each value, from record `from` on, with its hold: 0 where there is none. It is compiled for
+// values that have holds and for those that have none.
+fn put_records<const HELD: bool>(
+    kind: Kind,
+    values: &[u32],
+    holds: &[u16],
+    from: usize,
+    file: &mut [u8],
+)
+    requires room { record_size * (from + length values.now) ≤ length file.old }
+    requires held { T HELD → length values.now ≤ length holds.now }
+    requires free { T (not HELD) → length holds.now ≡ 0 }
     ensures { let bytes = records_bytes (kind_number kind) (λ p. get_or holds.now p 0) values.now in
         let end = record_size * (from + length values.now) in
         file.new ≡ take (record_size * from) file.old ++ bytes ++ drop end file.old }
 {
     for (i, value) in values.iter().enumerate() {
-        let hold = holds.get(i).copied().unwrap_or(0);
-        put_record(kind, hold, *value, from + i, file);
+        put_record(kind, hold_in::<HELD>(holds, i), *value, from + i, file);
     }
 }
 
@@ -140,11 +157,12 @@ pub fn write_job(lists: JobLists, file: &mut [u8]) -> Result<usize, Refusal>
     ensures answer { result ≡ write_answer (lent_edition lists.entry) (lent lists.entry) (length file.old) }
     ensures bytes { file.new ≡ write_bytes (lent_edition lists.entry) (lent lists.entry) file.old }
 {
-    let job = test_write_job(lists, file.len())?;
+    let startup = effective(lists.second, lists.startup);
+    let job = test_write_job(JobLists { startup, ..lists }, file.len())?;
     let head = head_records(job.second);
     put_head(job, file);
-    put_records(Kind::Processor, job.speeds, job.holds, head, file);
-    put_records(Kind::Task, job.weights, &[], head + job.speeds.len(), file);
+    put_records::<true>(Kind::Processor, job.speeds, job.holds, head, file);
+    put_records::<false>(Kind::Task, job.weights, &[], head + job.speeds.len(), file);
     Ok(RECORD * (head + job.weights.len() + job.speeds.len()))
 }
 

@@ -141,7 +141,8 @@ fn figures_of(method: Method, job: ValidJob, sums: &[u32], found: Found) -> Figu
     }
 }
 
-// Inner. Plans a job that has been tested.
+// Inner. Plans a job that has been tested. It is inlined, so that `plan` takes no stack for a call of it.
+#[inline(always)]
 pub fn plan_in(
     method: Method,
     job: ValidJob,

@@ -11,10 +11,10 @@ use lib.Dec.{leb, eqb}
 use lib.ListN.{length, get_or, take}
 use borrow.Author.Tests.{le-leb, lt-leb, eq-eqb, ne_eqb, not-true, not-false}
 use Rattle.bound.specs.declared.Bound.{Bound}
-use Rattle.chain.specs.Limits.{max_bound_load, max_bound_speed}
+use Rattle.chain.specs.Limits.{max_startup, max_bound_load, max_bound_speed}
 use Rattle.chain.specs.Lists.{power_of_two}
-use Rattle.chain.specs.Job.{Edition, Job, tasks, processors}
-use Rattle.chain.specs.Refusal.{Test, between, each_between, method_test, all_equal, row_test, length_test, holds_test, enough_test, free_test, bound_test, is_partition, partition_test, first_refusal, job_tests, nothing, separators_needed, measure_inputs, halving_inputs, call_tests, refusal}
+use Rattle.chain.specs.Job.{Edition, Job, job_of, tasks, processors}
+use Rattle.chain.specs.Refusal.{Test, between, each_between, method_test, all_equal, startup_test, row_test, length_test, holds_test, enough_test, free_test, bound_test, is_partition, partition_test, first_refusal, job_tests, nothing, separators_needed, measure_inputs, halving_inputs, call_tests, refusal}
 use Rattle.chain.proofs.Refusals.{numbered_nil, numbered_cons, first_decide, others_decide, job_numbered, call_numbered}
 use Rattle.refusals.specs.Inputs.{record_size, scratch_lists, scratch_needed, plan_needed, head_records, bytes_needed, list_inputs, probe_inputs, heuristic_inputs, plan_lists, free_by, method_inputs, plan_inputs, write_inputs, write_plan_inputs}
 use Rattle.refusals.proofs.Each.{between_low, between_high, between_in}
@@ -350,3 +350,15 @@ module _ (job : Job) where
       unfolding after length_test
       write_plan_division y g =
           by_after (others_decide (length_test (plan_needed job) lent ∷ []) (partition_test job s ∷ []) f (numbered_cons (omega arith) numbered_nil) y g)
+
+-- Writing a job file, whatever its edition: start-up work out of range gives 16, and none that is in range changes a test.
+module _ (edition : Edition) (es hs ws : List ℕ) (lent : ℕ) where
+  pub startup_far : {c : ℕ} → max_startup < c → 16 ≡ refusal (job_of c es hs ws) (write_inputs edition (job_of c es hs ws) lent)
+  unfolding refusal call_tests job_tests startup_test
+  startup_far {c} h = sym (fails 16 _ (lt-leb c max_startup h))
+
+  pub startup_within : {c d n : ℕ} → c ≤ max_startup → d ≤ c → n ≡ refusal (job_of d es hs ws) (write_inputs edition (job_of d es hs ws) lent)
+      → n ≡ refusal (job_of c es hs ws) (write_inputs edition (job_of c es hs ws) lent)
+  unfolding refusal call_tests job_tests startup_test holds_test
+  startup_within {c} {d} h k e =
+      e ∙ passes 16 _ (le-leb d max_startup (omega arith)) ∙ sym (passes 16 _ (le-leb c max_startup h))

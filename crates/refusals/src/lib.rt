@@ -5,7 +5,7 @@ ghost use Rattle.std.specs.Prelude.{ℕ, suc, ◌≤◌, ◌<◌, ◌≡◌, ◌
 ghost use Rattle.chain.specs.Limits.{max_processors, max_tasks};
 ghost use Rattle.chain.specs.Numbers.{number_of, refused};
 ghost use Rattle.chain.specs.Job as counts;
-ghost use Rattle.chain.specs.Job.{edition_of, processors, enough};
+ghost use Rattle.chain.specs.Job.{edition_of, job_of, processors, enough};
 ghost use Rattle.chain.specs.Refusal.{test, between, each_between, row_test, length_test, holds_test, enough_test};
 ghost use Rattle.chain.specs.Refusal.{free_test, bound_test, is_partition, partition_test};
 ghost use Rattle.chain.specs.Refusal.{first_refusal, job_tests, nothing, measure_inputs, halving_inputs, refusal};
@@ -333,12 +333,18 @@ pub fn head_records(second: bool) -> usize
     usize::from(second)
 }
 
-// Inner. The job to be written into so many bytes, or the refusal: 16, 5, 6, 7, 8 or 9, in this order.
+// Inner. The job to be written into so many bytes, or the refusal: 16, 5, 6, 7, 8 or 9, in this order. The start-up work
+// is tested as it is given, in the first edition too.
 pub fn test_write_job(lists: JobLists, bytes: usize) -> Result<ValidJob, Refusal>
-    ensures number { let job = lent lists.entry in
-        refused result ≡ refusal job (write_inputs (lent_edition lists.entry) job bytes) }
+    ensures number { let given = lists.entry in
+        let job = job_of given.startup given.speeds.now given.holds.now given.weights.now in
+        refused result ≡ refusal job (write_inputs (lent_edition given) job bytes) }
     ensures job { IfOk result (λ job. IsLent lists.entry job) }
 {
+    let given = lists.startup;
+    if MAX_STARTUP < given {
+        return Err(Refusal::StartupRange);
+    }
     let job = test_all_lists(lists)?;
     let records = head_records(lists.second) + job.weights.len() + job.speeds.len();
     test_length(RECORD * records, bytes)?;

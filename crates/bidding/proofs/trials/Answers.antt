@@ -63,7 +63,7 @@ slice_bounds-fill-start g c =
 
 pub overflow_add-result : goal.overflow_add-result
 overflow_add-result g c =
-    record { fits = bidden_fits c.loop-visited.failures c.args.line.job.valid c.requires.enough c.loop-visited.invariant.bidden }
+    record { fits = omega (arith, bidden_fits c.loop-visited.failures c.args.line.job.valid c.requires.enough c.loop-visited.invariant.bidden) }
 
 pub returns-in-Fits-clause-bidding_ends : goal.returns-in-Fits-clause-bidding_ends
 returns-in-Fits-clause-bidding_ends g c =

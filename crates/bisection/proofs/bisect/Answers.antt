@@ -69,6 +69,6 @@ returns c =
       lendable = small_lendable i.halved.low_small;
       kept_from = kept_trans c.first_high-high.ensures.kept_from i.kept;
       closed =
-          closed_by c.loop-failed.round.fitted i.fitted
+          closed_by c.loop-failed.fitted i.fitted
           (fit_plan (valid_plannable v enough) (halved_least v enough i.halved m) (true_le m));
     }

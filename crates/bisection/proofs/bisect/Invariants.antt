@@ -13,10 +13,10 @@ use Rattle.bisection.proofs.bisect.Given as goal
 
 abbrev pub invariant-loop-failed : goal.invariant-loop-failed
 invariant-loop-failed l = record {
-  halved : Halved (the l.line.job) l.round.ends.low l.round.ends.high l.rounds;
+  halved : Halved (the l.line.job) l.low l.high l.rounds;
   kept : KeptFrom (suc (processors (the l.line.job))) l.initial.separators l.separators;
   room : processors (the l.line.job) < length l.separators;
-  fitted : Fitted (the l.line.job) l.round.fitted l.round.ends.high l.separators;
+  fitted : Fitted (the l.line.job) l.fitted l.high l.separators;
   failed_length : length l.failed ≡ suc max_processors;
   trial_length : length l.trial ≡ suc max_processors;
 }

@@ -16,7 +16,7 @@ put_half-requires c = simp length-set (omega arith)
 
 pub put_field-requires : goal.put_field-requires
 put_field-requires c =
-    omega (arith, half_room c.args.file.now (8 * c.args.i) c.from.result c.args.hold c.requires c.put_half.ensures)
+    omega (arith, half_room c.args.file.now (8 * c.args.i) c.from.result _ c.requires c.put_half.ensures)
 
 -- The file after the stores, the hold and the field.
 pub returns : goal.returns

@@ -1,5 +1,5 @@
 -- `walked_in` meets its contract: where it fits what is written is the walk, where it fails the last processor's reach stands behind it.
-use Prim.Native.Nat.{◌≤◌}
+use Prim.Native.Nat.{◌^◌, ◌≤◌, ◌<◌}
 use mathlib.Core.Path.{refl, sym, ◌∙◌}
 use native.Mathlib.Omega.{arith}
 use lib.ListN.{get_or}
@@ -34,7 +34,8 @@ overflow_cast-separators c =
       | then-line w ↦ omega (arith, w.end-is, end_to _ _ _ c.args.bound w.part_end-end.ensures h)
       | else-line w ↦ omega (arith, w.end-is, end_to _ _ _ c.args.bound w.part_end-end-else-line.ensures h)
     ] in
-    record { fits = index_fits c.args.line.job.valid e }
+    let n : tasks (the c.args.line.job) < 2 ^ 32 = index_fits c.args.line.job.valid (omega arith) in
+    record { fits = omega (arith, e, n) }
 
 pub returns-after-line-clause-separators : goal.returns-after-line-clause-separators
 returns-after-line-clause-separators c =
