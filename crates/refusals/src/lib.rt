@@ -333,8 +333,8 @@ pub fn head_records(second: bool) -> usize
     usize::from(second)
 }
 
-// Inner. The job to be written into so many bytes, or the refusal: 16, 5, 6, 7, 8 or 9, in this order. The start-up work
-// is tested as it is given, in the first edition too.
+// Inner. The job to be written into so many bytes, or the refusal: 16, 5, 6, 7, 8 or 9, in this order. The start-up
+// work is tested as it is given, in the first edition too.
 pub fn test_write_job(lists: JobLists, bytes: usize) -> Result<ValidJob, Refusal>
     ensures number { let given = lists.entry in
         let job = job_of given.startup given.speeds.now given.holds.now given.weights.now in

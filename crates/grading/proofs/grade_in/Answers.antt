@@ -11,7 +11,7 @@ unfolding max_processors
 overflow_mul-job c = omega (arith, c.args.job.now.valid.processors_limit)
 
 pub returns-then-plan-job : goal.returns-then-plan-job
-returns-then-plan-job c = grade_length (the c.args.job.now) c.args.plan.now c.if-plan-job.true
+returns-then-plan-job c = grade_length (the c.args.job.now) c.args.plan.now (λ e. omega (arith, c.if-plan-job.true, e))
 
 pub take_separators-requires-clause-room : goal.take_separators-requires-clause-room
 unfolding max_processors

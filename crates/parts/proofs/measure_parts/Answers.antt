@@ -1,5 +1,6 @@
 -- `measure_parts` meets its contract: the loop keeps `Measured`.
 use mathlib.Core.Path.{◌∙◌}
+use native.Mathlib.Omega.{arith}
 use borrow.Author.Rules.{rules}
 use Rattle.parts.specs.Lent.{the}
 use Rattle.parts.proofs.Measure.{bottleneck-take, measured_start, measured_products, measured_turn, measured_end}
@@ -15,11 +16,11 @@ greater-greatest-requires c =
 
 pub loop-p-preserved : goal.loop-p-preserved
 loop-p-preserved c =
-    measured_turn c.args.line.job.valid c.args.separators.now c.loop-p.invariant c.loop-p-test.true c.bound_at.ensures
+    measured_turn c.args.line.job.valid c.args.separators.now c.loop-p.invariant (omega arith) c.bound_at.ensures
     c.greater-greatest.ensures
 
 pub returns : goal.returns
 returns c =
     let job = c.args.line.job in
-    let e = measured_end c.loop-p.invariant c.loop-p-test.false in
+    let e = measured_end c.loop-p.invariant (omega arith) in
     record { value = e; of_front = e ∙ bottleneck-take (the job) c.args.separators.now job.valid.some_processor }
